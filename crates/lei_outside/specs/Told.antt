@@ -31,3 +31,7 @@ abbrev pub Writes : {E : Type 0} → Option (List ℕ) → Option (List ℕ) →
 Writes old new result piece = MatchResult result
     (λ n. (0 < n) × (n ≤ length piece) × Grows old new (take n piece))
     (λ _. Grows old new [])
+
+-- A front of the piece was taken, and not all of it.
+abbrev pub TakesFront : Option (List ℕ) → Option (List ℕ) → List ℕ → Type 0
+TakesFront old new piece = (n : ℕ) × (n < length piece) × Grows old new (take n piece)

@@ -1,0 +1,90 @@
+// What can go wrong outside: a device fails, or memory runs out.
+ghost use Rattle.std.specs.Prelude.{◌≡◌};
+
+use std::alloc::{AllocError, AllocFailed};
+use std::error::Error;
+use std::fmt;
+
+/// Memory ran out.
+#[derive(Clone, Copy, Debug, PartialEq, Eq)]
+pub struct NoMemory;
+
+impl fmt::Display for NoMemory {
+    fn fmt<W: fmt::Write>(&self, f: &mut fmt::Formatter<W>) -> fmt::Result {
+        write!(f, "out of memory")
+    }
+}
+
+impl Error for NoMemory {}
+
+impl From<AllocError> for NoMemory {
+    fn from(_: AllocError) -> Self {
+        NoMemory
+    }
+}
+
+impl<T: Drop> From<AllocFailed<T>> for NoMemory {
+    fn from(_: AllocFailed<T>) -> Self {
+        NoMemory
+    }
+}
+
+/// A device failed. What it did is said at the call that answers this.
+#[derive(Clone, Copy, Debug, PartialEq, Eq)]
+pub struct Failed;
+
+impl fmt::Display for Failed {
+    fn fmt<W: fmt::Write>(&self, f: &mut fmt::Formatter<W>) -> fmt::Result {
+        write!(f, "the device failed")
+    }
+}
+
+impl Error for Failed {}
+
+/// Why a sink took nothing.
+#[derive(Clone, Copy, Debug, PartialEq, Eq)]
+pub enum SinkFault {
+    Failed,
+    NoMemory,
+}
+
+impl fmt::Display for SinkFault {
+    fn fmt<W: fmt::Write>(&self, f: &mut fmt::Formatter<W>) -> fmt::Result {
+        match self {
+            SinkFault::Failed => write!(f, "the device failed"),
+            SinkFault::NoMemory => write!(f, "out of memory"),
+        }
+    }
+}
+
+impl Error for SinkFault {}
+
+impl From<AllocError> for SinkFault {
+    ghost use Rattle.lei_outside.specs.declared.faults.SinkFault.TheVariants.{NoMemory as OutOfMemory};
+
+    ghost from_gives = { λ _ e. e ≡ OutOfMemory };
+
+    fn from(_: AllocError) -> Self {
+        SinkFault::NoMemory
+    }
+}
+
+impl<T: Drop> From<AllocFailed<T>> for SinkFault {
+    ghost use Rattle.lei_outside.specs.declared.faults.SinkFault.TheVariants.{NoMemory as OutOfMemory};
+
+    ghost from_gives = { λ _ e. e ≡ OutOfMemory };
+
+    fn from(_: AllocFailed<T>) -> Self {
+        SinkFault::NoMemory
+    }
+}
+
+impl From<NoMemory> for SinkFault {
+    ghost use Rattle.lei_outside.specs.declared.faults.SinkFault.TheVariants.{NoMemory as OutOfMemory};
+
+    ghost from_gives = { λ _ e. e ≡ OutOfMemory };
+
+    fn from(_: NoMemory) -> Self {
+        SinkFault::NoMemory
+    }
+}
