@@ -1,0 +1,84 @@
+-- What an upload's body says: a definition over the value that the JSON of its bytes has (RFC 8259).
+use Rattle.std.specs.Prelude.{◌≡◌, ℕ, List, [], ◌∷◌, length, codes, Bool, ◌==◌, nat_lt, if◌then◌else◌, Option, Some, None, option_map, option_and_then, Result, Ok, Err}
+use Rattle.std.specs.List.{list_all}
+use Rattle.std.specs.Str.{is_utf8, bytes_eq}
+use Rattle.serde_json.specs.Data.{Data, Items, no_items, item, Members, no_members, member}
+use Rattle.serde_json.specs.Find.{get_member, as_str, as_array, as_object}
+use Rattle.serde_json.specs.Read.{read}
+use Rattle.upload_format.specs.declared.fault.Malformed.{Malformed}
+use Rattle.upload_format.specs.declared.fault.Malformed.TheVariants.{NotJson, NotAnUpload, NoItems, TooManyItems}
+use Rattle.upload_format.specs.declared.fault.UploadFault.{UploadFault}
+use Rattle.upload_format.specs.declared.fault.UploadFault.TheVariants as faults
+use Rattle.upload_format.specs.declared.item.RawItem.{RawItem}
+use Rattle.upload_format.specs.declared.item.RawItem.TheVariants.{Record}
+use Rattle.upload_format.specs.declared.item.TheConstants.{MAX_ITEMS}
+
+-- The value of the bytes: they are UTF-8, and JSON. A name that an object repeats has its last value.
+unfoldable pub value_of : List ℕ → Option Data
+value_of body = if is_utf8 body then read body else None
+
+-- The members of an object as pairs of a name and a text. It has no reading where a value isn't a text.
+abbrev pub fields_of : Members → Option (List (List ℕ × List ℕ))
+fields_of no_members = Some []
+fields_of (member name value others) = option_and_then (λ text. option_map (λ fields. (name, text) ∷ fields) (fields_of others)) (as_str value)
+
+-- a record as it was sent: an object whose values are texts
+abbrev pub record_of : Data → Option RawItem
+record_of value = option_map Record (option_and_then fields_of (as_object value))
+
+abbrev pub records_of : Items → Option (List RawItem)
+records_of no_items = Some []
+records_of (item value others) = option_and_then (λ first. option_map (λ records. first ∷ records) (records_of others)) (record_of value)
+
+-- the member of this name, a list of records. An absent one has no item.
+abbrev pub listed : Option Data → Option (List RawItem)
+listed None = Some []
+listed (Some value) = option_and_then records_of (as_array value)
+
+abbrev pub member_names : Members → List (List ℕ)
+member_names no_members = []
+member_names (member name value others) = name ∷ member_names others
+
+-- the names that the members of an upload may have
+abbrev pub is_list_name : List ℕ → Bool
+is_list_name name = bytes_eq name (codes "records")
+
+-- The items that a value lists: it is an object that has no other member. It has no reading where it is no upload.
+abbrev pub items_of : Data → Option (List RawItem)
+items_of value = option_and_then (λ members. if list_all is_list_name (member_names members) then listed (get_member (codes "records") members) else None) (as_object value)
+
+-- from 1 to MAX_ITEMS items
+abbrev pub counted : List RawItem → Result (List RawItem) Malformed
+counted items = if length items == 0 then Err NoItems else (if nat_lt MAX_ITEMS (length items) then Err TooManyItems else Ok items)
+
+abbrev pub of_items : Option (List RawItem) → Result (List RawItem) Malformed
+of_items None = Err NotAnUpload
+of_items (Some items) = counted items
+
+abbrev pub of_value : Option Data → Result (List RawItem) Malformed
+of_value None = Err NotJson
+of_value (Some value) = of_items (items_of value)
+
+-- The items of a body, or the first of the four faults that it has.
+unfoldable pub upload : List ℕ → Result (List RawItem) Malformed
+upload body = of_value (value_of body)
+
+-- ---- what a reader answers: exactly the items or the fault, unless memory ran out
+
+abbrev pub Fails : {Y : Type 0} → UploadFault → Result Y Malformed → Type 0
+Fails faults.NoMemory read = Unit {0}
+Fails (faults.Malformed fault) read = read ≡ Err fault
+
+abbrev pub Gives : {X Y : Type 0} → (X → Y) → Result X UploadFault → Result Y Malformed → Type 0
+Gives view (Ok x) read = read ≡ Ok (view x)
+Gives view (Err fault) read = Fails fault read
+
+-- the value of JSON, and else that it is none
+abbrev pub parsed : {Y : Type 0} → Option Y → Result Y Malformed
+parsed None = Err NotJson
+parsed (Some y) = Ok y
+
+-- what an upload has there, and else that it is no upload
+abbrev pub found : {Y : Type 0} → Option Y → Result Y Malformed
+found None = Err NotAnUpload
+found (Some y) = Ok y

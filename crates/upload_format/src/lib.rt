@@ -1,0 +1,10 @@
+//! The body of an upload: a JSON object with a list of records, each an object whose values are texts.
+#![tactic(auto)]
+
+mod fault;
+mod item;
+mod reading;
+
+pub use fault::{Malformed, UploadFault};
+pub use item::{Fields, MAX_ITEMS, RawItem, Upload};
+pub use reading::read_upload;
