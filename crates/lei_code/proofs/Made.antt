@@ -1,0 +1,79 @@
+-- The check digits that are made for a text of 18 characters make it a code.
+use Rattle.std.proofs.Common.{◌≡◌, ℕ, ◌+◌, ◌-◌, ◌*◌, ◌/◌, ◌%◌, ◌<◌, ◌≤◌, List, [], ◌∷◌, ◌++◌, length, get_or, refl, ap, sym, ◌∙◌, arith, append_assoc, length-append}
+use Rattle.std.proofs.Math.ListN.{get_or-append}
+use Rattle.std.proofs.lemmas.List.{get_or-append_right}
+use Rattle.std.specs.Prelude.{codes}
+use Rattle.lei_code.specs.Number.{number}
+use Rattle.lei_code.specs.Code.{IsWellFormed, IsValid}
+use Rattle.lei_code.specs.Digits.{two_digits, digits}
+use Rattle.lei_code.proofs.Numbers.{number-digit}
+use Rattle.lei_code.proofs.Places.{IsWellFormedTo, may_stand-digit, well_formed_more}
+
+push-two : (text : List ℕ) (a b : ℕ) → text ++ a ∷ b ∷ [] ≡ (text ++ a ∷ []) ++ b ∷ []
+push-two text a b = sym (append_assoc text (a ∷ []) (b ∷ []))
+
+-- two digits more
+pub number-two : (text : List ℕ) (tens ones : ℕ) → tens ≤ 9 → ones ≤ 9 → number (text ++ (48 + tens) ∷ (48 + ones) ∷ []) ≡ 100 * number text + (10 * tens + ones)
+number-two text tens ones t o =
+    let first = number-digit text (48 + tens) (omega arith) (omega arith) in
+    let second = number-digit (text ++ (48 + tens) ∷ []) (48 + ones) (omega arith) (omega arith) in
+    rw (push-two text (48 + tens) (48 + ones)) (omega arith)
+
+-- the number with `00` behind it
+pub number-zeros : (text : List ℕ) → number (text ++ codes "00") ≡ 100 * number text
+number-zeros text = number-two text 0 0 (omega arith) (omega arith) ∙ omega arith
+
+number-two_digits : (text : List ℕ) (n : ℕ) → n < 100 → number (text ++ two_digits n) ≡ 100 * number text + n
+number-two_digits text n small = number-two text (n / 10) (n % 10) (omega arith) (omega arith) ∙ omega arith
+
+pub number-digits : (text : List ℕ) → number (text ++ digits text) ≡ 100 * number text + (98 - (100 * number text) % 97)
+unfolding digits
+number-digits text = rw (number-zeros text) (number-two_digits text (98 - (100 * number text) % 97) (omega arith))
+
+number-nil : number [] ≡ 0
+unfolding number
+number-nil = refl
+
+-- the digits as a number of their own
+pub number-own_digits : (text : List ℕ) → number (digits text) ≡ 98 - (100 * number text) % 97
+unfolding digits
+number-own_digits text =
+    rw (number-zeros text)
+    (let own = number-two_digits [] (98 - (100 * number text) % 97) (omega arith) in let none = number-nil in omega arith)
+
+pub at_least_2 : (text : List ℕ) → 2 ≤ number (digits text)
+at_least_2 text = let own = number-own_digits text in omega arith
+
+pub at_most_98 : (text : List ℕ) → number (digits text) ≤ 98
+at_most_98 text = let own = number-own_digits text in omega arith
+
+well_formed-push_two : (text : List ℕ) (tens ones : ℕ) → length text ≡ 18 → IsWellFormed text → tens ≤ 9 → ones ≤ 9 → IsWellFormed (text ++ (48 + tens) ∷ (48 + ones) ∷ [])
+well_formed-push_two text tens ones len all t o =
+    let whole : List ℕ = text ++ (48 + tens) ∷ (48 + ones) ∷ [] in
+    let front : IsWellFormedTo whole 18 = λ place low high.
+    let before : place - 1 < length text = omega arith in
+    rw (get_or-append text ((48 + tens) ∷ (48 + ones) ∷ []) 0 (place - 1) before) (all.each place low (omega arith)) in
+    let at_18 : get_or whole 18 0 ≡ 48 + tens = get_or-append_right text ((48 + tens) ∷ (48 + ones) ∷ []) 18 18 0 len (omega arith) in
+    let at_19 : get_or whole 19 0 ≡ 48 + ones = get_or-append_right text ((48 + tens) ∷ (48 + ones) ∷ []) 18 19 0 len (omega arith) in
+    let to_19 = well_formed_more whole 18 front (rw at_18 (may_stand-digit 19 (48 + tens) (omega arith) (omega arith))) in
+    let to_20 = well_formed_more whole 19 to_19 (rw at_19 (may_stand-digit 20 (48 + ones) (omega arith) (omega arith))) in
+    record { each = λ place low high. to_20 place low (omega (arith, length-append text ((48 + tens) ∷ (48 + ones) ∷ []))) }
+
+remainder-digits : (text : List ℕ) → number (text ++ digits text) % 97 ≡ 1
+remainder-digits text = let whole = number-digits text in omega arith
+
+-- a text of 18 good characters with its digits is a code
+pub IsValid-digits : (text : List ℕ) → length text ≡ 18 → IsWellFormed text → IsValid (text ++ digits text)
+unfolding digits
+IsValid-digits text len all =
+    let n : ℕ = 98 - number (text ++ codes "00") % 97 in
+    record {
+      len = simp length-append (omega arith);
+      characters = well_formed-push_two text (n / 10) (n % 10) len all (omega arith) (omega arith);
+      check = remainder-digits text;
+    }
+
+-- the digits from the remainder of the text alone
+pub digits-value : (text : List ℕ) (r : ℕ) → r ≡ number text % 97 → two_digits (98 - r * 100 % 97) ≡ digits text
+unfolding digits
+digits-value text r e = rw (number-zeros text) (ap (λ k. two_digits (98 - k)) (omega arith))

@@ -1,0 +1,32 @@
+-- How the number of a text grows by a character, and what that does to its remainder by 97.
+use Rattle.std.proofs.Common.{◌≡◌, ℕ, ◌+◌, ◌-◌, ◌*◌, ◌/◌, ◌%◌, ◌<◌, ◌≤◌, List, [], ◌∷◌, ◌++◌, length, get_or, take, fold, ◌∙◌, arith}
+use Rattle.std.proofs.lemmas.Bool.Decides.{nat_tests}
+use Rattle.std.proofs.lemmas.Grind.{flat_map-append, fold-append}
+use Rattle.std.proofs.lemmas.List.{take_more}
+use Rattle.lei_code.specs.Number.{spelled, number}
+
+spelled-digit : (c : ℕ) → 48 ≤ c → c ≤ 57 → spelled c ≡ (c - 48) ∷ []
+spelled-digit c low high = grind (arith, nat_tests)
+
+spelled-letter : (c : ℕ) → 65 ≤ c → c ≤ 90 → spelled c ≡ (c - 55) / 10 ∷ (c - 55) % 10 ∷ []
+spelled-letter c low high = grind (arith, nat_tests)
+
+-- a character more: its digits go on from the number so far
+number-push : (text : List ℕ) (c : ℕ) → number (text ++ c ∷ []) ≡ fold (λ n digit. 10 * n + digit) (number text) (spelled c ++ [])
+unfolding number
+number-push text c = simp (flat_map-append, fold-append)
+
+pub number-digit : (text : List ℕ) (c : ℕ) → 48 ≤ c → c ≤ 57 → number (text ++ c ∷ []) ≡ 10 * number text + (c - 48)
+number-digit text c low high = number-push text c ∙ rw spelled-digit
+
+pub number-letter : (text : List ℕ) (c : ℕ) → 65 ≤ c → c ≤ 90 → number (text ++ c ∷ []) ≡ 100 * number text + (c - 55)
+number-letter text c low high = number-push text c ∙ rw spelled-letter (omega arith)
+
+-- the remainder after one more character of a text
+pub next_digit : (text : List ℕ) (i : ℕ) → i < length text → 48 ≤ get_or text i 0 → get_or text i 0 ≤ 57 → number (take (i + 1) text) % 97 ≡ (number (take i text) % 97 * 10 + (get_or text i 0 - 48)) % 97
+next_digit text i within low high =
+    rw (take_more text i 0 within) (let e = number-digit (take i text) (get_or text i 0) low high in omega arith)
+
+pub next_letter : (text : List ℕ) (i : ℕ) → i < length text → 65 ≤ get_or text i 0 → get_or text i 0 ≤ 90 → number (take (i + 1) text) % 97 ≡ (number (take i text) % 97 * 100 + (get_or text i 0 - 65) + 10) % 97
+next_letter text i within low high =
+    rw (take_more text i 0 within) (let e = number-letter (take i text) (get_or text i 0) low high in omega arith)

@@ -1,0 +1,11 @@
+-- The check digits that are made for the first 18 characters of a code (ISO/IEC 7064 MOD 97-10).
+use Rattle.std.specs.Prelude.{ℕ, ◌+◌, ◌-◌, ◌/◌, ◌%◌, List, [], ◌∷◌, ◌++◌, codes}
+use Rattle.lei_code.specs.Number.{number}
+
+-- a number below 100 in two digits
+abbrev pub two_digits : ℕ → List ℕ
+two_digits n = (48 + n / 10) ∷ (48 + n % 10) ∷ []
+
+-- 98 less the remainder by 97 of the number of the text with `00` behind it
+unfoldable pub digits : List ℕ → List ℕ
+digits text = two_digits (98 - number (text ++ codes "00") % 97)

@@ -1,0 +1,4 @@
+pub mod Number
+pub mod Code
+pub mod Digits
+pub mod Fault

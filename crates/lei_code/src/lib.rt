@@ -1,0 +1,11 @@
+//! Legal Entity Identifiers: reading and judging a code, and making its check digits.
+#![tactic(auto)]
+
+pub mod code;
+pub mod digits;
+pub mod fault;
+mod remainder;
+
+pub use code::Lei;
+pub use digits::check_digits;
+pub use fault::LeiFault;
