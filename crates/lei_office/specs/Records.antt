@@ -1,0 +1,70 @@
+-- Whether an item that was sent is a record: its checks, each a sentence over its fields, and the record that it is.
+use Rattle.std.specs.Prelude.{◌≡◌, ℕ, ◌%◌, List, length, codes, Bool, not, ◌&&◌, ◌==◌, find, Option, Some, None, option_map, unwrap_or}
+use Rattle.std.specs.Option.{option_or}
+use Rattle.std.specs.List.{list_any}
+use Rattle.std.specs.Map.{lookup}
+use Rattle.std.specs.Str.{bytes_eq}
+use Rattle.lei_code.specs.Number.{number}
+use Rattle.upload_format.specs.Names.{names}
+use Rattle.upload_format.specs.declared.item.RawItem.{RawItem}
+use Rattle.upload_format.specs.declared.item.RawItem.TheVariants as items
+use Rattle.lei_office.specs.declared.check.Check.{Check}
+use Rattle.lei_office.specs.declared.check.Detail.TheVariants.{Field}
+use Rattle.lei_office.specs.declared.fields.Shape.{Shape}
+use Rattle.lei_office.specs.declared.record.Record.{Record}
+use Rattle.lei_office.specs.declared.record.Readied.{Readied}
+use Rattle.lei_office.specs.declared.record.Readied.TheVariants.{Good, Bad}
+use Rattle.lei_office.specs.Fields.{fields, fits, is_code_shape}
+
+-- the text that an item has under a name: the empty text where the field is absent
+abbrev pub text_of : List (List ℕ × List ℕ) → List ℕ → List ℕ
+text_of pairs name = unwrap_or (lookup (bytes_eq name) pairs) (codes "")
+
+abbrev pub is_field : List ℕ → Bool
+is_field name = list_any (λ field. bytes_eq field.0 name) fields
+
+-- ---- what a check asks
+
+-- a needed field is absent
+abbrev pub is_missing : List (List ℕ × List ℕ) → List ℕ × Shape → Bool
+is_missing pairs field = length (text_of pairs field.0) == 0
+
+-- a field that stands has another shape
+abbrev pub is_misshapen : List (List ℕ × List ℕ) → List ℕ × Shape → Bool
+is_misshapen pairs field = not (is_missing pairs field) && not (fits field.1 (text_of pairs field.0))
+
+-- a code's number leaves another remainder than 1 by 97
+abbrev pub has_wrong_digits : List (List ℕ × List ℕ) → List ℕ × Shape → Bool
+has_wrong_digits pairs field = is_code_shape field.1 && not (number (text_of pairs field.0) % 97 == 1)
+
+-- ---- the checks, each with the name that it finds
+
+-- C01: the first name that is no field's. Names rise in byte order, so it is the least.
+abbrev pub unknown_name : List (List ℕ × List ℕ) → Option (List ℕ)
+unknown_name pairs = find (λ name. not (is_field name)) (names pairs)
+
+-- C02, C03, C04: the first field by place of which the check's question is true
+abbrev pub first_field : (List ℕ × Shape → Bool) → Option (List ℕ)
+first_field asks = option_map (λ field. field.0) (find asks fields)
+
+abbrev pub field_check : ℕ → List ℕ → Check
+field_check code name = record { code = code; detail = Field name }
+
+-- the first of the checks, in order of their numbers, that fails
+unfoldable pub failed_check : List (List ℕ × List ℕ) → Option Check
+failed_check pairs = option_or (option_map (field_check 1) (unknown_name pairs))
+    (option_or (option_map (field_check 2) (first_field (is_missing pairs)))
+    (option_or (option_map (field_check 3) (first_field (is_misshapen pairs)))
+    (option_map (field_check 4) (first_field (has_wrong_digits pairs)))))
+
+-- the record that the texts spell
+abbrev pub record_of : List (List ℕ × List ℕ) → Record
+record_of pairs = record { lei = text_of pairs (codes "LEI"); name = text_of pairs (codes "Entity.LegalName") }
+
+abbrev pub readied : List (List ℕ × List ℕ) → Option Check → Readied
+readied pairs (Some check) = Bad check
+readied pairs None = Good (record_of pairs)
+
+-- the first failed check of an item, or else the record that it is
+abbrev pub ready : RawItem → Readied
+ready (items.Record pairs) = readied pairs (failed_check pairs)
