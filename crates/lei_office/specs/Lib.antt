@@ -1,2 +1,9 @@
 pub mod Fields
 pub mod Records
+pub mod History
+pub mod Answers
+pub mod Register
+pub mod Replies
+pub mod Legal
+pub mod Places
+pub mod Judging

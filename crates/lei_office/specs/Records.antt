@@ -1,5 +1,5 @@
 -- Whether an item that was sent is a record: its checks, each a sentence over its fields, and the record that it is.
-use Rattle.std.specs.Prelude.{◌≡◌, ℕ, ◌%◌, List, length, codes, Bool, not, ◌&&◌, ◌==◌, find, Option, Some, None, option_map, unwrap_or}
+use Rattle.std.specs.Prelude.{◌≡◌, ℕ, ◌%◌, List, ◌∷◌, ◌++◌, length, if◌then◌else◌, codes, Bool, not, ◌&&◌, ◌==◌, find, Option, Some, None, option_map, unwrap_or}
 use Rattle.std.specs.Option.{option_or}
 use Rattle.std.specs.List.{list_any}
 use Rattle.std.specs.Map.{lookup}
@@ -9,6 +9,7 @@ use Rattle.upload_format.specs.Names.{names}
 use Rattle.upload_format.specs.declared.item.RawItem.{RawItem}
 use Rattle.upload_format.specs.declared.item.RawItem.TheVariants as items
 use Rattle.lei_office.specs.declared.check.Check.{Check}
+use Rattle.lei_office.specs.declared.check.Detail.{Detail}
 use Rattle.lei_office.specs.declared.check.Detail.TheVariants.{Field}
 use Rattle.lei_office.specs.declared.fields.Shape.{Shape}
 use Rattle.lei_office.specs.declared.record.Record.{Record}
@@ -68,3 +69,13 @@ readied pairs None = Good (record_of pairs)
 -- the first failed check of an item, or else the record that it is
 abbrev pub ready : RawItem → Readied
 ready (items.Record pairs) = readied pairs (failed_check pairs)
+
+abbrev pub named : Detail → List ℕ
+named (Field name) = name
+
+abbrev pub check_name : ℕ → List ℕ
+check_name code = if code == 1 then codes "C01 FIELD_UNKNOWN" else (if code == 2 then codes "C02 FIELD_MISSING" else (if code == 3 then codes "C03 FIELD_SHAPE" else codes "C04 CHECK_DIGITS"))
+
+-- the check's number and name, and after a space what it names
+abbrev pub check_text : Check → List ℕ
+check_text check = check_name check.code ++ 32 ∷ named check.detail

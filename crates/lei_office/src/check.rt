@@ -1,4 +1,7 @@
-use lei_outside::Text;
+ghost use Rattle.std.specs.Prelude.{◌≡◌, IfOk, string_bytes};
+
+use lei_outside::{NoMemory, Text};
+use std::alloc::Global;
 
 /// Why an item was rejected: the first of its checks that fails. This project's profile.
 #[derive(Debug, PartialEq, Eq, Drop)]
@@ -13,4 +16,14 @@ pub struct Check {
 pub enum Detail {
     /// A field's name, or another name in its place.
     Field(Text),
+}
+
+impl Check {
+    ghost use Rattle.lei_office.specs.Records.{check_text};
+
+    pub fn text(&self, _alloc: Global) -> Result<String, NoMemory>
+        ensures { IfOk result (λ text. string_bytes text ≡ check_text self.now) }
+    {
+        Err(NoMemory)
+    }
 }

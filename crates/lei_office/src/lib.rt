@@ -3,8 +3,20 @@
 
 mod check;
 mod fields;
+mod judge;
+mod ledger;
+mod office;
 mod record;
+mod reply;
+mod request;
+mod table;
+mod texts;
+mod verdict;
 
 pub use check::{Check, Detail};
-pub use fields::Shape;
-pub use record::{Readied, Record};
+pub use fields::{FIELDS, Shape};
+pub use ledger::{ACCREDIT, RULES, UPLOAD};
+pub use record::{Readied, Record, ready};
+pub use reply::{Kind, Refusal, Reply};
+pub use request::{Asked, Call, MAX_BODY, MAX_NUMBER, Request};
+pub use verdict::Verdict;

@@ -1,0 +1,12 @@
+-- What the code's `Place` stands for.
+use Rattle.std.specs.Prelude.{◌≡◌}
+use Rattle.lei_office.specs.declared.ledger.Place.{Place}
+use Rattle.lei_office.specs.declared.ledger.Place.TheVariants as code
+use Rattle.lei_office.specs.History as history
+
+abbrev pub IsPlace : Place → history.Place → Type 0
+IsPlace code.UnknownOffice place = place ≡ history.unknown_office
+IsPlace (code.Repeat answer) place = place ≡ history.repeat_of answer.now
+IsPlace code.Taken place = place ≡ history.taken
+IsPlace (code.Ahead next) place = place ≡ history.ahead next
+IsPlace code.Fresh place = place ≡ history.fresh

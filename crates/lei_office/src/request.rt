@@ -1,0 +1,34 @@
+use lei_code::Lei;
+use crate::reply::Refusal;
+use lei_outside::Bytes;
+
+/// The greatest number of an upload. This project's profile.
+pub const MAX_NUMBER: u32 = 1_000_000;
+
+/// The greatest length of an upload's body, in bytes. This project's profile.
+pub const MAX_BODY: usize = 4_194_304;
+
+/// A numbered upload of an issuing office.
+#[derive(Debug, PartialEq, Eq, Drop)]
+pub struct Call {
+    pub office: Lei,
+    /// From 1 to [`MAX_NUMBER`].
+    pub number: u32,
+    pub body: Bytes,
+}
+
+/// What the register is asked for.
+#[derive(Debug, PartialEq, Eq, Drop)]
+pub enum Request {
+    /// To let an issuing office send uploads.
+    Accredit(Lei),
+    /// To take an upload.
+    Upload(Call),
+}
+
+/// What a reader makes of a request's bytes: what is asked, or the refusal that is its reply.
+#[derive(Debug, PartialEq, Eq, Drop)]
+pub enum Asked {
+    Ask(Request),
+    Refuse(Refusal),
+}

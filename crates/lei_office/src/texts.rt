@@ -1,0 +1,68 @@
+// The texts of answers.
+ghost use Rattle.std.specs.Prelude.{◌≡◌, IfOk, map};
+ghost use Rattle.serde_json.specs.View.{view, items_view};
+ghost use Rattle.lei_office.specs.Answers.{accreditation_answer, accreditation_text, upload_answer, upload_text, verdict_text, strings};
+
+use crate::verdict::Verdict;
+use lei_code::Lei;
+use lei_outside::{Bytes, NoMemory};
+use serde_json::{Value, json};
+use std::alloc::Global;
+
+// What is answered when the office is accredited by the entry of this number.
+pub fn accreditation_text(alloc: Global, entry: u64, office: &Lei) -> Result<Bytes, NoMemory>
+    ensures { IfOk result (λ text. text ≡ accreditation_text entry office.now) }
+{
+    let answer = accreditation_answer(alloc, entry, office)?;
+    Ok(Bytes::from(answer.to_vec(alloc)?))
+}
+
+fn accreditation_answer(alloc: Global, entry: u64, office: &Lei) -> Result<Value, NoMemory>
+    ensures { IfOk result (λ answer. view answer ≡ accreditation_answer entry office.now) }
+{
+    Ok(json!(in alloc; {"entry": entry, "issuer": office.as_str()})?)
+}
+
+// What is answered to the office's upload of this number, taken by the entry of that number.
+pub fn upload_text(
+    alloc: Global,
+    entry: u64,
+    office: &Lei,
+    number: u32,
+    verdicts: &[Verdict],
+) -> Result<Bytes, NoMemory>
+    ensures { IfOk result (λ text. text ≡ upload_text entry office.now number verdicts.now) }
+{
+    let items = verdict_values(alloc, verdicts)?;
+    let answer = upload_answer(alloc, entry, office, number, items)?;
+    Ok(Bytes::from(answer.to_vec(alloc)?))
+}
+
+fn upload_answer(
+    alloc: Global,
+    entry: u64,
+    office: &Lei,
+    number: u32,
+    items: Vec<Value>,
+) -> Result<Value, NoMemory>
+    ensures { IfOk result
+        (λ answer. view answer ≡ upload_answer entry office.now (items_view items.items) number) }
+{
+    Ok(json!(in alloc; {
+        "entry": entry,
+        "issuer": office.as_str(),
+        "items": Value::Array(items),
+        "number": number
+    })?)
+}
+
+fn verdict_values(alloc: Global, verdicts: &[Verdict]) -> Result<Vec<Value>, NoMemory>
+    ensures { IfOk result
+        (λ values. items_view values.items ≡ strings (map verdict_text verdicts.now)) }
+{
+    let mut values = Vec::with_capacity(alloc, verdicts.len())?;
+    for verdict in verdicts {
+        values.push(Value::String(verdict.text(alloc)?))?;
+    }
+    Ok(values)
+}
