@@ -7,3 +7,4 @@ pub mod Replies
 pub mod Legal
 pub mod Places
 pub mod Judging
+pub mod Words

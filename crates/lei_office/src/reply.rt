@@ -1,4 +1,7 @@
+ghost use Rattle.std.specs.Prelude.{◌≡◌, Some};
+
 use lei_outside::Bytes;
+use std::fmt;
 use upload_format::Malformed;
 
 /// The form of a reply's text.
@@ -24,6 +27,66 @@ pub enum Refusal {
     NumberAhead(u32),
     Malformed(Malformed),
     NoMemory,
+}
+
+impl Refusal {
+    ghost use Rattle.lei_office.specs.Words.{refusal_code, refusal_name, refusal_number};
+
+    /// The code of its reply, after the status codes of HTTP (RFC 9110).
+    pub fn code(self) -> u16
+        ensures { result ≡ refusal_code self }
+    {
+        match self {
+            Refusal::Path | Refusal::Malformed(_) => 400,
+            Refusal::NoRoute | Refusal::IssuerUnknown => 404,
+            Refusal::NumberTaken | Refusal::NumberAhead(_) => 409,
+            Refusal::TooLong => 413,
+            Refusal::NoMemory => 500,
+        }
+    }
+
+    /// Its name in a reply, and for a body that is no upload the fault's name behind it.
+    pub fn name(self) -> &'static str
+        ensures { result.now ≡ refusal_name self }
+    {
+        match self {
+            Refusal::TooLong => "TOO_LONG",
+            Refusal::NoRoute => "NO_ROUTE",
+            Refusal::Path => "PATH",
+            Refusal::IssuerUnknown => "ISSUER_UNKNOWN",
+            Refusal::NumberTaken => "NUMBER_TAKEN",
+            Refusal::NumberAhead(_) => "NUMBER_AHEAD",
+            Refusal::Malformed(Malformed::NotJson) => "MALFORMED NOT_JSON",
+            Refusal::Malformed(Malformed::NotAnUpload) => "MALFORMED NOT_AN_UPLOAD",
+            Refusal::Malformed(Malformed::NoItems) => "MALFORMED NO_ITEMS",
+            Refusal::Malformed(Malformed::TooManyItems) => "MALFORMED TOO_MANY_ITEMS",
+            Refusal::NoMemory => "NO_MEMORY",
+        }
+    }
+
+    /// The number that stands behind its name, after a space.
+    pub fn number(self) -> Option<u32>
+        ensures { result ≡ refusal_number self }
+    {
+        match self {
+            Refusal::NumberAhead(next) => Some(next),
+            _ => None,
+        }
+    }
+}
+
+impl fmt::Display for Refusal {
+    ghost use Rattle.lei_office.specs.Words.{refusal_words};
+
+    ghost output = { λ refusal. Some (refusal_words refusal) };
+
+    fn fmt<W: fmt::Write>(&self, f: &mut fmt::Formatter<W>) -> fmt::Result {
+        f.write_str(self.name())?;
+        match self.number() {
+            Some(number) => write!(f, " {number}"),
+            None => Ok(()),
+        }
+    }
 }
 
 /// What is answered to a request.
