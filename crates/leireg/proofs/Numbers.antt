@@ -1,0 +1,63 @@
+-- The numbers of words.
+use Rattle.std.proofs.Common.{◌≡◌, ℕ, ◌<◌, ◌≤◌, ◌^◌, List, Option, Some, None, Bool, true, false, ◌&&◌, cond, leb, decimal, bytes_eq, Result, Ok, Err, refl, sym, ap, ◌∙◌, subst, arith, rules}
+use Rattle.std.proofs.lemmas.Bool.Decides.{nat_tests}
+use Rattle.std.proofs.lemmas.Fmt.{decimal_is_IsNumeral, parse-decimal, IsAscii-decimal}
+use Rattle.std.proofs.lemmas.Slice.Eq.{bytes_eq-Decides}
+use Rattle.std.proofs.lemmas.Str.{IsUtf8-from_ascii}
+use Rattle.std.specs.Str.{IsUtf8}
+use Rattle.std.specs.Str.Parse.{digits_value, ParsesUnsigned}
+use Rattle.lei_office.specs.declared.request.TheConstants.{MAX_NUMBER}
+use Rattle.leireg.specs.Requests.{number_of, plain_number}
+
+all_three : (a b c : Bool) → a ≡ true → b ≡ true → c ≡ true → (a && b && c) ≡ true
+all_three a b c x y z = rw (x, y, z) refl
+
+parts_of : (a b c : Bool) → (a && b && c) ≡ true → (a ≡ true) × (b ≡ true) × (c ≡ true)
+parts_of true true c h = (refl, refl, h)
+parts_of true false c h = cc
+parts_of false b c h = cc
+
+none_unless : (test : Bool) (n : ℕ) → (test ≡ true → ⊥) → cond test (Some n) None ≡ None
+none_unless true n never = absurd (never refl)
+none_unless false n never = refl
+
+-- what stands for a number from 1 to MAX_NUMBER is that number's decimal text
+pub number_of-decimal : (bytes : List ℕ) (n : ℕ) → 1 ≤ n → n ≤ MAX_NUMBER → bytes ≡ decimal n → number_of bytes ≡ Some n
+unfolding number_of
+number_of-decimal bytes n low high is =
+    let value : digits_value 10 bytes ≡ n = ap (digits_value 10) is ∙ (decimal_is_IsNumeral n (omega arith)).1 in
+    let at_least : leb 1 n ≡ true = grind (arith, nat_tests) in
+    let at_most : leb n MAX_NUMBER ≡ true = grind (arith, nat_tests) in
+    let plain = (bytes_eq-Decides (decimal n) bytes).1 (sym is) in
+    ap (plain_number bytes) value ∙ ap (λ test. cond test (Some n) None) (all_three (leb 1 n) (leb n MAX_NUMBER) (bytes_eq (decimal n) bytes) at_least at_most plain)
+
+-- and nothing else stands for one
+pub number_of-none : (bytes : List ℕ) → ((n : ℕ) → 1 ≤ n → n ≤ MAX_NUMBER → bytes ≡ decimal n → ⊥) → number_of bytes ≡ None
+unfolding number_of
+number_of-none bytes never =
+    let n = digits_value 10 bytes in
+    none_unless (leb 1 n && leb n MAX_NUMBER && bytes_eq (decimal n) bytes) n (λ holds.
+        let parts = parts_of (leb 1 n) (leb n MAX_NUMBER) (bytes_eq (decimal n) bytes) holds in
+        let low : 1 ≤ n = grind (arith, nat_tests, parts.0) in
+        let high : n ≤ MAX_NUMBER = grind (arith, nat_tests, parts.1) in
+        never n low high (sym ((bytes_eq-Decides (decimal n) bytes).0 parts.2)))
+
+pub number_of-no_text : (bytes : List ℕ) → ¬ (IsUtf8 bytes) → number_of bytes ≡ None
+number_of-no_text bytes no_text =
+    number_of-none bytes (λ n low high is. let P : List ℕ → Type 0 = λ b. IsUtf8 b in no_text (subst P (sym is) (IsUtf8-from_ascii (decimal n) (IsAscii-decimal n (omega arith)))))
+
+pub number_of-not_parsed : (bytes : List ℕ) → ParsesUnsigned {E = Unit {0}} 32 10 bytes (Err tt) → number_of bytes ≡ None
+number_of-not_parsed bytes parsed =
+    number_of-none bytes (λ n low high is.
+        let found : Result ℕ (Unit {0}) = Err tt in
+        let read : found ≡ Ok n = parse-decimal 32 n bytes found (omega arith) (omega arith) is parsed in
+        cc)
+
+-- what was read is no number of a request: it is out of range, or isn't written so
+pub number_of-other : (bytes : List ℕ) (number : ℕ) → ParsesUnsigned {E = Unit {0}} 32 10 bytes (Ok number) → (1 ≤ number → number ≤ MAX_NUMBER → bytes ≡ decimal number → ⊥) → number_of bytes ≡ None
+number_of-other bytes number parsed never =
+    number_of-none bytes (λ n low high is.
+        let found : Result ℕ (Unit {0}) = Ok number in
+        let read : found ≡ Ok n = parse-decimal 32 n bytes found (omega arith) (omega arith) is parsed in
+        let same : number ≡ n = cc in
+        never (omega arith) (omega arith) (is ∙ ap decimal (sym same)))

@@ -1,0 +1,7 @@
+use Rattle.std.proofs.Common.{sym, ap, ◌∙◌}
+use Rattle.leireg.specs.Requests.{number_of}
+use Rattle.leireg.proofs.Numbers.{number_of-no_text}
+use Rattle.leireg.proofs.requests.number_of.Goals as goal
+
+pub returns-in-Err : goal.returns-in-Err
+returns-in-Err c = sym (number_of-no_text c.args.bytes.now c.in-Err.ensures.cases.0)
