@@ -81,8 +81,8 @@ request_adds history (Upload call) e is = short_adds (ltb MAX_BODY (length call.
 pub Legal-next : (history : History) (request : Request) → IsRequest request → Legal history → Legal (next history request)
 Legal-next history request asked legal =
     elim (outcome history request) as (λ o. outcome history request ≡ o → Legal (next_of history o)) [
-      stays answered ↦ λ _. legal
-    | adds e ↦ λ is. Legal-push history e legal (request, request_adds history request e is, asked, is)
+      | stays answered ↦ λ _. legal
+      | adds e ↦ λ is. Legal-push history e legal (request, request_adds history request e is, asked, is)
     ] refl
 
 pub Legal-comes : (history : History) (request : Request) (result : Result Reply NoMemory) (new : History) → IsRequest request → Legal history

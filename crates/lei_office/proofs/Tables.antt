@@ -16,9 +16,9 @@ pub put-found : (rows : Table) (new : Record) → place_in rows new < length row
 put-found [] new within = absurd (omega arith)
 put-found (row ∷ rows) new within =
     elim (is_of new.lei row) as (λ b. cond (not b) (1 + place_in rows new) 0 < suc (length rows)
-        → cond b (new ∷ rows) (row ∷ put rows new) ≡ set (row ∷ rows) (cond (not b) (1 + place_in rows new) 0) new) [
-      true ↦ λ _. refl
-    | false ↦ λ below. ap (λ rest. row ∷ rest) (put-found rows new (omega arith)) ∙ sym (set_behind row new rows (place_in rows new))
+    → cond b (new ∷ rows) (row ∷ put rows new) ≡ set (row ∷ rows) (cond (not b) (1 + place_in rows new) 0) new) [
+      | true ↦ λ _. refl
+      | false ↦ λ below. ap (λ rest. row ∷ rest) (put-found rows new (omega arith)) ∙ sym (set_behind row new rows (place_in rows new))
     ] within
 
 -- or behind all rows, where there is none
@@ -26,8 +26,8 @@ pub put-none : (rows : Table) (new : Record) → length rows ≤ place_in rows n
 put-none [] new past = refl
 put-none (row ∷ rows) new past =
     elim (is_of new.lei row) as (λ b. suc (length rows) ≤ cond (not b) (1 + place_in rows new) 0 → cond b (new ∷ rows) (row ∷ put rows new) ≡ row ∷ (rows ++ new ∷ [])) [
-      true ↦ λ above. absurd (omega arith)
-    | false ↦ λ above. ap (λ rest. row ∷ rest) (put-none rows new (omega arith))
+      | true ↦ λ above. absurd (omega arith)
+      | false ↦ λ above. ap (λ rest. row ∷ rest) (put-none rows new (omega arith))
     ] past
 
 -- what a search answers

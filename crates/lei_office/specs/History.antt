@@ -52,6 +52,6 @@ place_of_taken body (Some e) = if bytes_eq e.body body then repeat_of e.answer e
 abbrev pub place : History → List ℕ → ℕ → List ℕ → Place
 place history office number body =
     if is_some (accredited history office) then
-      (if nat_le number (last history office) then place_of_taken body (upload_at history office number)
-      else (if nat_lt (last history office + 1) number then ahead (last history office + 1) else fresh))
+    (if nat_le number (last history office) then place_of_taken body (upload_at history office number)
+    else (if nat_lt (last history office + 1) number then ahead (last history office + 1) else fresh))
     else unknown_office

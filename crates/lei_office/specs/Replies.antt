@@ -44,8 +44,16 @@ accreditation history office =
 abbrev pub upload_entry : History → Call → List Verdict → KeptEntry
 upload_entry history call verdicts =
     let number = length history + 1 in
-    record { seq = number; kind = UPLOAD; office = call.office; number = call.number; moment = pos 0; rules = RULES; body = call.body;
-      answer = upload_text number call.office call.number verdicts }
+    record {
+      seq = number;
+      kind = UPLOAD;
+      office = call.office;
+      number = call.number;
+      moment = pos 0;
+      rules = RULES;
+      body = call.body;
+      answer = upload_text number call.office call.number verdicts;
+    }
 
 -- the items are judged on the table after the history
 abbrev pub taken_upload : History → Call → List RawItem → KeptEntry

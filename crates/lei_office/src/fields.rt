@@ -8,5 +8,7 @@ pub enum Shape {
 }
 
 /// The fields of a record in order of place, each with its name and its shape. Each is needed.
-pub const FIELDS: [(&'static str, Shape); 2] =
-    [("LEI", Shape::Code), ("Entity.LegalName", Shape::Free)];
+pub const FIELDS: [(&'static str, Shape); 2] = [
+    ("LEI", Shape::Code),
+    ("Entity.LegalName", Shape::Free),
+];

@@ -29,7 +29,9 @@ fn is_upload_of(entry: &KeptEntry, office: &[u8]) -> bool
 pub fn accredited<'a>(entries: &'a [KeptEntry], office: &[u8]) -> Option<&'a [u8]>
     ensures { option_map (λ text. text.now) result ≡ accredited entries.now office.now }
 {
-    let entry = entries.iter().find(|entry| is_accreditation_of(entry, office))?;
+    let entry = entries
+        .iter()
+        .find(|entry| is_accreditation_of(entry, office))?;
     Some(entry.answer.as_slice())
 }
 
@@ -38,17 +40,27 @@ pub fn last(entries: &[KeptEntry], office: &[u8]) -> usize
     ensures last { result ≡ last entries.now office.now }
     ensures within { result ≤ length entries.now }
 {
-    entries.iter().filter(|entry| is_upload_of(entry, office)).count()
+    entries
+        .iter()
+        .filter(|entry| is_upload_of(entry, office))
+        .count()
 }
 
 // The office's upload of this number, counted from 1.
-pub fn upload_at<'a>(entries: &'a [KeptEntry], office: &[u8], number: usize) -> Option<&'a KeptEntry>
+pub fn upload_at<'a>(
+    entries: &'a [KeptEntry],
+    office: &[u8],
+    number: usize,
+) -> Option<&'a KeptEntry>
     ensures { option_map (λ entry. entry.now) result ≡ upload_at entries.now office.now number }
 {
     if number == 0 {
         return None;
     }
-    entries.iter().filter(|entry| is_upload_of(entry, office)).nth(number - 1)
+    entries
+        .iter()
+        .filter(|entry| is_upload_of(entry, office))
+        .nth(number - 1)
 }
 
 /// Where an upload falls among those of its office.
@@ -65,12 +77,7 @@ pub enum Place<'a> {
 }
 
 /// Where the upload falls: the first that is so.
-pub fn place_of<'a>(
-    entries: &'a [KeptEntry],
-    office: &[u8],
-    number: u32,
-    body: &[u8],
-) -> Place<'a>
+pub fn place_of<'a>(entries: &'a [KeptEntry], office: &[u8], number: u32, body: &[u8]) -> Place<'a>
     ensures { IsPlace result (place entries.now office.now number body.now) }
 {
     if accredited(entries, office).is_none() {

@@ -82,11 +82,7 @@ fn kept_reply(alloc: Global, text: &[u8]) -> Result<Reply, NoMemory>
     })
 }
 
-fn accredit(
-    alloc: Global,
-    entries: &mut Vec<KeptEntry>,
-    office: &Lei,
-) -> Result<Reply, NoMemory>
+fn accredit(alloc: Global, entries: &mut Vec<KeptEntry>, office: &Lei) -> Result<Reply, NoMemory>
     ensures step { Comes (accredit_outcome entries.old.items office.now (accredited entries.old.items office.now))
         entries.old.items result entries.new.items }
     ensures code { IsValid office.now }
@@ -100,11 +96,7 @@ fn accredit(
     Ok(reply)
 }
 
-fn accreditation(
-    alloc: Global,
-    entries: &[KeptEntry],
-    office: &Lei,
-) -> Result<KeptEntry, NoMemory>
+fn accreditation(alloc: Global, entries: &[KeptEntry], office: &Lei) -> Result<KeptEntry, NoMemory>
     ensures { IfOk result (λ entry. entry ≡ accreditation entries.now office.now) }
 {
     let seq = next_seq(entries)?;

@@ -1,5 +1,5 @@
-use lei_code::Lei;
 use crate::reply::Refusal;
+use lei_code::Lei;
 use lei_outside::Bytes;
 
 /// The greatest number of an upload. This project's profile.

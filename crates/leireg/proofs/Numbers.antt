@@ -37,10 +37,10 @@ unfolding number_of
 number_of-none bytes never =
     let n = digits_value 10 bytes in
     none_unless (leb 1 n && leb n MAX_NUMBER && bytes_eq (decimal n) bytes) n (λ holds.
-        let parts = parts_of (leb 1 n) (leb n MAX_NUMBER) (bytes_eq (decimal n) bytes) holds in
-        let low : 1 ≤ n = grind (arith, nat_tests, parts.0) in
-        let high : n ≤ MAX_NUMBER = grind (arith, nat_tests, parts.1) in
-        never n low high (sym ((bytes_eq-Decides (decimal n) bytes).0 parts.2)))
+    let parts = parts_of (leb 1 n) (leb n MAX_NUMBER) (bytes_eq (decimal n) bytes) holds in
+    let low : 1 ≤ n = grind (arith, nat_tests, parts.0) in
+    let high : n ≤ MAX_NUMBER = grind (arith, nat_tests, parts.1) in
+    never n low high (sym ((bytes_eq-Decides (decimal n) bytes).0 parts.2)))
 
 pub number_of-no_text : (bytes : List ℕ) → ¬ (IsUtf8 bytes) → number_of bytes ≡ None
 number_of-no_text bytes no_text =
@@ -49,15 +49,15 @@ number_of-no_text bytes no_text =
 pub number_of-not_parsed : (bytes : List ℕ) → ParsesUnsigned {E = Unit {0}} 32 10 bytes (Err tt) → number_of bytes ≡ None
 number_of-not_parsed bytes parsed =
     number_of-none bytes (λ n low high is.
-        let found : Result ℕ (Unit {0}) = Err tt in
-        let read : found ≡ Ok n = parse-decimal 32 n bytes found (omega arith) (omega arith) is parsed in
-        cc)
+    let found : Result ℕ (Unit {0}) = Err tt in
+    let read : found ≡ Ok n = parse-decimal 32 n bytes found (omega arith) (omega arith) is parsed in
+    cc)
 
 -- what was read is no number of a request: it is out of range, or isn't written so
 pub number_of-other : (bytes : List ℕ) (number : ℕ) → ParsesUnsigned {E = Unit {0}} 32 10 bytes (Ok number) → (1 ≤ number → number ≤ MAX_NUMBER → bytes ≡ decimal number → ⊥) → number_of bytes ≡ None
 number_of-other bytes number parsed never =
     number_of-none bytes (λ n low high is.
-        let found : Result ℕ (Unit {0}) = Ok number in
-        let read : found ≡ Ok n = parse-decimal 32 n bytes found (omega arith) (omega arith) is parsed in
-        let same : number ≡ n = cc in
-        never (omega arith) (omega arith) (is ∙ ap decimal (sym same)))
+    let found : Result ℕ (Unit {0}) = Ok number in
+    let read : found ≡ Ok n = parse-decimal 32 n bytes found (omega arith) (omega arith) is parsed in
+    let same : number ≡ n = cc in
+    never (omega arith) (omega arith) (is ∙ ap decimal (sym same)))

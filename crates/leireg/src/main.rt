@@ -1,6 +1,7 @@
 //! The program of the register.
 #![tactic(auto)]
 
+mod outbox;
 pub mod requests;
 
 fn main() {

@@ -30,8 +30,8 @@ returns-in-Ok-clause-legal c =
     let L : History → Type 0 = λ h. Legal h in
     let P : Request → Type 0 = λ request. IsNumbered request in
     elim c.match-request.branch [
-      in-Accredit w ↦ let answered = w.accredit-answered in
-      subst L (sym w.self-is) (Legal-comes history (Accredit w.in-Accredit.office) answered.result answered.new.entries.items (answered.ensures.code, tt) c.self.invariant.0 answered.ensures.step)
-    | in-Upload w ↦ let answered = w.upload-answered in
-      subst L (sym w.self-is) (Legal-comes history (Upload w.in-Upload.call) answered.result answered.new.entries.items (answered.ensures.code, subst P w.in-Upload.is c.requires) c.self.invariant.0 answered.ensures.step)
+      | in-Accredit w ↦ let answered = w.accredit-answered in
+          subst L (sym w.self-is) (Legal-comes history (Accredit w.in-Accredit.office) answered.result answered.new.entries.items (answered.ensures.code, tt) c.self.invariant.0 answered.ensures.step)
+      | in-Upload w ↦ let answered = w.upload-answered in
+          subst L (sym w.self-is) (Legal-comes history (Upload w.in-Upload.call) answered.result answered.new.entries.items (answered.ensures.code, subst P w.in-Upload.is c.requires) c.self.invariant.0 answered.ensures.step)
     ]
