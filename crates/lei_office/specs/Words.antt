@@ -5,6 +5,8 @@ use Rattle.upload_format.specs.declared.fault.Malformed.TheVariants.{NotJson, No
 use Rattle.lei_office.specs.declared.reply.Refusal.{Refusal}
 use Rattle.lei_office.specs.declared.reply.Refusal.TheVariants.{TooLong, NoRoute, Path, IssuerUnknown, NumberTaken, NumberAhead, NoMemory}
 use Rattle.lei_office.specs.declared.reply.Refusal.TheVariants as refusals
+use Rattle.lei_office.specs.declared.reply.Reply.{Reply}
+use Rattle.lei_office.specs.declared.reply.Reply.TheVariants.{Text, Words}
 
 abbrev pub refusal_code : Refusal → ℕ
 refusal_code TooLong = 413
@@ -51,3 +53,13 @@ behind (Some k) = 32 ∷ decimal k
 -- a refusal in words
 abbrev pub refusal_words : Refusal → List ℕ
 refusal_words refusal = refusal_name refusal ++ behind (refusal_number refusal)
+
+-- ---- replies
+
+abbrev pub reply_code : Reply → ℕ
+reply_code (Text code kind text) = code
+reply_code (Words refusal) = refusal_code refusal
+
+abbrev pub reply_words : Reply → List ℕ
+reply_words (Text code kind text) = text
+reply_words (Words refusal) = refusal_words refusal

@@ -95,3 +95,17 @@ pub enum Reply {
     Text { code: u16, kind: Kind, text: Bytes },
     Words(Refusal),
 }
+
+impl Reply {
+    ghost use Rattle.lei_office.specs.Words.{reply_code};
+
+    /// Its code, after the status codes of HTTP (RFC 9110).
+    pub fn code(&self) -> u16
+        ensures { result ≡ reply_code self.now }
+    {
+        match self {
+            Reply::Text { code, .. } => *code,
+            Reply::Words(refusal) => refusal.code(),
+        }
+    }
+}
