@@ -5,6 +5,5 @@ use Rattle.lei_outside.proofs.memory_source.SureSourceSource.read.Goals as goal
 
 pub returns-clause-bytes : goal.returns-clause-bytes
 returns-clause-bytes c =
-    let at = c.self.inside.at in
-    let bytes = c.self.inside.bytes in
-    (omega arith, grind (arith, common_steps, c.fill-size.ensures.rest), λ none. drop_all (at + c.fill-size.result) bytes (grind (arith, length-drop, length-take)))
+    let at_end = drop_all (c.self.inside.at + c.fill-size.result) c.self.inside.bytes in
+    (omega arith, grind (arith, common_steps, c.fill-size.ensures.front), λ none. at_end (grind (arith, length-drop, length-take)))
