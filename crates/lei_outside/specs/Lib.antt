@@ -1,2 +1,3 @@
 pub mod Told
 pub mod Count
+pub mod Memory

@@ -44,7 +44,9 @@ impl Error for Failed {}
 /// Why a sink took nothing.
 #[derive(Clone, Copy, Debug, PartialEq, Eq)]
 pub enum SinkFault {
+    /// The device failed.
     Failed,
+    /// Memory ran out.
     NoMemory,
 }
 

@@ -1,14 +1,22 @@
 //! What the register has of the outside: bytes that come and go through devices, and the values that it keeps.
 #![tactic(auto)]
 
+mod calls;
 mod entry;
 mod faults;
 mod list;
+mod memory_sink;
+mod memory_source;
 mod sink;
 mod source;
 
 pub use entry::KeptEntry;
 pub use faults::{Failed, NoMemory, SinkFault};
 pub use list::{Bytes, List, Text};
+pub use memory_sink::{ByteSink, SureSink};
+pub use memory_source::{ByteSource, SureSource};
 pub use sink::{Sink, write_all};
 pub use source::Source;
+
+#[cfg(test)]
+mod tests;

@@ -41,24 +41,28 @@ impl Bytes {
         })
     }
 
+    /// The bytes, lent.
     pub fn as_slice(&self) -> &[u8]
         ensures { result.now ≡ self.now }
     {
         self.bytes.as_slice()
     }
 
+    /// The number of its bytes.
     pub fn len(&self) -> usize
         ensures { result ≡ length self.now }
     {
         self.bytes.len()
     }
 
+    /// Whether its length is 0.
     pub fn is_empty(&self) -> bool
         ensures { IsTrue result ↔ (self.now ≡ []) }
     {
         self.bytes.is_empty()
     }
 
+    /// The vector that it was made of, without a copy.
     pub fn into_vec(self) -> Vec<u8>
         ensures { result.items ≡ self }
     {
@@ -118,12 +122,14 @@ impl Text {
         })
     }
 
+    /// The text, lent.
     pub fn as_str(&self) -> &str
         ensures { result.now ≡ self.now }
     {
         self.text.as_str()
     }
 
+    /// Its UTF-8 bytes, lent.
     pub fn as_bytes(&self) -> &[u8]
         ensures { result.now ≡ self.now }
     {
@@ -137,12 +143,14 @@ impl Text {
         self.text.len()
     }
 
+    /// Whether its length is 0.
     pub fn is_empty(&self) -> bool
         ensures { IsTrue result ↔ (self.now ≡ []) }
     {
         self.text.is_empty()
     }
 
+    /// The string that it was made of, without a copy.
     pub fn into_string(self) -> String
         ensures { string_bytes result ≡ self }
     {
@@ -193,24 +201,28 @@ impl<T> From<Vec<T>> for List<T> {
 }
 
 impl<T> List<T> {
+    /// The items, lent.
     pub fn as_slice(&self) -> &[T]
         ensures { result.now ≡ self.now }
     {
         self.items.as_slice()
     }
 
+    /// The number of its items.
     pub fn len(&self) -> usize
         ensures { result ≡ length self.now }
     {
         self.items.len()
     }
 
+    /// Whether its length is 0.
     pub fn is_empty(&self) -> bool
         ensures { IsTrue result ↔ (self.now ≡ []) }
     {
         self.items.is_empty()
     }
 
+    /// The vector that it was made of, without a copy.
     pub fn into_vec(self) -> Vec<T>
         ensures { result.items ≡ self }
     {

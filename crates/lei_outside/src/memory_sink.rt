@@ -1,0 +1,138 @@
+// Sinks that take bytes into memory.
+ghost use Rattle.std.specs.Prelude.{◌≡◌, ◌↔◌, ◌<◌, ◌≤◌, ◌++◌, [], Some, length, min, take, IfOk, IsErrOf};
+ghost use Rattle.lei_outside.specs.Told.{Writes};
+ghost use Rattle.lei_outside.specs.Count.{Rose, counted};
+ghost use Rattle.lei_outside.specs.Memory.{SinkState, SureSinkState, FailsNext};
+
+use crate::calls::Calls;
+use crate::{List, Sink, SinkFault};
+use std::alloc::Global;
+use std::marker::Model;
+
+/// A sink that takes bytes into memory and never fails, unless memory runs out.
+#[derive(Drop)]
+pub struct SureSink {
+    bytes: Vec<u8>,
+    most: usize,
+}
+
+impl Model for SureSink {
+    ghost use Rattle.std.specs.Prelude.{◌≤◌};
+    ghost use Rattle.lei_outside.specs.Memory.{SureSinkState};
+
+    ghost Value = { SureSinkState };
+
+    ghost view = { λ s. record { taken = s.bytes.items; most = s.most } };
+
+    ghost invariant = { λ s. 1 ≤ s.most };
+}
+
+impl SureSink {
+    /// A sink that takes at most `most` bytes a write.
+    pub fn new(alloc: Global, most: usize) -> Self
+        requires { 1 ≤ most }
+        ensures { result ≡ record { taken = []; most = most } }
+    {
+        SureSink {
+            bytes: Vec::new(alloc),
+            most,
+        }
+    }
+
+    /// The bytes that were taken.
+    pub fn taken(&self) -> &[u8]
+        ensures { result.now ≡ self.now.taken }
+    {
+        self.bytes.as_slice()
+    }
+}
+
+impl Sink for SureSink {
+    ghost taken = { λ s. Some s.taken };
+
+    ghost faults = { λ _. 0 };
+
+    fn write(&mut self, piece: &[u8]) -> Result<usize, SinkFault>
+        requires { 0 < length piece.now }
+        ensures bytes { Writes (Some self.old.taken) (Some self.new.taken) result piece.now }
+        ensures sure { IsErrOf result SinkFault.Failed → ⊥ }
+        ensures size { IfOk result (λ n. n ≡ min self.old.most (length piece.now)) }
+        ensures ok { IfOk result (λ n.
+            self.new ≡ record self.old { taken = self.old.taken ++ take n piece.now }) }
+        ensures no_memory { IsErrOf result SinkFault.NoMemory → self.new ≡ self.old }
+    {
+        let size = self.most.min(piece.len());
+        self.bytes.extend_from_slice(&piece[..size])?;
+        Ok(size)
+    }
+}
+
+/// A sink that takes bytes into memory, some of whose writes fail.
+#[derive(Drop)]
+pub struct ByteSink {
+    sink: SureSink,
+    calls: Calls,
+}
+
+impl Model for ByteSink {
+    ghost use Rattle.lei_outside.specs.Memory.{SinkState};
+
+    ghost Value = { SinkState };
+
+    ghost view = { λ s. record { taken = s.sink.taken; most = s.sink.most; failing = s.calls.failing; calls = s.calls.count; faults = s.calls.faults } };
+}
+
+impl ByteSink {
+    /// A sink that takes at most `most` bytes a write. The writes with the numbers in `failing` fail, where the
+    /// first write has the number 1. A write that finds no memory counts as one.
+    pub fn new(alloc: Global, most: usize, failing: List<u64>) -> Self
+        requires { 1 ≤ most }
+        ensures { result ≡ record { taken = []; most = most; failing = failing; calls = 0; faults = 0 } }
+    {
+        ByteSink {
+            sink: SureSink::new(alloc, most),
+            calls: Calls::new(failing),
+        }
+    }
+
+    /// The bytes that were taken.
+    pub fn taken(&self) -> &[u8]
+        ensures { result.now ≡ self.now.taken }
+    {
+        self.sink.taken()
+    }
+
+    /// How many writes have failed. It stands still at `u64::MAX`.
+    pub fn faults(&self) -> u64
+        ensures { result ≡ self.now.faults }
+    {
+        self.calls.faults
+    }
+}
+
+impl Sink for ByteSink {
+    ghost taken = { λ s. Some s.taken };
+
+    ghost faults = { λ s. s.faults };
+
+    fn write(&mut self, piece: &[u8]) -> Result<usize, SinkFault>
+        requires { 0 < length piece.now }
+        ensures bytes { Writes (Some self.old.taken) (Some self.new.taken) result piece.now }
+        ensures count { self.old.faults ≤ self.new.faults }
+        ensures failed { IsErrOf result SinkFault.Failed → Rose self.old.faults self.new.faults }
+
+        ensures fails { IsErrOf result SinkFault.Failed ↔ FailsNext self.old.failing self.old.calls }
+        ensures size { IfOk result (λ n. n ≡ min self.old.most (length piece.now)) }
+        ensures ok { IfOk result (λ n.
+            self.new ≡ record self.old { taken = self.old.taken ++ take n piece.now; calls = counted self.old.calls }) }
+        ensures fault { IsErrOf result SinkFault.Failed →
+            self.new ≡ record self.old { calls = counted self.old.calls; faults = counted self.old.faults } }
+        ensures no_memory { IsErrOf result SinkFault.NoMemory →
+            self.new ≡ record self.old { calls = counted self.old.calls } }
+    {
+        if self.calls.next_fails() {
+            return Err(SinkFault::Failed);
+        }
+        self.sink.write(piece)
+    }
+}
