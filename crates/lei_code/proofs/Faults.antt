@@ -2,6 +2,7 @@
 use Rattle.std.proofs.Common.{◌≡◌, ℕ, ◌+◌, ◌%◌, ◌<◌, ◌≤◌, ◌⊎◌, inl, inr, Bool, true, false, not, cond, zero, suc, List, length, Option, None, Some, MatchOption, refl, ap, arith, subst}
 use Rattle.std.specs.Prelude.{find}
 use Rattle.std.specs.List.{range_with_len}
+use Rattle.std.specs.Option.{option_map}
 use Rattle.std.proofs.lemmas.Bool.{cases_lt, cases_eq}
 use Rattle.std.proofs.lemmas.Bool.Decides.{nat_tests}
 use Rattle.lei_code.specs.declared.fault.LeiFault.{LeiFault}
@@ -127,3 +128,19 @@ pub character_fault-at : (text : List ℕ) (fault : LeiFault) → IsCharacterFau
 character_fault-at text Length none = absurd none
 character_fault-at text (Character place) wrong = rw (first_wrong-found text place wrong)
 character_fault-at text CheckDigits none = absurd none
+
+-- and back
+pub IsCharacterFault-from_character_fault : (text : List ℕ) (fault : LeiFault) → character_fault text ≡ Some fault → IsCharacterFault text fault
+IsCharacterFault-from_character_fault text fault e = from_found text fault _ (first_wrong-tells text) e where
+  from_found : (text : List ℕ) (fault : LeiFault) (o : Option ℕ) → MatchOption o (IsWellFormed text) (IsFirstWrong text) → option_map Character o ≡ Some fault → IsCharacterFault text fault
+  from_found text fault None all e = cc
+  from_found text fault (Some place) wrong e = let eq : Character place ≡ fault = cc in subst (IsCharacterFault text) eq wrong
+
+pub IsWellFormed-from_character_fault : (text : List ℕ) → character_fault text ≡ None → IsWellFormed text
+IsWellFormed-from_character_fault text e = from_none text _ (first_wrong-tells text) e where
+  from_none : (text : List ℕ) (o : Option ℕ) → MatchOption o (IsWellFormed text) (IsFirstWrong text) → option_map Character o ≡ None → IsWellFormed text
+  from_none text None all e = all
+  from_none text (Some place) wrong e = cc
+
+pub character_fault-none : (text : List ℕ) → IsWellFormed text → character_fault text ≡ None
+character_fault-none text all = rw (first_wrong-none text all)
