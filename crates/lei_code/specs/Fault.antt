@@ -1,5 +1,6 @@
 -- What is wrong with a text that is no code: as a relation, and as the first fault, which computes.
-use Rattle.std.specs.Prelude.{◌≡◌, ◌≢◌, ℕ, ◌%◌, ◌<◌, ◌≤◌, not, List, length, IsTrue, Option, None, Some, find, if◌then◌else◌, ◌==◌}
+use Rattle.std.specs.Prelude.{◌≡◌, ◌≢◌, ℕ, ◌%◌, ◌<◌, ◌≤◌, not, List, length, IsTrue, Option, None, Some, find, if◌then◌else◌, ◌==◌, ◌++◌, codes}
+use Rattle.std.specs.Fmt.{decimal}
 use Rattle.std.specs.List.{range_with_len}
 use Rattle.std.specs.Option.{option_map, option_or}
 use Rattle.lei_code.specs.declared.fault.LeiFault.{LeiFault}
@@ -41,3 +42,9 @@ check_fault text = if number text % 97 == 1 then None else Some CheckDigits
 -- the fault of a text, and none of a code
 unfoldable pub fault_of : List ℕ → Option LeiFault
 fault_of text = if length text == 20 then option_or (character_fault text) (check_fault text) else Some Length
+
+-- the words that a fault is told in
+abbrev pub fault_text : LeiFault → List ℕ
+fault_text Length = codes "a code has 20 characters"
+fault_text (Character place) = codes "the character at place " ++ decimal place ++ codes " may not stand there"
+fault_text CheckDigits = codes "the check digits are wrong"
