@@ -1,5 +1,5 @@
 -- The first wrong place as a search finds it is the first wrong place, and the fault that is computed is the fault.
-use Rattle.std.proofs.Common.{◌≡◌, ℕ, ◌+◌, ◌%◌, ◌<◌, ◌≤◌, ◌⊎◌, inl, inr, Bool, true, false, not, cond, zero, suc, List, length, Option, None, Some, MatchOption, refl, ap, arith, subst}
+use Rattle.std.proofs.Common.{◌≡◌, ◌≢◌, ℕ, ◌+◌, ◌%◌, ◌<◌, ◌≤◌, ◌⊎◌, inl, inr, Bool, true, false, not, cond, zero, suc, List, length, Option, None, Some, MatchOption, refl, ap, arith, subst}
 use Rattle.std.specs.Prelude.{find}
 use Rattle.std.specs.List.{range_with_len}
 use Rattle.std.specs.Option.{option_map}
@@ -116,6 +116,13 @@ IsValid-from_fault_of text e =
       | inl valid ↦ valid
       | inr w ↦ (let some = fault_of-IsFault text w.0 w.1 in cc)
     ]
+
+-- the fault in each case, as a reader finds it
+pub fault_of-length : (text : List ℕ) → length text ≢ 20 → fault_of text ≡ Some Length
+fault_of-length text = fault_of-IsFault text Length
+
+pub fault_of-check : (text : List ℕ) → length text ≡ 20 → IsWellFormed text → number text % 97 ≢ 1 → fault_of text ≡ Some CheckDigits
+fault_of-check text len all other = fault_of-IsFault text CheckDigits (len, all, other)
 
 -- the fault of a text of 20 characters whose first wrong character is found
 pub fault_of-character : (text : List ℕ) (fault : LeiFault) → length text ≡ 20 → IsCharacterFault text fault → fault_of text ≡ Some fault

@@ -1,12 +1,12 @@
 -- The check digits that are made for a text of 18 characters make it a code.
-use Rattle.std.proofs.Common.{◌≡◌, ℕ, ◌+◌, ◌-◌, ◌*◌, ◌/◌, ◌%◌, ◌<◌, ◌≤◌, List, [], ◌∷◌, ◌++◌, length, get_or, refl, ap, sym, ◌∙◌, arith, append_assoc, length-append}
+use Rattle.std.proofs.Common.{◌≡◌, ℕ, ◌+◌, ◌-◌, ◌*◌, ◌/◌, ◌%◌, ◌<◌, ◌≤◌, List, [], ◌∷◌, ◌++◌, length, get_or, ap, sym, ◌∙◌, arith, append_assoc, length-append}
 use Rattle.std.proofs.Math.ListN.{get_or-append}
 use Rattle.std.proofs.lemmas.List.{get_or-append_right}
 use Rattle.std.specs.Prelude.{codes}
 use Rattle.lei_code.specs.Number.{number}
 use Rattle.lei_code.specs.Code.{IsWellFormed, IsValid}
 use Rattle.lei_code.specs.Digits.{two_digits, digits}
-use Rattle.lei_code.proofs.Numbers.{number-digit}
+use Rattle.lei_code.proofs.Numbers.{number-nil, number-digit}
 use Rattle.lei_code.proofs.Places.{IsWellFormedTo, may_stand-digit, well_formed_more}
 
 push-two : (text : List ℕ) (a b : ℕ) → text ++ a ∷ b ∷ [] ≡ (text ++ a ∷ []) ++ b ∷ []
@@ -29,10 +29,6 @@ number-two_digits text n small = number-two text (n / 10) (n % 10) (omega arith)
 pub number-digits : (text : List ℕ) → number (text ++ digits text) ≡ 100 * number text + (98 - (100 * number text) % 97)
 unfolding digits
 number-digits text = rw (number-zeros text) (number-two_digits text (98 - (100 * number text) % 97) (omega arith))
-
-number-nil : number [] ≡ 0
-unfolding number
-number-nil = refl
 
 -- the digits as a number of their own
 pub number-own_digits : (text : List ℕ) → number (digits text) ≡ 98 - (100 * number text) % 97
@@ -77,3 +73,13 @@ IsValid-digits text len all =
 pub digits-value : (text : List ℕ) (r : ℕ) → r ≡ number text % 97 → two_digits (98 - r * 100 % 97) ≡ digits text
 unfolding digits
 digits-value text r e = rw (number-zeros text) (ap (λ k. two_digits (98 - k)) (omega arith))
+
+-- the same of what is made
+pub IsValid-made : (text made : List ℕ) → length text ≡ 18 → IsWellFormed text → made ≡ digits text → IsValid (text ++ made)
+IsValid-made text made len all e = rw e (IsValid-digits text len all)
+
+pub made_at_least_2 : (text : List ℕ) (r : ℕ) → r ≡ number text % 97 → 2 ≤ number (two_digits (98 - r * 100 % 97))
+made_at_least_2 text r e = rw (digits-value text r e) (at_least_2 text)
+
+pub made_at_most_98 : (text : List ℕ) (r : ℕ) → r ≡ number text % 97 → number (two_digits (98 - r * 100 % 97)) ≤ 98
+made_at_most_98 text r e = rw (digits-value text r e) (at_most_98 text)
