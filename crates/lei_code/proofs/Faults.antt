@@ -130,6 +130,9 @@ fault_of-character text Length len none = absurd none
 fault_of-character text (Character place) len wrong = fault_of-IsFault text (Character place) (len, wrong)
 fault_of-character text CheckDigits len none = absurd none
 
+-- the rules of `Lei::read`
+pub ruleset faults_of_codes = (fault_of-length, fault_of-check, fault_of-IsValid, fault_of-character)
+
 -- the computed fault of the first wrong character
 pub character_fault-at : (text : List ℕ) (fault : LeiFault) → IsCharacterFault text fault → character_fault text ≡ Some fault
 character_fault-at text Length none = absurd none

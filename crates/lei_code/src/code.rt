@@ -27,7 +27,7 @@ impl Model for Lei {
 
 impl Lei {
     /// Reads a code. The faults are looked for in the order of `LeiFault`.
-    #[tactic(auto, using(crate::proofs::Rules::faults_of_codes))]
+    #[tactic(auto, using(crate::proofs::Faults::faults_of_codes))]
     pub fn read(text: &[u8]) -> Result<Lei, LeiFault>
         ensures value { IfOk result (λ code. code ≡ text.now) }
         ensures valid { IsOk result ↔ IsValid text.now }

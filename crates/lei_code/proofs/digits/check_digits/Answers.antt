@@ -1,6 +1,5 @@
 use Rattle.std.proofs.Common.{arith}
-use Rattle.lei_code.proofs.Rules.{made_digits}
-use Rattle.lei_code.proofs.Made.{IsValid-made}
+use Rattle.lei_code.proofs.Made.{IsValid-made, made_digits}
 use Rattle.lei_code.proofs.digits.check_digits.Goals as goal
 
 pub returns-clause-valid : goal.returns-clause-valid
