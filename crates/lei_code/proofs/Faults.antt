@@ -1,7 +1,8 @@
 -- The first wrong place as a search finds it is the first wrong place, and the fault that is computed is the fault.
-use Rattle.std.proofs.Common.{◌≡◌, ℕ, ◌+◌, ◌%◌, ◌<◌, ◌≤◌, ◌⊎◌, inl, inr, Bool, true, false, not, cond, zero, suc, List, length, Option, None, Some, MatchOption, refl, ap, arith, subst}
+use Rattle.std.proofs.Common.{◌≡◌, ◌≢◌, ℕ, ◌+◌, ◌%◌, ◌<◌, ◌≤◌, ◌⊎◌, inl, inr, Bool, true, false, not, cond, zero, suc, List, length, Option, None, Some, MatchOption, refl, ap, arith, subst}
 use Rattle.std.specs.Prelude.{find}
 use Rattle.std.specs.List.{range_with_len}
+use Rattle.std.specs.Option.{option_map}
 use Rattle.std.proofs.lemmas.Bool.{cases_lt, cases_eq}
 use Rattle.std.proofs.lemmas.Bool.Decides.{nat_tests}
 use Rattle.lei_code.specs.declared.fault.LeiFault.{LeiFault}
@@ -116,14 +117,40 @@ IsValid-from_fault_of text e =
       | inr w ↦ (let some = fault_of-IsFault text w.0 w.1 in cc)
     ]
 
+-- the fault in each case, as a reader finds it
+pub fault_of-length : (text : List ℕ) → length text ≢ 20 → fault_of text ≡ Some Length
+fault_of-length text = fault_of-IsFault text Length
+
+pub fault_of-check : (text : List ℕ) → length text ≡ 20 → IsWellFormed text → number text % 97 ≢ 1 → fault_of text ≡ Some CheckDigits
+fault_of-check text len all other = fault_of-IsFault text CheckDigits (len, all, other)
+
 -- the fault of a text of 20 characters whose first wrong character is found
 pub fault_of-character : (text : List ℕ) (fault : LeiFault) → length text ≡ 20 → IsCharacterFault text fault → fault_of text ≡ Some fault
 fault_of-character text Length len none = absurd none
 fault_of-character text (Character place) len wrong = fault_of-IsFault text (Character place) (len, wrong)
 fault_of-character text CheckDigits len none = absurd none
 
+-- the rules of `Lei::read`
+pub ruleset faults_of_codes = (fault_of-length, fault_of-check, fault_of-IsValid, fault_of-character)
+
 -- the computed fault of the first wrong character
 pub character_fault-at : (text : List ℕ) (fault : LeiFault) → IsCharacterFault text fault → character_fault text ≡ Some fault
 character_fault-at text Length none = absurd none
 character_fault-at text (Character place) wrong = rw (first_wrong-found text place wrong)
 character_fault-at text CheckDigits none = absurd none
+
+-- and back
+pub IsCharacterFault-from_character_fault : (text : List ℕ) (fault : LeiFault) → character_fault text ≡ Some fault → IsCharacterFault text fault
+IsCharacterFault-from_character_fault text fault e = from_found text fault _ (first_wrong-tells text) e where
+  from_found : (text : List ℕ) (fault : LeiFault) (o : Option ℕ) → MatchOption o (IsWellFormed text) (IsFirstWrong text) → option_map Character o ≡ Some fault → IsCharacterFault text fault
+  from_found text fault None all e = cc
+  from_found text fault (Some place) wrong e = let eq : Character place ≡ fault = cc in subst (IsCharacterFault text) eq wrong
+
+pub IsWellFormed-from_character_fault : (text : List ℕ) → character_fault text ≡ None → IsWellFormed text
+IsWellFormed-from_character_fault text e = from_none text _ (first_wrong-tells text) e where
+  from_none : (text : List ℕ) (o : Option ℕ) → MatchOption o (IsWellFormed text) (IsFirstWrong text) → option_map Character o ≡ None → IsWellFormed text
+  from_none text None all e = all
+  from_none text (Some place) wrong e = cc
+
+pub character_fault-none : (text : List ℕ) → IsWellFormed text → character_fault text ≡ None
+character_fault-none text all = rw (first_wrong-none text all)

@@ -1,4 +1,5 @@
 pub mod Numbers
 pub mod Places
+pub mod Remainders
 pub mod Faults
 pub mod Made

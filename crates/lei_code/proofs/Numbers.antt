@@ -1,5 +1,5 @@
 -- How the number of a text grows by a character, and what that does to its remainder by 97.
-use Rattle.std.proofs.Common.{◌≡◌, ℕ, ◌+◌, ◌-◌, ◌*◌, ◌/◌, ◌%◌, ◌<◌, ◌≤◌, List, [], ◌∷◌, ◌++◌, length, get_or, take, fold, ◌∙◌, arith}
+use Rattle.std.proofs.Common.{◌≡◌, ℕ, ◌+◌, ◌-◌, ◌*◌, ◌/◌, ◌%◌, ◌<◌, ◌≤◌, List, [], ◌∷◌, ◌++◌, length, get_or, take, fold, refl, ◌∙◌, arith}
 use Rattle.std.proofs.lemmas.Bool.Decides.{nat_tests}
 use Rattle.std.proofs.lemmas.Grind.{flat_map-append, fold-append}
 use Rattle.std.proofs.lemmas.List.{take_more}
@@ -15,6 +15,10 @@ spelled-letter c low high = grind (arith, nat_tests)
 number-push : (text : List ℕ) (c : ℕ) → number (text ++ c ∷ []) ≡ fold (λ n digit. 10 * n + digit) (number text) (spelled c ++ [])
 unfolding number
 number-push text c = simp (flat_map-append, fold-append)
+
+pub number-nil : number [] ≡ 0
+unfolding number
+number-nil = refl
 
 pub number-digit : (text : List ℕ) (c : ℕ) → 48 ≤ c → c ≤ 57 → number (text ++ c ∷ []) ≡ 10 * number text + (c - 48)
 number-digit text c low high = number-push text c ∙ rw spelled-digit

@@ -32,12 +32,12 @@ below_ascii : (place c : ℕ) → IsTrue (may_stand place c) → c < 128
 below_ascii place c stands = grind (arith, nat_tests)
 
 -- a code is ASCII
-pub IsAscii-code : (text : List ℕ) → IsWellFormed text → IsAscii text
-IsAscii-code text all i =
+pub code_is_ascii : (text : List ℕ) → IsWellFormed text → IsAscii text
+code_is_ascii text all i =
     elim (cases_lt i (length text)) [
       | inl h ↦ (let at : (i + 1) - 1 ≡ i = omega arith in let stands = all.each (i + 1) (omega arith) (omega arith) in below_ascii (i + 1) _ (rw at at stands))
       | inr h ↦ rw (get_or_past text i 0 h) (omega arith)
     ]
 
-pub IsUtf8-code : (text : List ℕ) → IsValid text → IsUtf8 text
-IsUtf8-code text valid = IsUtf8-from_ascii text (IsAscii-code text valid.characters)
+pub code_is_utf8 : (text : List ℕ) → IsValid text → IsUtf8 text
+code_is_utf8 text valid = IsUtf8-from_ascii text (code_is_ascii text valid.characters)

@@ -1,7 +1,8 @@
 -- What is wrong with a text that is no code: as a relation, and as the first fault, which computes.
-use Rattle.std.specs.Prelude.{◌≡◌, ◌≢◌, ℕ, ◌%◌, ◌<◌, ◌≤◌, not, List, length, IsTrue, Option, None, Some, find, if◌then◌else◌, ◌==◌}
+use Rattle.std.specs.Prelude.{◌≡◌, ◌≢◌, ℕ, ◌%◌, ◌<◌, ◌≤◌, not, List, length, IsTrue, Option, None, Some, find, if◌then◌else◌, ◌==◌, ◌++◌, codes}
+use Rattle.std.specs.Fmt.{decimal}
 use Rattle.std.specs.List.{range_with_len}
-use Rattle.std.specs.Option.{option_map, option_map_or}
+use Rattle.std.specs.Option.{option_map, option_or}
 use Rattle.lei_code.specs.declared.fault.LeiFault.{LeiFault}
 use Rattle.lei_code.specs.declared.fault.LeiFault.TheVariants.{Length, Character, CheckDigits}
 use Rattle.lei_code.specs.Number.{number}
@@ -34,8 +35,16 @@ first_wrong text = find (λ place. not (may_stand place (character text place)))
 abbrev pub character_fault : List ℕ → Option LeiFault
 character_fault text = option_map Character (first_wrong text)
 
+-- the fault of wrong check digits
+abbrev pub check_fault : List ℕ → Option LeiFault
+check_fault text = if number text % 97 == 1 then None else Some CheckDigits
+
 -- the fault of a text, and none of a code
 unfoldable pub fault_of : List ℕ → Option LeiFault
-fault_of text = if length text == 20
-    then option_map_or (λ place. Some (Character place)) (first_wrong text) (if number text % 97 == 1 then None else Some CheckDigits)
-    else Some Length
+fault_of text = if length text == 20 then option_or (character_fault text) (check_fault text) else Some Length
+
+-- the words that a fault is told in
+abbrev pub fault_text : LeiFault → List ℕ
+fault_text Length = codes "a code has 20 characters"
+fault_text (Character place) = codes "the character at place " ++ decimal place ++ codes " may not stand there"
+fault_text CheckDigits = codes "the check digits are wrong"

@@ -27,6 +27,7 @@ impl Model for Lei {
 
 impl Lei {
     /// Reads a code. The faults are looked for in the order of `LeiFault`.
+    #[tactic(auto, using(crate::proofs::Faults::faults_of_codes))]
     pub fn read(text: &[u8]) -> Result<Lei, LeiFault>
         ensures value { IfOk result (λ code. code ≡ text.now) }
         ensures valid { IsOk result ↔ IsValid text.now }
@@ -62,6 +63,7 @@ impl Lei {
     }
 
     /// The 20 characters, lent as text.
+    #[tactic(auto, using(crate::proofs::Places::code_is_utf8))]
     pub fn as_str(&self) -> &str
         ensures value { result.now ≡ self.now }
         ensures valid { IsValid self.now }

@@ -10,6 +10,7 @@ use crate::fault::LeiFault;
 use crate::remainder::remainder_of;
 
 /// The two check digits of a code's first 18 characters. Its one fault is `Character`.
+#[tactic(auto, using(crate::proofs::Made::made_digits))]
 pub fn check_digits(text: &[u8; 18]) -> Result<[u8; 2], LeiFault>
     ensures value { IfOk result (λ made. made ≡ digits text.now) }
     ensures well_formed { IsOk result ↔ IsWellFormed text.now }

@@ -1,3 +1,6 @@
+ghost use Rattle.std.specs.Prelude.{Some};
+ghost use Rattle.lei_code.specs.Fault.{fault_text};
+
 use std::error::Error;
 use std::fmt;
 
@@ -13,6 +16,8 @@ pub enum LeiFault {
 }
 
 impl fmt::Display for LeiFault {
+    ghost output = { λ fault. Some (fault_text fault) };
+
     fn fmt<W: fmt::Write>(&self, f: &mut fmt::Formatter<W>) -> fmt::Result {
         match self {
             LeiFault::Length => write!(f, "a code has 20 characters"),

@@ -4,8 +4,12 @@
 pub mod code;
 pub mod digits;
 pub mod fault;
+pub mod laws;
 mod remainder;
 
 pub use code::Lei;
 pub use digits::check_digits;
 pub use fault::LeiFault;
+
+#[cfg(test)]
+mod tests;

@@ -6,6 +6,7 @@ ghost use Rattle.lei_code.specs.Fault.{IsCharacterFault};
 use crate::fault::LeiFault;
 
 /// The remainder by 97 of a text's number, read byte by byte, or its first wrong character.
+#[tactic(auto, using(crate::proofs::Remainders::remainder_steps))]
 pub fn remainder_of(text: &[u8]) -> Result<u32, LeiFault>
     requires { length text.now < 256 }
     ensures remainder { IfOk result (λ remainder. remainder ≡ number text.now % 97) }

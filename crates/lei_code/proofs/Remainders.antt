@@ -1,0 +1,6 @@
+-- What one more byte does to the remainder and to what was found of the places.
+use Rattle.lei_code.proofs.Numbers.{number-nil, next_digit, next_letter}
+use Rattle.lei_code.proofs.Places.{may_stand-digit, may_stand-letter, well_formed_more}
+
+-- the rules of `remainder_of`
+pub ruleset remainder_steps = (number-nil, next_digit, next_letter, may_stand-digit, may_stand-letter, well_formed_more)
