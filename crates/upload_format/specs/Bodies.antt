@@ -11,7 +11,6 @@ use Rattle.upload_format.specs.declared.fault.UploadFault.{UploadFault}
 use Rattle.upload_format.specs.declared.fault.UploadFault.TheVariants as faults
 use Rattle.upload_format.specs.declared.item.RawItem.{RawItem}
 use Rattle.upload_format.specs.declared.item.RawItem.TheVariants.{Record}
-use Rattle.upload_format.specs.declared.item.TheConstants.{MAX_ITEMS}
 
 -- The value of the bytes: they are UTF-8, and JSON. A name that an object repeats has its last value.
 unfoldable pub value_of : List ℕ → Option Data
@@ -47,9 +46,9 @@ is_list_name name = bytes_eq name (codes "records")
 abbrev pub items_of : Data → Option (List RawItem)
 items_of value = option_and_then (λ members. if list_all is_list_name (member_names members) then listed (get_member (codes "records") members) else None) (as_object value)
 
--- from 1 to MAX_ITEMS items
+-- from 1 to 5,000 items
 abbrev pub counted : List RawItem → Result (List RawItem) Malformed
-counted items = if length items == 0 then Err NoItems else (if nat_lt MAX_ITEMS (length items) then Err TooManyItems else Ok items)
+counted items = if length items == 0 then Err NoItems else (if nat_lt 5000 (length items) then Err TooManyItems else Ok items)
 
 abbrev pub of_items : Option (List RawItem) → Result (List RawItem) Malformed
 of_items None = Err NotAnUpload

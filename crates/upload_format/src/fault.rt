@@ -5,16 +5,20 @@ use std::alloc::{AllocError, AllocFailed};
 use std::error::Error;
 use std::fmt;
 
-/// What is wrong with a body: the first of these that applies. This project's profile.
+/// What is wrong with a body: the first of these that applies, in this order. The order and the four faults are
+/// this project's profile.
 #[derive(Clone, Copy, Debug, PartialEq, Eq)]
 pub enum Malformed {
-    /// The bytes are no JSON text, or no UTF-8.
+    /// The bytes are no JSON text by RFC 8259, or none that `serde_json` reads: they are no UTF-8, begin with a byte
+    /// order mark, nest deeper than 127 levels, or have a number too large for a double or half of a surrogate pair,
+    /// also where the value would be dropped.
     NotJson,
-    /// The value isn't an object of lists of objects of texts, or has another member than those of an upload.
+    /// The value isn't an object, has another member than `records`, `records` isn't a list of objects, or a value
+    /// in one of them isn't a text.
     NotAnUpload,
-    /// It lists no item.
+    /// The body lists no item: `records` is absent or empty.
     NoItems,
-    /// It lists more than [`MAX_ITEMS`](crate::MAX_ITEMS) items.
+    /// The body lists more than [`MAX_ITEMS`](crate::MAX_ITEMS) items.
     TooManyItems,
 }
 
@@ -34,7 +38,9 @@ impl Error for Malformed {}
 /// Why a body wasn't read.
 #[derive(Clone, Copy, Debug, PartialEq, Eq)]
 pub enum UploadFault {
+    /// The body is no upload. The same bytes have the same fault each time.
     Malformed(Malformed),
+    /// Memory ran out, which says nothing of the body.
     NoMemory,
 }
 

@@ -4,6 +4,8 @@
 mod fault;
 mod item;
 mod reading;
+#[cfg(test)]
+mod tests;
 
 pub use fault::{Malformed, UploadFault};
 pub use item::{Fields, MAX_ITEMS, RawItem, Upload};

@@ -11,7 +11,8 @@ use lei_outside::{List, Text};
 use serde_json::{Map, Value};
 use std::alloc::Global;
 
-/// Reads the body of an upload. A repeated name in an object has its last value.
+/// Reads the body of an upload, an RFC 8259 text with a list `records` of objects of texts. A repeated name in an
+/// object has its last value. Names, texts and the list move out of the JSON value and aren't copied.
 #[tactic(auto, unfolding(crate::specs::Bodies::upload))]
 pub fn read_upload(alloc: Global, body: &[u8]) -> Result<Upload, UploadFault>
     ensures { Gives (λ read. read.items) result (upload body.now) }

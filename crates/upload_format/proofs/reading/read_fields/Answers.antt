@@ -1,4 +1,4 @@
-use Rattle.std.proofs.Common.{rules, sym, ap, ◌∙◌, refl}
+use Rattle.std.proofs.Common.{sym, ap, ◌∙◌}
 use Rattle.serde_json.specs.View.{members_view}
 use Rattle.upload_format.specs.Bodies.{fields_of}
 use Rattle.upload_format.proofs.Loops.{with_front, with_front-end, fields_step, rising_fields}
