@@ -3,27 +3,16 @@ use Rattle.std.proofs.Common.{◌≡◌, ℕ, ◌+◌, ◌<◌, ◌≤◌, List,
 use Rattle.std.proofs.lemmas.List.{append-nil, take-append-le, take-append-drop, take_more}
 use Rattle.std.proofs.lemmas.List.Concat.{flat_map-append}
 use Rattle.std.proofs.Math.Seq.{take-append-add}
+use Rattle.lei_outside.proofs.Told.{Grows-none, Grows-join}
 use Rattle.lei_outside.specs.Told.{Grows, TakesFront}
 use Rattle.leireg.specs.Outbox.{Sends, Puts}
-
-pub Grows-trans : (a b c : Option (List ℕ)) (xs ys : List ℕ) → Grows a b xs → Grows b c ys → Grows a c (xs ++ ys)
-Grows-trans None None None xs ys first second = tt
-Grows-trans None None (Some c) xs ys first second = absurd second
-Grows-trans None (Some b) c xs ys first second = absurd first
-Grows-trans (Some a) None c xs ys first second = absurd first
-Grows-trans (Some a) (Some b) None xs ys first second = absurd second
-Grows-trans (Some a) (Some b) (Some c) xs ys first second = second ∙ (ap (λ zs. zs ++ ys) first ∙ append_assoc a xs ys)
 
 pub Grows-front : (a b c : Option (List ℕ)) (xs ys : List ℕ) → Grows a b xs → TakesFront b c ys → TakesFront a c (xs ++ ys)
 Grows-front a b c xs ys first front =
     let n = front.0 in
     let within : length xs + n < length (xs ++ ys) = omega (arith, length-append xs ys, front.1) in
     let P : List ℕ → Type 0 = λ zs. Grows a c zs in
-    (length xs + n, within, subst P (sym (take-append-add xs ys n)) (Grows-trans a b c xs (take n ys) first front.2))
-
-pub Grows-nothing : (a : Option (List ℕ)) → Grows a a []
-Grows-nothing None = tt
-Grows-nothing (Some a) = sym (append-nil a)
+    (length xs + n, within, subst P (sym (take-append-add xs ys n)) (Grows-join a b c xs (take n ys) first front.2))
 
 -- a front of a list is a front of a longer one
 pub TakesFront-longer : (a c : Option (List ℕ)) (xs ys : List ℕ) → TakesFront a c xs → TakesFront a c (xs ++ ys)
@@ -36,7 +25,7 @@ TakesFront-longer a c xs ys front =
 
 pub Sends-then : (a b c : Option (List ℕ)) (all waits piece more : List ℕ) → Sends a b all waits → Sends b c (waits ++ piece) more → Sends a c (all ++ piece) more
 Sends-then a b c all waits piece more first second =
-    (first.0 ++ second.0, Grows-trans a b c first.0 second.0 first.1 second.1,
+    (first.0 ++ second.0, Grows-join a b c first.0 second.0 first.1 second.1,
       ap (λ xs. xs ++ piece) first.2 ∙ (append_assoc first.0 waits piece ∙ (ap (λ xs. first.0 ++ xs) second.2 ∙ sym (append_assoc first.0 second.0 more))))
 
 pub Sends-front : (a b c : Option (List ℕ)) (all waits piece : List ℕ) → Sends a b all waits → TakesFront b c (waits ++ piece) → TakesFront a c (all ++ piece)
@@ -49,7 +38,7 @@ Puts-then a b c all waits piece more (Ok x) first second = Sends-then a b c all 
 Puts-then a b c all waits piece more (Err e) first second = Sends-front a b c all waits piece first second
 
 pub Sends-nothing : (a : Option (List ℕ)) (waits : List ℕ) → Sends a a waits waits
-Sends-nothing a waits = ([], Grows-nothing a, refl)
+Sends-nothing a waits = ([], Grows-none a, refl)
 
 -- ---- pieces one after another
 

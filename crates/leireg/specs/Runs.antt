@@ -1,0 +1,35 @@
+-- What a run over lines has done.
+use Rattle.std.specs.Prelude.{◌≡◌, ℕ, List, [], ◌∷◌, ◌++◌, length, take, ◌==◌, if◌then◌else◌}
+use Rattle.lei_office.specs.declared.reply.Reply.{Reply}
+use Rattle.lei_office.specs.declared.request.Asked.{Asked}
+use Rattle.lei_office.specs.History.{History}
+use Rattle.lei_office.specs.Legal.{Session}
+use Rattle.leireg.specs.Requests.{asked}
+use Rattle.leireg.specs.Replies.{reply_text, reply_texts}
+
+-- what lines ask, in order. An empty line asks nothing.
+abbrev pub asks_of : List (List ℕ) → List Asked
+asks_of [] = []
+asks_of (line ∷ others) = if length line == 0 then asks_of others else asked line ∷ asks_of others
+
+-- Some replies answer what the lines ask, from one history to the other, and these bytes are their texts in order.
+pub record Answers (old : History) (asked_lines : List (List ℕ)) (written : List ℕ) (new : History) : Type 0 where
+  pub replies : List Reply
+  pub session : Session old (asks_of asked_lines) replies new
+  pub texts : written ≡ reply_texts replies
+
+-- the texts of replies in order, of the last one a front
+abbrev pub AreTextsOf : List Reply → List ℕ → Type 0
+AreTextsOf [] written = written ≡ []
+AreTextsOf (reply ∷ []) written = (n : ℕ) × (written ≡ take n (reply_text reply))
+AreTextsOf (reply ∷ next ∷ replies) written = (rest : List ℕ) × (written ≡ reply_text reply ++ rest) × AreTextsOf (next ∷ replies) rest
+
+-- Some replies answer what a front of the lines asks, and these bytes are their texts, of the last one a front.
+pub record AnswersFront (all : List (List ℕ)) (written : List ℕ) : Type 0 where
+  pub answered : List (List ℕ)
+  pub left : List (List ℕ)
+  pub parts : all ≡ answered ++ left
+  pub replies : List Reply
+  pub history : History
+  pub session : Session [] (asks_of answered) replies history
+  pub texts : AreTextsOf replies written
