@@ -3,6 +3,7 @@
 
 mod outbox;
 pub mod requests;
+mod window;
 
 fn main() {
     let _ = requests::MAX_LINE;
