@@ -15,6 +15,7 @@ mod verdict;
 
 pub use check::{Check, Detail};
 pub use fields::{FIELDS, Shape};
+pub use office::Office;
 pub use ledger::{ACCREDIT, RULES, UPLOAD};
 pub use record::{Readied, Record, ready};
 pub use reply::{Kind, Refusal, Reply};

@@ -1,3 +1,5 @@
 pub mod Numbers
 pub mod Sending
 pub mod Running
+pub mod Filling
+pub mod Asking

@@ -2,3 +2,4 @@ pub mod Requests
 pub mod Replies
 pub mod Outbox
 pub mod Runs
+pub mod Window

@@ -1,9 +1,10 @@
 -- What a run over lines has done.
-use Rattle.std.specs.Prelude.{◌≡◌, ℕ, List, [], ◌∷◌, ◌++◌, length, take, ◌==◌, if◌then◌else◌}
+use Rattle.std.specs.Prelude.{◌≡◌, ℕ, List, [], ◌∷◌, ◌++◌, length, take, ◌==◌, if◌then◌else◌, Option, Result}
 use Rattle.lei_office.specs.declared.reply.Reply.{Reply}
 use Rattle.lei_office.specs.declared.request.Asked.{Asked}
 use Rattle.lei_office.specs.History.{History}
 use Rattle.lei_office.specs.Legal.{Session}
+use Rattle.leireg.specs.Outbox.{Puts}
 use Rattle.leireg.specs.Requests.{asked}
 use Rattle.leireg.specs.Replies.{reply_text, reply_texts}
 
@@ -33,3 +34,9 @@ pub record AnswersFront (all : List (List ℕ)) (written : List ℕ) : Type 0 wh
   pub history : History
   pub session : Session [] (asks_of answered) replies history
   pub texts : AreTextsOf replies written
+
+-- Lines were answered, and the texts of their replies were put behind what waited: all of them are taken or wait, or
+-- the sink refused and took a front of them.
+abbrev pub AnswersAndPuts : {T E : Type 0} → History → List (List ℕ) → History → Option (List ℕ) → Option (List ℕ) → List ℕ → Result T E → List ℕ → Type 0
+AnswersAndPuts old asked_lines new taken taken_now waited result waits =
+    (texts : List ℕ) × Answers old asked_lines texts new × Puts taken taken_now (waited ++ texts) result waits
