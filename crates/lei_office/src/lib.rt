@@ -15,8 +15,8 @@ mod verdict;
 
 pub use check::{Check, Detail};
 pub use fields::{FIELDS, Shape};
-pub use office::Office;
 pub use ledger::{ACCREDIT, RULES, UPLOAD};
+pub use office::Office;
 pub use record::{Readied, Record, ready};
 pub use reply::{Kind, Refusal, Reply};
 pub use request::{Asked, Call, MAX_BODY, MAX_NUMBER, Request};

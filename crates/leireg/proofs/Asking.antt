@@ -1,18 +1,19 @@
 -- What a line's request, refusal or want of memory does to a history.
 use Rattle.std.proofs.Common.{◌≡◌, ℕ, ◌≤◌, List, [], ◌∷◌, ◌++◌, length, Option, Some, None, Bool, true, false, cond, eqb, leb, ltb, ◌&&◌, ◌⊎◌, inl, inr, refl, sym, ap, ◌∙◌, subst, arith, bytes_eq, codes, decimal}
-use Rattle.std.proofs.lemmas.Bool.Decides.{nat_tests}
+use Rattle.std.proofs.lemmas.List.{append-nil}
 use Rattle.std.specs.Option.{option_and_then, option_map}
-use Rattle.lei_office.specs.declared.request.TheConstants.{MAX_NUMBER}
 use Rattle.lei_office.specs.declared.request.Request.{Request}
 use Rattle.lei_office.specs.declared.request.Request.TheVariants.{Accredit, Upload}
 use Rattle.lei_office.specs.declared.request.Asked.{Asked}
 use Rattle.lei_office.specs.declared.request.Asked.TheVariants.{Ask, Refuse}
-use Rattle.lei_office.specs.declared.reply.Refusal.TheVariants.{NoMemory}
+use Rattle.lei_office.specs.declared.reply.Refusal.TheVariants.{TooLong, NoRoute, NoMemory}
 use Rattle.lei_office.specs.declared.reply.Reply.{Reply}
 use Rattle.lei_office.specs.declared.reply.Reply.TheVariants.{Words}
 use Rattle.lei_office.specs.History.{History}
-use Rattle.lei_office.specs.Legal.{AskStep, IsNumbered}
-use Rattle.leireg.specs.Requests.{asked, asked_in, asked_by, or_path, upload_of, accreditation_of, number_of, plain_number, IsUpload}
+use Rattle.lei_office.specs.Legal.{AskStep, Session, IsNumbered}
+use Rattle.leireg.specs.declared.requests.TheConstants.{MAX_LINE}
+use Rattle.leireg.proofs.Numbers.{number_of-range}
+use Rattle.leireg.specs.Requests.{asked, asked_in, asked_by, or_path, cut, code_of, upload_of, accreditation_of, number_of, IsUpload}
 use Rattle.leireg.specs.Replies.{reply_text}
 use Rattle.leireg.specs.Runs.{Answers}
 
@@ -26,9 +27,41 @@ abbrev pub AsksInRange : Asked → Type 0
 AsksInRange (Refuse refusal) = Unit {0}
 AsksInRange (Ask request) = IsNumbered request
 
+bind_range : {A : Type 0} (o : Option A) (f : A → Option Request) → ((x : A) → o ≡ Some x → AsksInRange (or_path (f x))) → AsksInRange (or_path (option_and_then f o))
+bind_range None f each = tt
+bind_range (Some x) f each = each x refl
+
+upload_range : (rest : List ℕ) → AsksInRange (or_path (upload_of rest))
+unfolding upload_of
+upload_range rest =
+    bind_range (cut rest) _ (λ first _. bind_range (cut first.1) _ (λ second _. bind_range (code_of first.0) _ (λ office _. bind_range (number_of second.0) _ (λ number is. number_of-range second.0 number is))))
+
+accreditation_range : (code : Option (List ℕ)) → AsksInRange (or_path (option_map Accredit code))
+accreditation_range None = tt
+accreditation_range (Some office) = tt
+
+by_range : (word : List ℕ) (rest : Option (List ℕ)) → AsksInRange (asked_by word rest)
+unfolding asked_by
+by_range word rest =
+    elim (bytes_eq word (codes "ACCREDIT")) as (λ b. AsksInRange (cond b (or_path (option_and_then accreditation_of rest)) (cond (bytes_eq word (codes "UPLOAD")) (or_path (option_and_then upload_of rest)) (Refuse NoRoute)))) [
+      true ↦ bind_range rest accreditation_of (λ r _. accreditation_range (code_of r))
+    | false ↦ elim (bytes_eq word (codes "UPLOAD")) as (λ b. AsksInRange (cond b (or_path (option_and_then upload_of rest)) (Refuse NoRoute))) [
+        true ↦ bind_range rest upload_of (λ r _. upload_range r)
+      | false ↦ tt
+      ]
+    ]
+
+cut_range : (line : List ℕ) (parts : Option (List ℕ × List ℕ)) → AsksInRange (asked_in line parts)
+cut_range line None = by_range line None
+cut_range line (Some parts) = by_range parts.0 (Some parts.1)
+
 pub in_range : (line : List ℕ) → AsksInRange (asked line)
-in_range line = ?
+unfolding asked
+in_range line =
+    elim (ltb MAX_LINE (length line)) as (λ b. AsksInRange (cond b (Refuse TooLong) (asked_in line (cut line)))) [ true ↦ tt | false ↦ cut_range line (cut line) ]
 
 -- one line's reply is its run
 pub Answers-one : (old new : History) (line : List ℕ) (reply : Reply) → eqb (length line) 0 ≡ false → AskStep old (asked line) reply new → Answers old (line ∷ []) (reply_text reply) new
-Answers-one old new line reply is step = ?
+Answers-one old new line reply is step =
+    let S : Bool → Type 0 = λ b. Session old (cond b [] (asked line ∷ [])) (reply ∷ []) new in
+    record { replies = reply ∷ []; session = subst S (sym is) (new, step, refl); texts = sym (append-nil (reply_text reply)) }

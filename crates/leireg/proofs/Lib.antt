@@ -3,3 +3,4 @@ pub mod Sending
 pub mod Running
 pub mod Filling
 pub mod Asking
+pub mod LineLemmas

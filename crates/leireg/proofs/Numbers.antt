@@ -61,3 +61,18 @@ number_of-other bytes number parsed never =
     let read : found ≡ Ok n = parse-decimal 32 n bytes found (omega arith) (omega arith) is parsed in
     let same : number ≡ n = cc in
     never (omega arith) (omega arith) (is ∙ ap decimal (sym same)))
+
+chosen : (test : Bool) (v n : ℕ) → cond test (Some v) None ≡ Some n → (test ≡ true) × (v ≡ n)
+chosen true v n is = (refl, cc)
+chosen false v n is = cc
+
+pub number_of-range : (bytes : List ℕ) (n : ℕ) → number_of bytes ≡ Some n → (1 ≤ n) × (n ≤ MAX_NUMBER)
+unfolding number_of
+number_of-range bytes n is =
+    let v = digits_value 10 bytes in
+    let found = chosen (leb 1 v && leb v MAX_NUMBER && bytes_eq (decimal v) bytes) v n is in
+    let parts = parts_of (leb 1 v) (leb v MAX_NUMBER) (bytes_eq (decimal v) bytes) found.0 in
+    let low : 1 ≤ v = grind (arith, nat_tests, parts.0) in
+    let high : v ≤ MAX_NUMBER = grind (arith, nat_tests, parts.1) in
+    let same = found.1 in
+    (omega arith, omega arith)

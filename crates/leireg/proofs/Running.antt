@@ -1,16 +1,23 @@
 -- Runs over lines: how they are joined, and what a sink has of one that it stopped.
-use Rattle.std.proofs.Common.{◌≡◌, ℕ, suc, ◌+◌, ◌-◌, ◌<◌, ◌≤◌, List, [], ◌∷◌, ◌++◌, length, take, drop, flat_map, Bool, true, false, cond, eqb, leb, ◌⊎◌, inl, inr, refl, sym, ap, ◌∙◌, subst, append_assoc, arith, length-append}
-use Rattle.std.proofs.lemmas.List.{append-nil, take-append-le}
+use Rattle.std.proofs.Common.{◌≡◌, ℕ, suc, ◌+◌, ◌-◌, ◌<◌, ◌≤◌, List, [], ◌∷◌, ◌++◌, length, take, drop, flat_map, Bool, true, false, cond, eqb, leb, ◌⊎◌, inl, inr, Option, Some, None, Result, Ok, Err, IsErr, refl, sym, ap, ◌∙◌, subst, append_assoc, arith, length-append}
+use Rattle.std.proofs.lemmas.List.{append-nil, take-append-le, take-append-drop, drop-drop}
 use Rattle.std.proofs.lemmas.List.Concat.{flat_map-append}
-use Rattle.std.proofs.Math.Seq.{take-append-add, take-length, take-nil}
+use Rattle.std.proofs.Math.Seq.{take-add, take-append-add, take-length, take-nil}
 use Rattle.std.proofs.lemmas.Bool.Decides.{nat_tests}
+use Rattle.std.specs.Str.Lines.{lines}
+use Rattle.memchr.specs.Find.{IsFirstByte, is_byte}
+use Rattle.lei_outside.specs.declared.faults.SinkFault.{SinkFault}
 use Rattle.lei_office.specs.declared.reply.Reply.{Reply}
 use Rattle.lei_office.specs.declared.request.Asked.{Asked}
 use Rattle.lei_office.specs.History.{History}
 use Rattle.lei_office.specs.Legal.{AskStep, Session}
 use Rattle.leireg.specs.Requests.{asked}
 use Rattle.leireg.specs.Replies.{reply_text, reply_texts}
-use Rattle.leireg.specs.Runs.{asks_of, Answers, AreTextsOf, AnswersFront}
+use Rattle.leireg.specs.Runs.{asks_of, Answers, AreTextsOf, AnswersFront, AnswersAndPuts, AnswersWhole}
+use Rattle.leireg.specs.Lines.{IsClosed, HasNoEnd, Ends, line_of}
+use Rattle.leireg.specs.Outbox.{Sends, Puts}
+use Rattle.leireg.proofs.LineLemmas.{lines-more, HasNoEnd-nil, HasNoEnd-append, HasNoEnd-before, HasNoEnd-unfound, cut_at_end}
+use Rattle.leireg.proofs.Sending.{Sends-nothing, Puts-then}
 
 pub Session-join : (old mid new : History) (asks more : List Asked) (replies others : List Reply) → Session old asks replies mid → Session mid more others new
     → Session old (asks ++ more) (replies ++ others) new
@@ -145,3 +152,87 @@ AnswersFront-of all more texts new n run =
       session = front.session;
       texts = front.texts;
     }
+
+-- ---- whole lines that were answered, with nothing refused
+
+pub record Answered (old : History) (bytes : List ℕ) (new : History) (taken taken_now : Option (List ℕ)) (waited waits : List ℕ) : Type 0 where
+  pub closed : IsClosed bytes
+  pub texts : List ℕ
+  pub run : Answers old (lines bytes) texts new
+  pub sent : Sends taken taken_now (waited ++ texts) waits
+
+pub Answered-nothing : (old : History) (taken : Option (List ℕ)) (waits : List ℕ) → Answered old [] old taken taken waits waits
+Answered-nothing old taken waits =
+    let S : List ℕ → Type 0 = λ all. Sends taken taken all waits in
+    record { closed = inl refl; texts = []; run = Answers-nothing old; sent = subst S (sym (append-nil waits)) (Sends-nothing taken waits) }
+
+-- a line more that ended, whatever the sink did with its reply
+regrouped : (front part after : List ℕ) → front ++ ((part ++ 10 ∷ []) ++ after) ≡ ((front ++ part) ++ 10 ∷ []) ++ after
+regrouped front part after =
+    sym (append_assoc front (part ++ 10 ∷ []) after) ∙ ap (λ xs. xs ++ after) (sym (append_assoc front part (10 ∷ [])))
+
+pub line_more : {T E : Type 0} (old mid new : History) (front part : List ℕ) (a b c : Option (List ℕ)) (waited waits more : List ℕ) (result : Result T E) → Answered old front mid a b waited waits
+    → HasNoEnd part → AnswersAndPuts mid (line_of part ∷ []) new b c waits result more → AnswersAndPuts old (lines ((front ++ part) ++ 10 ∷ [])) new a c waited result more
+line_more old mid new front part a b c waited waits more result before none line = (
+  before.texts ++ line.0,
+  (let A : List (List ℕ) → Type 0 = λ ls. Answers old ls (before.texts ++ line.0) new in
+  subst A (sym (lines-more front part before.closed none)) (Answers-join old mid new (lines front) (line_of part ∷ []) before.texts line.0 before.run line.1)),
+  (let P : List ℕ → Type 0 = λ all. Puts a c all result more in
+  subst P (append_assoc waited before.texts line.0) (Puts-then a b c (waited ++ before.texts) waits line.0 more result before.sent line.2)),
+)
+
+-- the state of a walk over a block: the lines in front were answered, and the rest has no end up to where it was seen
+pub record Walked (block : List ℕ) (old : History) (rest : List ℕ) (seen : ℕ) (new : History) (taken taken_now : Option (List ℕ)) (waited waits : List ℕ) : Type 0 where
+  pub front : List ℕ
+  pub parts : block ≡ front ++ rest
+  pub answered : Answered old front new taken taken_now waited waits
+  pub within : seen ≤ length rest
+  pub unseen : HasNoEnd (take seen rest)
+
+pub next_end : (rest : List ℕ) (seen at : ℕ) → seen ≤ length rest → HasNoEnd (take seen rest) → IsFirstByte (is_byte 10) (drop seen rest) (Some at)
+    → Ends rest (take (seen + at) rest) (drop (seen + at + 1) rest)
+next_end rest seen at within unseen found =
+    let behind = drop seen rest in
+    let part : take (seen + at) rest ≡ take seen rest ++ take at behind = take-add seen at rest in
+    let place : seen + at + 1 ≡ seen + (at + 1) = omega arith in
+    let after : drop (seen + at + 1) rest ≡ drop (at + 1) behind = ap (λ n. drop n rest) place ∙ sym (drop-drop (at + 1) seen rest) in
+    let N : List ℕ → Type 0 = λ xs. HasNoEnd xs in
+    record {
+      parts = sym (take-append-drop seen rest) ∙ (ap (λ xs. take seen rest ++ xs) (cut_at_end behind at found) ∙ (regrouped (take seen rest) (take at behind) (drop (at + 1) behind)
+      ∙ (ap (λ xs. (xs ++ 10 ∷ []) ++ drop (at + 1) behind) (sym part) ∙ ap (λ xs. (take (seen + at) rest ++ 10 ∷ []) ++ xs) (sym after))));
+      none = subst N (sym part) (HasNoEnd-append (take seen rest) (take at behind) unseen (HasNoEnd-before behind at found));
+    }
+
+pub no_end : (rest : List ℕ) (seen : ℕ) → HasNoEnd (take seen rest) → IsFirstByte (is_byte 10) (drop seen rest) None → HasNoEnd rest
+no_end rest seen unseen nowhere =
+    let N : List ℕ → Type 0 = λ xs. HasNoEnd xs in
+    subst N (take-append-drop seen rest) (HasNoEnd-append (take seen rest) (drop seen rest) unseen (HasNoEnd-unfound (drop seen rest) nowhere))
+
+-- a step of the walk that the sink let go on
+pub walk_on : (block : List ℕ) (old mid new : History) (rest part after : List ℕ) (seen : ℕ) (a b c : Option (List ℕ)) (waited waits more : List ℕ) → Walked block old rest seen mid a b waited waits → Ends rest part after
+    → AnswersAndPuts {T = Unit {0}} {E = SinkFault} mid (line_of part ∷ []) new b c waits (Ok (tt {0})) more → Walked block old after 0 new a c waited more
+walk_on block old mid new rest part after seen a b c waited waits more walked ends line =
+    let next = line_more {T = Unit {0}} {E = SinkFault} old mid new walked.front part a b c waited waits more (Ok (tt {0})) walked.answered ends.none line in
+    record {
+      front = (walked.front ++ part) ++ 10 ∷ [];
+      parts = walked.parts ∙ (ap (λ xs. walked.front ++ xs) ends.parts ∙ regrouped walked.front part after);
+      answered = record { closed = inr (walked.front ++ part, refl); texts = next.0; run = next.1; sent = next.2 };
+      within = omega arith;
+      unseen = HasNoEnd-nil;
+    }
+
+-- a step that the sink stopped
+pub walk_stops : (block : List ℕ) (old mid new : History) (rest part after : List ℕ) (seen : ℕ) (a b c : Option (List ℕ)) (waited waits more : List ℕ) (fault : SinkFault) (result : Result ℕ SinkFault)
+    → IsErr result → Walked block old rest seen mid a b waited waits → Ends rest part after → AnswersAndPuts {T = Unit {0}} mid (line_of part ∷ []) new b c waits (Err fault) more
+    → AnswersWhole old block new a c waited result more
+walk_stops block old mid new rest part after seen a b c waited waits more fault (Ok used) failed walked ends line = cc
+walk_stops block old mid new rest part after seen a b c waited waits more fault (Err other) failed walked ends line =
+    ((walked.front ++ part) ++ 10 ∷ [], after, walked.parts ∙ (ap (λ xs. walked.front ++ xs) ends.parts ∙ regrouped walked.front part after), inr (walked.front ++ part, refl),
+      line_more {T = Unit {0}} {E = SinkFault} old mid new walked.front part a b c waited waits more (Err other) walked.answered ends.none line, tt)
+
+-- the walk's end
+pub walk_ends : (block : List ℕ) (old new : History) (rest : List ℕ) (seen : ℕ) (a b : Option (List ℕ)) (waited waits : List ℕ) → Walked block old rest seen new a b waited waits
+    → HasNoEnd rest → AnswersWhole {E = SinkFault} old block new a b waited (Ok (length block - length rest)) waits
+walk_ends block old new rest seen a b waited waits walked none =
+    let answered = walked.answered in
+    (walked.front, rest, walked.parts, answered.closed, (answered.texts, answered.run, answered.sent), (omega (arith, ap length walked.parts, length-append walked.front rest), none))

@@ -3,3 +3,4 @@ pub mod Replies
 pub mod Outbox
 pub mod Runs
 pub mod Window
+pub mod Lines

@@ -1,9 +1,11 @@
 -- What a run over lines has done.
-use Rattle.std.specs.Prelude.{◌≡◌, ℕ, List, [], ◌∷◌, ◌++◌, length, take, ◌==◌, if◌then◌else◌, Option, Result}
+use Rattle.std.specs.Prelude.{◌≡◌, ℕ, List, [], ◌∷◌, ◌++◌, length, take, ◌==◌, if◌then◌else◌, Option, Result, IfOk}
 use Rattle.lei_office.specs.declared.reply.Reply.{Reply}
 use Rattle.lei_office.specs.declared.request.Asked.{Asked}
 use Rattle.lei_office.specs.History.{History}
 use Rattle.lei_office.specs.Legal.{Session}
+use Rattle.std.specs.Str.Lines.{lines}
+use Rattle.leireg.specs.Lines.{IsClosed, HasNoEnd}
 use Rattle.leireg.specs.Outbox.{Puts}
 use Rattle.leireg.specs.Requests.{asked}
 use Rattle.leireg.specs.Replies.{reply_text, reply_texts}
@@ -40,3 +42,10 @@ pub record AnswersFront (all : List (List ℕ)) (written : List ℕ) : Type 0 wh
 abbrev pub AnswersAndPuts : {T E : Type 0} → History → List (List ℕ) → History → Option (List ℕ) → Option (List ℕ) → List ℕ → Result T E → List ℕ → Type 0
 AnswersAndPuts old asked_lines new taken taken_now waited result waits =
     (texts : List ℕ) × Answers old asked_lines texts new × Puts taken taken_now (waited ++ texts) result waits
+
+-- The whole lines in front of a block were answered so. Where nothing was refused, they are all of its whole lines, and
+-- the result is how many bytes they take.
+abbrev pub AnswersWhole : {E : Type 0} → History → List ℕ → History → Option (List ℕ) → Option (List ℕ) → List ℕ → Result ℕ E → List ℕ → Type 0
+AnswersWhole old block new taken taken_now waited result waits =
+    (front : List ℕ) × (rest : List ℕ) × (block ≡ front ++ rest) × IsClosed front × AnswersAndPuts old (lines front) new taken taken_now waited result waits
+    × IfOk result (λ used. (used ≡ length front) × HasNoEnd rest)

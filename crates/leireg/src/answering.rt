@@ -1,15 +1,17 @@
 //! Lines that are answered.
-ghost use Rattle.std.specs.Prelude.{◌≤◌, [], ◌∷◌, IsErrOf};
+ghost use Rattle.std.specs.Prelude.{◌≡◌, ◌≤◌, ◌<◌, ◌+◌, [], ◌∷◌, length, take, drop, IfSome, IfNone, IsErrOf};
 ghost use Rattle.lei_outside.specs.Count.{Rose};
 ghost use Rattle.lei_office.specs.Legal.{AskStep};
+ghost use Rattle.leireg.specs.Lines.{HasNoEnd, Ends, line_of};
 ghost use Rattle.leireg.specs.Requests.{asked};
-ghost use Rattle.leireg.specs.Runs.{AnswersAndPuts};
+ghost use Rattle.leireg.specs.Runs.{AnswersAndPuts, AnswersWhole};
 
 use crate::outbox::Outbox;
 use crate::requests::line_request;
 use crate::writing::put_reply;
 use lei_office::{Asked, Office, Refusal, Reply};
 use lei_outside::{NoMemory, Sink, SinkFault};
+use memchr::memchr;
 use std::alloc::Global;
 
 // The reply to a line that isn't empty.
@@ -40,4 +42,54 @@ pub fn answer_line<W: Sink>(
     }
     let reply = reply_to(alloc, office, line);
     put_reply(outbox, out, &reply)
+}
+
+// The line that has these bytes before its LF: one CR at their end belongs to the end of the line.
+fn line_of(part: &[u8]) -> &[u8]
+    ensures { result.now ≡ line_of part.now }
+{
+    match part {
+        [line @ .., b'\r'] => line,
+        _ => part,
+    }
+}
+
+// Where the next line ends, if the first `seen` bytes have no line's end.
+fn next_end(rest: &[u8], seen: usize) -> Option<usize>
+    requires within { seen ≤ length rest.now }
+    requires seen { HasNoEnd (take seen rest.now) }
+    ensures found { IfSome result (λ end. Ends rest.now (take end rest.now) (drop (end + 1) rest.now)) }
+    ensures within { IfSome result (λ end. end < length rest.now) }
+    ensures none { IfNone result (HasNoEnd rest.now) }
+{
+    let (_, unseen) = rest.split_at(seen);
+    match memchr(b'\n', unseen) {
+        Some(at) => Some(seen + at),
+        None => None,
+    }
+}
+
+/// Answers each whole line of a block, of which the first `seen` bytes have no line's end, and says how many bytes
+/// these lines take.
+pub fn answer_lines<W: Sink>(
+    alloc: Global,
+    office: &mut Office,
+    block: &[u8],
+    mut seen: usize,
+    outbox: &mut Outbox,
+    out: &mut W,
+) -> Result<usize, SinkFault>
+    requires within { seen ≤ length block.now }
+    requires seen { HasNoEnd (take seen block.now) }
+    ensures answered { AnswersWhole office.old block.now office.new (W.taken out.old) (W.taken out.new) outbox.old result outbox.new }
+    ensures count { W.faults out.old ≤ W.faults out.new }
+    ensures failed { IsErrOf result SinkFault.Failed → Rose (W.faults out.old) (W.faults out.new) }
+{
+    let mut rest = block;
+    while let Some(end) = next_end(rest, seen) {
+        answer_line(alloc, office, line_of(&rest[..end]), outbox, out)?;
+        (_, rest) = rest.split_at(end + 1);
+        seen = 0;
+    }
+    Ok(block.len() - rest.len())
 }

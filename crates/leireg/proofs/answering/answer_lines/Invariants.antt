@@ -1,0 +1,15 @@
+use Rattle.std.proofs.Common.{◌≤◌, ◌+◌, length}
+use Rattle.leireg.proofs.Running.{Walked}
+use Rattle.leireg.proofs.answering.answer_lines.Given as goal
+
+abbrev pub invariant-loop-end : goal.invariant-loop-end
+invariant-loop-end g l =
+    let taken = g.W.Sink.taken in
+    let faults = g.W.Sink.faults in
+    record {
+      walked : Walked l.block l.fn.office l.rest l.seen l.office (taken l.fn.out) (taken l.out) l.fn.outbox l.outbox;
+      count : faults l.fn.out ≤ faults l.out;
+    }
+
+abbrev pub decreases-loop-end : goal.decreases-loop-end
+decreases-loop-end g l = length l.rest
