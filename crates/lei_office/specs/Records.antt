@@ -15,7 +15,7 @@ use Rattle.lei_office.specs.declared.fields.Shape.{Shape}
 use Rattle.lei_office.specs.declared.record.Record.{Record}
 use Rattle.lei_office.specs.declared.record.Readied.{Readied}
 use Rattle.lei_office.specs.declared.record.Readied.TheVariants.{Good, Bad}
-use Rattle.lei_office.specs.Fields.{fields, fits, is_code_shape}
+use Rattle.lei_office.specs.Fields.{fields, fits, is_code, is_code_shape}
 
 -- the text that an item has under a name: the empty text where the field is absent
 abbrev pub text_of : List (List ℕ × List ℕ) → List ℕ → List ℕ
@@ -34,9 +34,13 @@ is_missing pairs field = length (text_of pairs field.0) == 0
 abbrev pub is_misshapen : List (List ℕ × List ℕ) → List ℕ × Shape → Bool
 is_misshapen pairs field = not (is_missing pairs field) && not (fits field.1 (text_of pairs field.0))
 
--- a code's number leaves another remainder than 1 by 97
+-- a text of a code's shape whose number leaves another remainder than 1 by 97
+abbrev pub has_other_remainder : List ℕ → Bool
+has_other_remainder text = is_code text && not (number text % 97 == 1)
+
+-- a field that is to be a code has wrong check digits
 abbrev pub has_wrong_digits : List (List ℕ × List ℕ) → List ℕ × Shape → Bool
-has_wrong_digits pairs field = is_code_shape field.1 && not (number (text_of pairs field.0) % 97 == 1)
+has_wrong_digits pairs field = is_code_shape field.1 && has_other_remainder (text_of pairs field.0)
 
 -- ---- the checks, each with the name that it finds
 
