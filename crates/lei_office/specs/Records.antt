@@ -1,6 +1,9 @@
 -- Whether an item that was sent is a record: its checks, each a sentence over its fields, and the record that it is.
-use Rattle.std.specs.Prelude.{◌≡◌, ℕ, ◌%◌, List, ◌∷◌, ◌++◌, length, if◌then◌else◌, codes, Bool, not, ◌&&◌, ◌==◌, find, Option, Some, None, option_map, unwrap_or}
+use Rattle.std.specs.Prelude.{◌≡◌, ◌≢◌, ℕ, ◌%◌, List, ◌∷◌, ◌++◌, length, Contains, IsTrue, if◌then◌else◌, codes, Bool, not, ◌&&◌, ◌==◌, find, Option, Some, None, option_map, unwrap_or}
+use Rattle.std.specs.Cmp.Lexicographic.{slice_cmp}
 use Rattle.std.specs.Option.{option_or}
+use Rattle.std.specs.Ordering.{nat_cmp}
+use Rattle.std.specs.declared.cmp.Ordering.TheVariants.{Less}
 use Rattle.std.specs.List.{list_any}
 use Rattle.std.specs.Map.{lookup}
 use Rattle.std.specs.Str.{bytes_eq}
@@ -47,6 +50,12 @@ has_wrong_digits pairs field = is_code_shape field.1 && has_other_remainder (tex
 -- C01: the first name that is no field's. Names rise in byte order, so it is the least.
 abbrev pub unknown_name : List (List ℕ × List ℕ) → Option (List ℕ)
 unknown_name pairs = find (λ name. not (is_field name)) (names pairs)
+
+-- The name is no field's, and none that is no field's is below it in byte order.
+pub record IsLeastUnknown (pairs : List (List ℕ × List ℕ)) (name : List ℕ) : Type 0 where
+  pub stands : Contains (names pairs) name
+  pub unknown : ¬ (IsTrue (is_field name))
+  pub least : (other : List ℕ) → Contains (names pairs) other → ¬ (IsTrue (is_field other)) → slice_cmp nat_cmp other name ≢ Less
 
 -- C02, C03, C04: the first field by place of which the check's question is true
 abbrev pub first_field : (List ℕ × Shape → Bool) → Option (List ℕ)

@@ -1,6 +1,7 @@
-ghost use Rattle.std.specs.Prelude.{◌≡◌, IfOk, None};
+ghost use Rattle.std.specs.Prelude.{◌≡◌, ℕ, List, Contains, IsTrue, IfOk, IfSome, None};
 ghost use Rattle.std.specs.Option.{option_copied};
-ghost use Rattle.lei_office.specs.Records.{text_of, is_field, is_missing, is_misshapen, has_other_remainder, has_wrong_digits, unknown_name, first_field, failed_check, field_check, record_of, readied, ready as ready_of};
+ghost use Rattle.upload_format.specs.Names.{names, AreRising};
+ghost use Rattle.lei_office.specs.Records.{IsLeastUnknown, text_of, is_field, is_missing, is_misshapen, has_other_remainder, has_wrong_digits, unknown_name, first_field, failed_check, field_check, record_of, readied, ready as ready_of};
 
 use crate::check::{CHECK_DIGITS, Check, Detail, FIELD_MISSING, FIELD_SHAPE, FIELD_UNKNOWN};
 use crate::fields::{Shape, record_fields};
@@ -30,6 +31,15 @@ pub fn ready(alloc: Global, raw: &RawItem) -> Result<Readied, NoMemory>
     let RawItem::Record(fields) = raw;
     by_names(alloc, fields.as_slice())
 }
+
+/// Says that the unknown name which the checks name, the first one, is the least in byte order, since
+/// the names of an item rise; and that there is none where each name is a field's.
+pub fn least_unknown_name()
+    ensures least { (pairs : List (List ℕ × List ℕ)) → AreRising pairs
+        → IfSome (unknown_name pairs) (IsLeastUnknown pairs) }
+    ensures all_known { (pairs : List (List ℕ × List ℕ)) → unknown_name pairs ≡ None
+        → (name : List ℕ) → Contains (names pairs) name → IsTrue (is_field name) }
+{}
 
 #[tactic(auto, unfolding(crate::specs::Records::failed_check))]
 fn by_names(alloc: Global, pairs: &[(Text, Text)]) -> Result<Readied, NoMemory>
@@ -181,3 +191,6 @@ fn text_of<'a>(pairs: &'a [(Text, Text)], name: &str) -> &'a str
     }
     ""
 }
+
+#[cfg(test)]
+mod tests;
