@@ -2,3 +2,4 @@ pub mod Tables
 pub mod Judging
 pub mod Answering
 pub mod Histories
+pub mod RecordLemmas

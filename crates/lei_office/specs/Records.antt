@@ -1,6 +1,9 @@
 -- Whether an item that was sent is a record: its checks, each a sentence over its fields, and the record that it is.
-use Rattle.std.specs.Prelude.{◌≡◌, ℕ, ◌%◌, List, ◌∷◌, ◌++◌, length, if◌then◌else◌, codes, Bool, not, ◌&&◌, ◌==◌, find, Option, Some, None, option_map, unwrap_or}
+use Rattle.std.specs.Prelude.{◌≡◌, ◌≢◌, ℕ, ◌%◌, List, ◌∷◌, ◌++◌, length, Contains, IsTrue, if◌then◌else◌, codes, Bool, not, ◌&&◌, ◌==◌, find, Option, Some, None, option_map, unwrap_or}
+use Rattle.std.specs.Cmp.Lexicographic.{slice_cmp}
 use Rattle.std.specs.Option.{option_or}
+use Rattle.std.specs.Ordering.{nat_cmp}
+use Rattle.std.specs.declared.cmp.Ordering.TheVariants.{Less}
 use Rattle.std.specs.List.{list_any}
 use Rattle.std.specs.Map.{lookup}
 use Rattle.std.specs.Str.{bytes_eq}
@@ -15,7 +18,7 @@ use Rattle.lei_office.specs.declared.fields.Shape.{Shape}
 use Rattle.lei_office.specs.declared.record.Record.{Record}
 use Rattle.lei_office.specs.declared.record.Readied.{Readied}
 use Rattle.lei_office.specs.declared.record.Readied.TheVariants.{Good, Bad}
-use Rattle.lei_office.specs.Fields.{fields, fits, is_code_shape}
+use Rattle.lei_office.specs.Fields.{fields, fits, is_code, is_code_shape}
 
 -- the text that an item has under a name: the empty text where the field is absent
 abbrev pub text_of : List (List ℕ × List ℕ) → List ℕ → List ℕ
@@ -34,15 +37,25 @@ is_missing pairs field = length (text_of pairs field.0) == 0
 abbrev pub is_misshapen : List (List ℕ × List ℕ) → List ℕ × Shape → Bool
 is_misshapen pairs field = not (is_missing pairs field) && not (fits field.1 (text_of pairs field.0))
 
--- a code's number leaves another remainder than 1 by 97
+-- a text of a code's shape whose number leaves another remainder than 1 by 97
+abbrev pub has_other_remainder : List ℕ → Bool
+has_other_remainder text = is_code text && not (number text % 97 == 1)
+
+-- a field that is to be a code has wrong check digits
 abbrev pub has_wrong_digits : List (List ℕ × List ℕ) → List ℕ × Shape → Bool
-has_wrong_digits pairs field = is_code_shape field.1 && not (number (text_of pairs field.0) % 97 == 1)
+has_wrong_digits pairs field = is_code_shape field.1 && has_other_remainder (text_of pairs field.0)
 
 -- ---- the checks, each with the name that it finds
 
 -- C01: the first name that is no field's. Names rise in byte order, so it is the least.
 abbrev pub unknown_name : List (List ℕ × List ℕ) → Option (List ℕ)
 unknown_name pairs = find (λ name. not (is_field name)) (names pairs)
+
+-- The name is no field's, and none that is no field's is below it in byte order.
+pub record IsLeastUnknown (pairs : List (List ℕ × List ℕ)) (name : List ℕ) : Type 0 where
+  pub stands : Contains (names pairs) name
+  pub unknown : ¬ (IsTrue (is_field name))
+  pub least : (other : List ℕ) → Contains (names pairs) other → ¬ (IsTrue (is_field other)) → slice_cmp nat_cmp other name ≢ Less
 
 -- C02, C03, C04: the first field by place of which the check's question is true
 abbrev pub first_field : (List ℕ × Shape → Bool) → Option (List ℕ)

@@ -17,7 +17,7 @@ pub use check::{Check, Detail};
 pub use fields::{FIELDS, Shape};
 pub use ledger::{ACCREDIT, RULES, UPLOAD};
 pub use office::Office;
-pub use record::{Readied, Record, ready};
+pub use record::{Readied, Record, least_unknown_name, ready};
 pub use reply::{Kind, Refusal, Reply};
 pub use request::{Asked, Call, MAX_BODY, MAX_NUMBER, Request};
 pub use verdict::Verdict;

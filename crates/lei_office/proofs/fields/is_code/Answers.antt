@@ -1,0 +1,12 @@
+use Rattle.std.proofs.Common.{◌≡◌, rules, sym, ap, ◌∙◌}
+use Rattle.lei_code.specs.Fault.{fault_of}
+use Rattle.lei_office.proofs.RecordLemmas.{sound_code, digits_or_shape, is_digits_fault}
+use Rattle.lei_office.proofs.fields.is_code.Goals as goal
+
+pub returns-in-Ok : goal.returns-in-Ok
+returns-in-Ok c = sym (sound_code c.args.text.now (c.in-Ok.ensures.computed ∙ ap fault_of c.as_bytes.ensures.value)).0
+
+pub returns-in-Err : goal.returns-in-Err
+returns-in-Err c =
+    let asked : c.eq.result ≡ is_digits_fault c.in-Err.fault = search rules in
+    asked ∙ digits_or_shape c.in-Err.fault c.args.text.now (c.in-Err.ensures.computed ∙ ap fault_of c.as_bytes.ensures.value)
