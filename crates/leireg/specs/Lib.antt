@@ -2,3 +2,4 @@ pub mod Requests
 pub mod Replies
 pub mod Outbox
 pub mod Window
+pub mod Lines

@@ -1,0 +1,30 @@
+-- The lines of bytes. A line ends at LF, the byte 10, or at the end of the bytes, and one CR, the byte 13, before the
+-- LF belongs to the end: std's `lines` lists them. Behind the last LF stands no line where there is no byte.
+use Rattle.std.specs.Prelude.{◌≡◌, ◌≢◌, ℕ, ◌⊎◌, ◌==◌, Bool, List, [], ◌∷◌, ◌++◌, if◌then◌else◌}
+use Rattle.std.specs.List.{All, list_any}
+use Rattle.std.specs.Str.Lines.{strip_carriage_return}
+
+-- no byte ends a line
+abbrev pub HasNoEnd : List ℕ → Type 0
+HasNoEnd bytes = All (λ byte. byte ≢ 10) bytes
+
+-- these are whole lines with their ends: there is no byte, or the last is LF
+abbrev pub IsClosed : List ℕ → Type 0
+IsClosed bytes = (bytes ≡ []) ⊎ ((before : List ℕ) × (bytes ≡ before ++ 10 ∷ []))
+
+-- the line that has these bytes before its LF
+abbrev pub line_of : List ℕ → List ℕ
+line_of part = strip_carriage_return part
+
+abbrev pub has_end : List ℕ → Bool
+has_end bytes = list_any (λ byte. byte == 10) bytes
+
+-- the bytes up to the last LF, with it
+unfoldable pub whole_part : List ℕ → List ℕ
+whole_part [] = []
+whole_part (byte ∷ bytes) = if has_end (byte ∷ bytes) then byte ∷ whole_part bytes else []
+
+-- the bytes behind the last LF
+unfoldable pub last_part : List ℕ → List ℕ
+last_part [] = []
+last_part (byte ∷ bytes) = if has_end (byte ∷ bytes) then last_part bytes else byte ∷ bytes
