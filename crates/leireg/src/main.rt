@@ -3,6 +3,7 @@
 
 mod outbox;
 pub mod requests;
+mod streams;
 mod window;
 
 fn main() {
