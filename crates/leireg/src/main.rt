@@ -1,6 +1,8 @@
 //! The program of the register.
 #![tactic(auto)]
 
+#[cfg(test)]
+mod fakes;
 mod outbox;
 pub mod requests;
 mod streams;

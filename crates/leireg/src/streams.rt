@@ -136,3 +136,6 @@ fn write_once<W: Write>(writer: &mut W, piece: &[u8]) -> Option<usize>
     }
     None
 }
+
+#[cfg(test)]
+mod tests;
