@@ -2,10 +2,13 @@
 #![tactic(auto)]
 
 mod answering;
+#[cfg(test)]
+mod fakes;
 mod outbox;
 pub mod requests;
-mod writing;
+mod streams;
 mod window;
+mod writing;
 
 fn main() {
     let _ = requests::MAX_LINE;

@@ -82,3 +82,6 @@ fn append(held: &mut Vec<u8>, piece: &[u8])
         Err(_) => unreachable!(),
     }
 }
+
+#[cfg(test)]
+mod tests;

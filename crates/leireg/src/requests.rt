@@ -153,3 +153,6 @@ fn upload_asked(alloc: Global, rest: Option<&[u8]>) -> Result<Asked, NoMemory>
         None => Ok(Asked::Refuse(Refusal::Path)),
     }
 }
+
+#[cfg(test)]
+mod tests;

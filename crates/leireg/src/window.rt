@@ -86,3 +86,6 @@ fn buffer(alloc: Global) -> Result<Vec<u8>, NoMemory>
 {
     Ok(vec![in alloc; 0u8; WINDOW]?)
 }
+
+#[cfg(test)]
+mod tests;
