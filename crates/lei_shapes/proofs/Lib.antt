@@ -1,1 +1,3 @@
+pub mod ClockLemmas
 pub mod ListLemmas
+pub mod MomentLemmas

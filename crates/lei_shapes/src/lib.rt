@@ -3,8 +3,12 @@
 #![tactic(auto)]
 
 mod lists;
+mod moments;
+mod shapes;
 
 pub use lists::{
     Category, EntityStatus, ExceptionCategory, Reason, RecordStatus, RelationRegistration,
     RelationStatus, RelationType, Validation,
 };
+pub use moments::Moment;
+pub use shapes::{Shape, fits};

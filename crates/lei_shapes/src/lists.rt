@@ -305,8 +305,12 @@ impl ExceptionCategory {
         ensures value { result ≡ exception_category_of text.now }
     {
         match text {
-            "DIRECT_ACCOUNTING_CONSOLIDATION_PARENT" => Some(ExceptionCategory::DirectAccountingConsolidationParent),
-            "ULTIMATE_ACCOUNTING_CONSOLIDATION_PARENT" => Some(ExceptionCategory::UltimateAccountingConsolidationParent),
+            "DIRECT_ACCOUNTING_CONSOLIDATION_PARENT" => Some(
+                ExceptionCategory::DirectAccountingConsolidationParent,
+            ),
+            "ULTIMATE_ACCOUNTING_CONSOLIDATION_PARENT" => Some(
+                ExceptionCategory::UltimateAccountingConsolidationParent,
+            ),
             _ => None,
         }
     }
@@ -316,8 +320,10 @@ impl ExceptionCategory {
         ensures { result.now ≡ exception_category_text self }
     {
         match self {
-            ExceptionCategory::DirectAccountingConsolidationParent => "DIRECT_ACCOUNTING_CONSOLIDATION_PARENT",
-            ExceptionCategory::UltimateAccountingConsolidationParent => "ULTIMATE_ACCOUNTING_CONSOLIDATION_PARENT",
+            ExceptionCategory::DirectAccountingConsolidationParent =>
+                "DIRECT_ACCOUNTING_CONSOLIDATION_PARENT",
+            ExceptionCategory::UltimateAccountingConsolidationParent =>
+                "ULTIMATE_ACCOUNTING_CONSOLIDATION_PARENT",
         }
     }
 }
@@ -378,4 +384,3 @@ impl Reason {
         }
     }
 }
-
