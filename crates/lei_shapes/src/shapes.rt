@@ -1,8 +1,8 @@
 //! The shapes that texts of fields have.
 ghost use Rattle.std.specs.Prelude.{◌≡◌, length, chars};
-ghost use Rattle.std.specs.Char.{is_control};
-ghost use Rattle.std.specs.List.{list_any};
-ghost use Rattle.lei_shapes.specs.Shape.{fits_shape, is_capital_or_digit as capital_or_digit, is_lang_byte as lang_byte, is_code as code, is_free as free, is_lang as lang, is_country as country, is_authority as authority, is_subdivision as subdivision, is_jurisdiction as jurisdiction, is_form as form};
+ghost use Rattle.std.specs.Char.{is_ascii_digit, is_control};
+ghost use Rattle.std.specs.List.{list_all, list_any};
+ghost use Rattle.lei_shapes.specs.Shape.{fits_shape, is_capital_or_digit, is_lang_byte, is_code as code, is_free as free, is_lang as lang, is_country as country, is_authority as authority, is_subdivision as subdivision, is_jurisdiction as jurisdiction, is_form as form};
 
 use crate::{
     Category, EntityStatus, ExceptionCategory, Moment, Reason, RecordStatus, RelationRegistration,
@@ -64,24 +64,32 @@ pub fn fits(shape: Shape, text: &str) -> bool
     }
 }
 
-fn is_capital_or_digit(b: &u8) -> bool
-    ensures { result ≡ capital_or_digit b.now }
+fn are_digits(text: &[u8]) -> bool
+    ensures { result ≡ list_all is_ascii_digit text.now }
 {
-    b.is_ascii_uppercase() || b.is_ascii_digit()
+    text.iter().all(|b| b.is_ascii_digit())
 }
 
-fn is_lang_byte(b: &u8) -> bool
-    ensures { result ≡ lang_byte b.now }
+fn are_capitals_or_digits(text: &[u8]) -> bool
+    ensures { result ≡ list_all is_capital_or_digit text.now }
 {
-    b.is_ascii_alphanumeric() || *b == b'-'
+    text.iter()
+        .all(|b| b.is_ascii_uppercase() || b.is_ascii_digit())
+}
+
+fn are_lang_bytes(text: &[u8]) -> bool
+    ensures { result ≡ list_all is_lang_byte text.now }
+{
+    text.iter()
+        .all(|b| b.is_ascii_alphanumeric() || *b == b'-')
 }
 
 fn is_code(text: &[u8]) -> bool
     ensures { result ≡ code text.now }
 {
     text.len() == 20
-        && text[..18].iter().all(|b| is_capital_or_digit(b))
-        && text[18..].iter().all(|b| b.is_ascii_digit())
+        && are_capitals_or_digits(&text[..18])
+        && are_digits(&text[18..])
 }
 
 fn is_free(text: &str) -> bool
@@ -105,7 +113,7 @@ fn has_control(text: &str) -> bool
 fn is_lang(text: &[u8]) -> bool
     ensures { result ≡ lang text.now }
 {
-    (1..=35).contains(&text.len()) && text.iter().all(|b| is_lang_byte(b))
+    (1..=35).contains(&text.len()) && are_lang_bytes(text)
 }
 
 fn is_country(text: &[u8]) -> bool
@@ -117,7 +125,7 @@ fn is_country(text: &[u8]) -> bool
 fn is_authority(text: &[u8]) -> bool
     ensures { result ≡ authority text.now }
 {
-    text.len() == 8 && text.starts_with(b"RA") && text[2..].iter().all(|b| b.is_ascii_digit())
+    text.len() == 8 && text.starts_with(b"RA") && are_digits(&text[2..])
 }
 
 fn is_jurisdiction(text: &[u8]) -> bool
@@ -133,7 +141,7 @@ fn is_subdivision(text: &[u8]) -> bool
     match text {
         [] => true,
         [b'-', code @ ..] => {
-            (1..=3).contains(&code.len()) && code.iter().all(|b| is_capital_or_digit(b))
+            (1..=3).contains(&code.len()) && are_capitals_or_digits(code)
         }
         _ => false,
     }
@@ -142,5 +150,5 @@ fn is_subdivision(text: &[u8]) -> bool
 fn is_form(text: &[u8]) -> bool
     ensures { result ≡ form text.now }
 {
-    text.len() == 4 && text.iter().all(|b| is_capital_or_digit(b))
+    text.len() == 4 && are_capitals_or_digits(text)
 }
