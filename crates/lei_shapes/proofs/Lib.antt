@@ -1,3 +1,4 @@
 pub mod ClockLemmas
 pub mod ListLemmas
 pub mod MomentLemmas
+pub mod ValueTexts

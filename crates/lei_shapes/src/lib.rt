@@ -2,10 +2,12 @@
 //! No call takes memory.
 #![tactic(auto)]
 
+mod laws;
 mod lists;
 mod moments;
 mod shapes;
 
+pub use laws::{moment_text_reads_back, value_texts_differ, value_texts_read_back};
 pub use lists::{
     Category, EntityStatus, ExceptionCategory, Reason, RecordStatus, RelationRegistration,
     RelationStatus, RelationType, Validation,
