@@ -16,8 +16,7 @@ ghost use Rattle.lei_shapes.specs.Clock.{moment_text};
 /// The text of a moment reads as that moment.
 pub fn moment_text_reads_back()
     ensures { (seconds : ℤ) → IsMoment seconds → read_moment (moment_text seconds) ≡ Some seconds }
-{
-}
+{}
 
 /// The text of each value of a list reads as that value.
 pub fn value_texts_read_back()
@@ -30,8 +29,7 @@ pub fn value_texts_read_back()
     ensures relation_registration { (value : RelationRegistration) → relation_registration_of (relation_registration_text value) ≡ Some value }
     ensures exception_category { (value : ExceptionCategory) → exception_category_of (exception_category_text value) ≡ Some value }
     ensures reason { (value : Reason) → reason_of (reason_text value) ≡ Some value }
-{
-}
+{}
 
 /// Two values of a list have two texts.
 pub fn value_texts_differ()
@@ -44,5 +42,4 @@ pub fn value_texts_differ()
     ensures relation_registration { (a b : RelationRegistration) → relation_registration_text a ≡ relation_registration_text b → a ≡ b }
     ensures exception_category { (a b : ExceptionCategory) → exception_category_text a ≡ exception_category_text b → a ≡ b }
     ensures reason { (a b : Reason) → reason_text a ≡ reason_text b → a ≡ b }
-{
-}
+{}

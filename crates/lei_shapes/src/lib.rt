@@ -14,3 +14,6 @@ pub use lists::{
 };
 pub use moments::Moment;
 pub use shapes::{Shape, fits};
+
+#[cfg(test)]
+mod tests;

@@ -80,16 +80,13 @@ fn are_capitals_or_digits(text: &[u8]) -> bool
 fn are_lang_bytes(text: &[u8]) -> bool
     ensures { result ≡ list_all is_lang_byte text.now }
 {
-    text.iter()
-        .all(|b| b.is_ascii_alphanumeric() || *b == b'-')
+    text.iter().all(|b| b.is_ascii_alphanumeric() || *b == b'-')
 }
 
 fn is_code(text: &[u8]) -> bool
     ensures { result ≡ code text.now }
 {
-    text.len() == 20
-        && are_capitals_or_digits(&text[..18])
-        && are_digits(&text[18..])
+    text.len() == 20 && are_capitals_or_digits(&text[..18]) && are_digits(&text[18..])
 }
 
 fn is_free(text: &str) -> bool
@@ -140,9 +137,7 @@ fn is_subdivision(text: &[u8]) -> bool
 {
     match text {
         [] => true,
-        [b'-', code @ ..] => {
-            (1..=3).contains(&code.len()) && are_capitals_or_digits(code)
-        }
+        [b'-', code @ ..] => { (1..=3).contains(&code.len()) && are_capitals_or_digits(code) }
         _ => false,
     }
 }
