@@ -1,6 +1,6 @@
 -- The lists of values. Each has one table, the text of every value, which is compared byte for byte, as in the
 -- Common Data File formats of the Global LEI System. What a text reads as follows from the table.
-use Rattle.std.specs.Prelude.{◌≡◌, ◌≢◌, ℕ, List, [], ◌∷◌, Option, MatchOption, find, bytes_eq, codes}
+use Rattle.std.specs.Prelude.{◌≡◌, ◌≢◌, ℕ, List, [], ◌∷◌, Option, Some, MatchOption, find, bytes_eq, codes}
 use Rattle.lei_shapes.specs.declared.lists.RecordStatus.{RecordStatus}
 use Rattle.lei_shapes.specs.declared.lists.RecordStatus.TheVariants as RecordStatus
 use Rattle.lei_shapes.specs.declared.lists.EntityStatus.{EntityStatus}
@@ -27,6 +27,14 @@ named text_of values text = find (λ v. bytes_eq (text_of v) text) values
 -- what a text reads as by a table: the value whose text it is, and none exactly where no value has this text
 abbrev pub IsReadBy : {V : Type 0} → (V → List ℕ) → List ℕ → Option V → Type 0
 IsReadBy {V} text_of text read = MatchOption read ((v : V) → text_of v ≢ text) (λ v. text_of v ≡ text)
+
+-- the text of each value reads as that value
+abbrev pub ReadsBack : {V : Type 0} → (V → List ℕ) → (List ℕ → Option V) → Type 0
+ReadsBack {V} text_of read = (value : V) → read (text_of value) ≡ Some value
+
+-- two values have two texts
+abbrev pub HasTextEach : {V : Type 0} → (V → List ℕ) → Type 0
+HasTextEach {V} text_of = (a b : V) → text_of a ≡ text_of b → a ≡ b
 
 -- the registration status of a record
 abbrev pub record_status_text : RecordStatus → List ℕ

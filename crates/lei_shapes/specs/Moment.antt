@@ -48,6 +48,10 @@ second_of_day seconds = unsigned_abs (int_rem_euclid seconds (pos 86_400))
 abbrev pub ShowsMoment : ℤ → DateTime → Type 0
 ShowsMoment seconds clock = civil_nanos clock ≡ nanos_of_seconds seconds
 
+-- there is such a clock
+abbrev pub IsShown : ℤ → Type 0
+IsShown seconds = (clock : DateTime) × ShowsMoment seconds clock
+
 -- the text is what `jiff` writes of the clock that shows the moment, with a `Z` for UTC
 pub record IsMomentText (seconds : ℤ) (text : List ℕ) : Type 0 where
   pub clock : DateTime

@@ -7,7 +7,7 @@ mod lists;
 mod moments;
 mod shapes;
 
-pub use laws::{moment_text_reads_back, value_texts_differ, value_texts_read_back};
+pub use laws::{moments_are_shown_and_read_back, value_texts_differ, value_texts_read_back};
 pub use lists::{
     Category, EntityStatus, ExceptionCategory, Reason, RecordStatus, RelationRegistration,
     RelationStatus, RelationType, Validation,

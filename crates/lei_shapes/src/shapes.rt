@@ -39,7 +39,7 @@ pub enum Shape {
     Reason,
 }
 
-/// Whether the text has the shape.
+/// Whether the text has the shape. Nothing is said of what the text means, as of check digits or of codes in use.
 pub fn fits(shape: Shape, text: &str) -> bool
     ensures { result ≡ fits_shape shape text.now }
 {
@@ -62,25 +62,6 @@ pub fn fits(shape: Shape, text: &str) -> bool
         Shape::ExceptionCategory => ExceptionCategory::read(text).is_some(),
         Shape::Reason => Reason::read(text).is_some(),
     }
-}
-
-fn are_digits(text: &[u8]) -> bool
-    ensures { result ≡ list_all is_ascii_digit text.now }
-{
-    text.iter().all(|b| b.is_ascii_digit())
-}
-
-fn are_capitals_or_digits(text: &[u8]) -> bool
-    ensures { result ≡ list_all is_capital_or_digit text.now }
-{
-    text.iter()
-        .all(|b| b.is_ascii_uppercase() || b.is_ascii_digit())
-}
-
-fn are_lang_bytes(text: &[u8]) -> bool
-    ensures { result ≡ list_all is_lang_byte text.now }
-{
-    text.iter().all(|b| b.is_ascii_alphanumeric() || *b == b'-')
 }
 
 fn is_code(text: &[u8]) -> bool
@@ -137,7 +118,7 @@ fn is_subdivision(text: &[u8]) -> bool
 {
     match text {
         [] => true,
-        [b'-', code @ ..] => { (1..=3).contains(&code.len()) && are_capitals_or_digits(code) }
+        [b'-', code @ ..] => (1..=3).contains(&code.len()) && are_capitals_or_digits(code),
         _ => false,
     }
 }
@@ -146,4 +127,23 @@ fn is_form(text: &[u8]) -> bool
     ensures { result ≡ form text.now }
 {
     text.len() == 4 && are_capitals_or_digits(text)
+}
+
+fn are_digits(text: &[u8]) -> bool
+    ensures { result ≡ list_all is_ascii_digit text.now }
+{
+    text.iter().all(|b| b.is_ascii_digit())
+}
+
+fn are_capitals_or_digits(text: &[u8]) -> bool
+    ensures { result ≡ list_all is_capital_or_digit text.now }
+{
+    text.iter()
+        .all(|b| b.is_ascii_uppercase() || b.is_ascii_digit())
+}
+
+fn are_lang_bytes(text: &[u8]) -> bool
+    ensures { result ≡ list_all is_lang_byte text.now }
+{
+    text.iter().all(|b| b.is_ascii_alphanumeric() || *b == b'-')
 }

@@ -1,7 +1,7 @@
 //! What the clauses say, held against the public standards and values that another program computed.
 use crate::{
     Category, EntityStatus, ExceptionCategory, Moment, Reason, RecordStatus, RelationRegistration,
-    RelationStatus, RelationType, Shape, Validation, fits, moment_text_reads_back,
+    RelationStatus, RelationType, Shape, Validation, fits, moments_are_shown_and_read_back,
     value_texts_differ, value_texts_read_back,
 };
 use std::alloc::{AllocError, Global};
@@ -50,7 +50,7 @@ fn moments_have_their_text_and_day(rt: HostRuntime) -> Result<(), Fail> {
         assert_eq!(rt; Moment::of(seconds), None, "at {seconds}");
     }
     assert!(rt; Moment::of(-1) < Moment::of(0));
-    moment_text_reads_back();
+    moments_are_shown_and_read_back();
     Ok(())
 }
 
