@@ -1,16 +1,11 @@
 -- The closed form of a date is the date of the calendar.
-use Rattle.std.proofs.Common.{◌≡◌, ℕ, ◌+◌, ◌-◌, ◌*◌, ◌/◌, ◌%◌, ◌<◌, ◌≤◌, nat_lt, true, false, cond, add-one, Bool, refl, sym, ap, ◌∙◌, arith, ℤ, pos, negsuc, neg_ℤ, ◌+ℤ◌, ◌≤ℤ◌, unsigned_abs}
+use Rattle.std.proofs.Common.{◌≡◌, ℕ, ◌+◌, ◌-◌, ◌*◌, ◌/◌, ◌%◌, ◌<◌, ◌≤◌, nat_lt, true, false, cond, add-one, Bool, refl, ap, ◌∙◌, arith, pos}
 use Rattle.std.proofs.lemmas.Bool.Decides.{nat_tests}
-use Rattle.jiff.specs.Words.{epoch_day}
-use Rattle.jiff_core.specs.Calendar.{day_count, days_from_civil, days_in_month, IsCivilDate}
-use Rattle.jiff_core.specs.March.{march_days, march_months}
-use Rattle.jiff_core.specs.declared.civil.date.Date.{Date}
+use Rattle.jiff_core.specs.Calendar.{day_count, IsCivilDate}
+use Rattle.jiff_core.specs.March.{march_days}
 use Rattle.jiff_core.proofs.SignedLemmas.{signed_arith}
 use Rattle.jiff_core.proofs.MarchLemmas.{leap_day, march_days-suc, day_count-late, day_count-early, month_and_day, day_in_month, day_in_early_month}
-use Rattle.jiff_core.proofs.CalendarLemmas.{days_from_civil-day_count}
-use Rattle.jiff_core.proofs.DateLemmas.{epoch_day_injective}
-use Rattle.lei_shapes.specs.Clock.{march_count, century, day_of_century, year_of_century, day_of_march_year, march_year, march_month, year_at, month_at, day_at}
-use borrow.Author.Differences.{up, down}
+use Rattle.lei_shapes.specs.Clock.{day_of_march_year, march_year, march_month, year_at, month_at, day_at}
 
 -- a day is in its March year, and less than a year from its start
 pub march_year_has : (n : ℕ) → n < 3_700_000 → (march_days (march_year n) + day_of_march_year n ≡ n) × (day_of_march_year n < 366) × (n < march_days (march_year n + 1))

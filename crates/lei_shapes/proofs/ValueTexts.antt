@@ -1,23 +1,14 @@
 -- Each value's text reads as that value, list by list.
 use Rattle.std.proofs.Common.{◌≡◌, Some, refl}
 use Rattle.lei_shapes.specs.declared.lists.RecordStatus.{RecordStatus}
-use Rattle.lei_shapes.specs.declared.lists.RecordStatus.TheVariants as RecordStatus
 use Rattle.lei_shapes.specs.declared.lists.EntityStatus.{EntityStatus}
-use Rattle.lei_shapes.specs.declared.lists.EntityStatus.TheVariants as EntityStatus
 use Rattle.lei_shapes.specs.declared.lists.Category.{Category}
-use Rattle.lei_shapes.specs.declared.lists.Category.TheVariants as Category
 use Rattle.lei_shapes.specs.declared.lists.Validation.{Validation}
-use Rattle.lei_shapes.specs.declared.lists.Validation.TheVariants as Validation
 use Rattle.lei_shapes.specs.declared.lists.RelationType.{RelationType}
-use Rattle.lei_shapes.specs.declared.lists.RelationType.TheVariants as RelationType
 use Rattle.lei_shapes.specs.declared.lists.RelationStatus.{RelationStatus}
-use Rattle.lei_shapes.specs.declared.lists.RelationStatus.TheVariants as RelationStatus
 use Rattle.lei_shapes.specs.declared.lists.RelationRegistration.{RelationRegistration}
-use Rattle.lei_shapes.specs.declared.lists.RelationRegistration.TheVariants as RelationRegistration
 use Rattle.lei_shapes.specs.declared.lists.ExceptionCategory.{ExceptionCategory}
-use Rattle.lei_shapes.specs.declared.lists.ExceptionCategory.TheVariants as ExceptionCategory
 use Rattle.lei_shapes.specs.declared.lists.Reason.{Reason}
-use Rattle.lei_shapes.specs.declared.lists.Reason.TheVariants as Reason
 use Rattle.lei_shapes.specs.Lists.{record_status_text, record_status_of, entity_status_text, entity_status_of, category_text, category_of, validation_text, validation_of, relation_type_text, relation_type_of, relation_status_text, relation_status_of, relation_registration_text, relation_registration_of, exception_category_text, exception_category_of, reason_text, reason_of}
 
 pub record_status_of-text : (value : RecordStatus) → record_status_of (record_status_text value) ≡ Some value

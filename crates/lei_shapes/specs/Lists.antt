@@ -2,23 +2,14 @@
 -- Common Data File formats of the Global LEI System. What a text reads as follows from the table.
 use Rattle.std.specs.Prelude.{◌≡◌, ◌≢◌, ℕ, List, [], ◌∷◌, Option, Some, MatchOption, find, bytes_eq, codes}
 use Rattle.lei_shapes.specs.declared.lists.RecordStatus.{RecordStatus}
-use Rattle.lei_shapes.specs.declared.lists.RecordStatus.TheVariants as RecordStatus
 use Rattle.lei_shapes.specs.declared.lists.EntityStatus.{EntityStatus}
-use Rattle.lei_shapes.specs.declared.lists.EntityStatus.TheVariants as EntityStatus
 use Rattle.lei_shapes.specs.declared.lists.Category.{Category}
-use Rattle.lei_shapes.specs.declared.lists.Category.TheVariants as Category
 use Rattle.lei_shapes.specs.declared.lists.Validation.{Validation}
-use Rattle.lei_shapes.specs.declared.lists.Validation.TheVariants as Validation
 use Rattle.lei_shapes.specs.declared.lists.RelationType.{RelationType}
-use Rattle.lei_shapes.specs.declared.lists.RelationType.TheVariants as RelationType
 use Rattle.lei_shapes.specs.declared.lists.RelationStatus.{RelationStatus}
-use Rattle.lei_shapes.specs.declared.lists.RelationStatus.TheVariants as RelationStatus
 use Rattle.lei_shapes.specs.declared.lists.RelationRegistration.{RelationRegistration}
-use Rattle.lei_shapes.specs.declared.lists.RelationRegistration.TheVariants as RelationRegistration
 use Rattle.lei_shapes.specs.declared.lists.ExceptionCategory.{ExceptionCategory}
-use Rattle.lei_shapes.specs.declared.lists.ExceptionCategory.TheVariants as ExceptionCategory
 use Rattle.lei_shapes.specs.declared.lists.Reason.{Reason}
-use Rattle.lei_shapes.specs.declared.lists.Reason.TheVariants as Reason
 
 -- the first of the values that has this text
 abbrev pub named : {V : Type 0} → (V → List ℕ) → List V → List ℕ → Option V

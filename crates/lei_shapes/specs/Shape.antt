@@ -4,7 +4,6 @@ use Rattle.std.specs.Char.{is_ascii_digit, is_ascii_uppercase, is_ascii_alphanum
 use Rattle.std.specs.Int.{is_in_range}
 use Rattle.std.specs.List.{list_all, list_any, starts_with}
 use Rattle.lei_shapes.specs.declared.shapes.Shape.{Shape}
-use Rattle.lei_shapes.specs.declared.shapes.Shape.TheVariants as Shape
 use Rattle.lei_shapes.specs.Lists.{record_status_of, entity_status_of, category_of, validation_of, relation_type_of, relation_status_of, relation_registration_of, exception_category_of, reason_of}
 use Rattle.lei_shapes.specs.Moment.{read_moment}
 

@@ -1,4 +1,4 @@
-use Rattle.std.proofs.Common.{◌≡◌, sym, ap, ◌∙◌}
+use Rattle.std.proofs.Common.{sym, ◌∙◌}
 use Rattle.lei_shapes.proofs.MomentLemmas.{moment_text-clock, read_moment-text, IsAscii-moment_text}
 use Rattle.lei_shapes.proofs.moments.Moment.text.Goals as goal
 
