@@ -1,23 +1,25 @@
--- The date and the time of a moment in closed form, so that texts of moments can be computed. That the result is
--- the date of the calendar is proved: `Moment::text` has both as clauses.
+-- The date and the time of a moment in closed form, so that texts of moments can be computed. That
+-- the result is the date of the calendar is proved: `Moment::text` has both as clauses.
 use Rattle.std.specs.Prelude.{◌≡◌, ℕ, ◌+◌, ◌-◌, ◌*◌, ◌/◌, ◌%◌, nat_lt, if◌then◌else◌, ℤ, pos, ◌+ℤ◌, unsigned_abs, List, [], ◌∷◌, ◌++◌}
 use Rattle.jiff_core.specs.declared.civil.datetime.DateTime.{DateTime}
 use Rattle.jiff_fmt.specs.Text.{pad2, pad4}
 use Rattle.lei_shapes.specs.Moment.{day_of, second_of_day}
 
--- the days since 1 March of the year 0, of a day number from 1970-01-01: a year that begins in March has its leap
--- day at its end
+-- the days since 1 March of the year 0, of a day number from 1970-01-01: a year that begins in
+-- March has its leap day at its end
 abbrev pub march_count : ℤ → ℕ
 march_count day = unsigned_abs (day +ℤ pos 719_468)
 
--- the full centuries of such years, each of 36,524 days and a quarter, and the days since the last of them
+-- the full centuries of such years, each of 36,524 days and a quarter, and the days since the last
+-- of them
 abbrev pub century : ℕ → ℕ
 century days = (4 * days + 3) / 146_097
 
 abbrev pub day_of_century : ℕ → ℕ
 day_of_century days = (4 * days + 3) % 146_097 / 4
 
--- the full years of that century, each of 365 days and a quarter, and the days since the last of them
+-- the full years of that century, each of 365 days and a quarter, and the days since the last of
+-- them
 abbrev pub year_of_century : ℕ → ℕ
 year_of_century days = (4 * day_of_century days + 3) / 1461
 
@@ -54,7 +56,8 @@ pub record IsClockAt (seconds : ℤ) (clock : DateTime) : Type 0 where
 
 -- `2024-06-19`
 abbrev pub date_at : ℕ → List ℕ
-date_at days = pad4 (year_at days) ++ 45 ∷ [] ++ pad2 (month_at days) ++ 45 ∷ [] ++ pad2 (day_at days)
+date_at days =
+    pad4 (year_at days) ++ 45 ∷ [] ++ pad2 (month_at days) ++ 45 ∷ [] ++ pad2 (day_at days)
 
 -- `17:30:05`
 abbrev pub time_at : ℕ → List ℕ

@@ -1,5 +1,6 @@
--- The lists of values. Each has one table, the text of every value, which is compared byte for byte, as in the
--- Common Data File formats of the Global LEI System. What a text reads as follows from the table.
+-- The lists of values. Each has one table, the text of every value, which is compared byte for
+-- byte, as in the Common Data File formats of the Global LEI System. What a text reads as follows
+-- from the table.
 use Rattle.std.specs.Prelude.{◌≡◌, ◌≢◌, ℕ, List, [], ◌∷◌, Option, Some, MatchOption, find, bytes_eq, codes}
 use Rattle.lei_shapes.specs.declared.lists.RecordStatus.{RecordStatus}
 use Rattle.lei_shapes.specs.declared.lists.EntityStatus.{EntityStatus}
@@ -15,9 +16,11 @@ use Rattle.lei_shapes.specs.declared.lists.Reason.{Reason}
 abbrev pub named : {V : Type 0} → (V → List ℕ) → List V → List ℕ → Option V
 named text_of values text = find (λ v. bytes_eq (text_of v) text) values
 
--- what a text reads as by a table: the value whose text it is, and none exactly where no value has this text
+-- what a text reads as by a table: the value whose text it is, and none exactly where no value has
+-- this text
 abbrev pub IsReadBy : {V : Type 0} → (V → List ℕ) → List ℕ → Option V → Type 0
-IsReadBy {V} text_of text read = MatchOption read ((v : V) → text_of v ≢ text) (λ v. text_of v ≡ text)
+IsReadBy {V} text_of text read =
+    MatchOption read ((v : V) → text_of v ≢ text) (λ v. text_of v ≡ text)
 
 -- the text of each value reads as that value
 abbrev pub ReadsBack : {V : Type 0} → (V → List ℕ) → (List ℕ → Option V) → Type 0
@@ -39,7 +42,9 @@ record_status_text RecordStatus.Annulled = codes "ANNULLED"
 
 abbrev pub record_statuses : List RecordStatus
 record_statuses =
-    RecordStatus.Issued ∷ RecordStatus.Lapsed ∷ RecordStatus.PendingTransfer ∷ RecordStatus.PendingArchival ∷ RecordStatus.Retired ∷ RecordStatus.Duplicate ∷ RecordStatus.Annulled ∷ []
+    RecordStatus.Issued ∷ RecordStatus.Lapsed ∷ RecordStatus.PendingTransfer
+    ∷ RecordStatus.PendingArchival ∷ RecordStatus.Retired ∷ RecordStatus.Duplicate
+    ∷ RecordStatus.Annulled ∷ []
 
 abbrev pub record_status_of : List ℕ → Option RecordStatus
 record_status_of = named record_status_text record_statuses
@@ -68,7 +73,8 @@ category_text Category.InternationalOrganization = codes "INTERNATIONAL_ORGANIZA
 
 abbrev pub categories : List Category
 categories =
-    Category.General ∷ Category.Branch ∷ Category.Fund ∷ Category.SoleProprietor ∷ Category.ResidentGovernmentEntity ∷ Category.InternationalOrganization ∷ []
+    Category.General ∷ Category.Branch ∷ Category.Fund ∷ Category.SoleProprietor
+    ∷ Category.ResidentGovernmentEntity ∷ Category.InternationalOrganization ∷ []
 
 abbrev pub category_of : List ℕ → Option Category
 category_of = named category_text categories
@@ -82,7 +88,8 @@ validation_text Validation.FullyCorroborated = codes "FULLY_CORROBORATED"
 
 abbrev pub validations : List Validation
 validations =
-    Validation.Pending ∷ Validation.EntitySuppliedOnly ∷ Validation.PartiallyCorroborated ∷ Validation.FullyCorroborated ∷ []
+    Validation.Pending ∷ Validation.EntitySuppliedOnly ∷ Validation.PartiallyCorroborated
+    ∷ Validation.FullyCorroborated ∷ []
 
 abbrev pub validation_of : List ℕ → Option Validation
 validation_of = named validation_text validations
@@ -98,7 +105,9 @@ relation_type_text RelationType.IsFeederTo = codes "IS_FEEDER_TO"
 
 abbrev pub relation_types : List RelationType
 relation_types =
-    RelationType.IsDirectlyConsolidatedBy ∷ RelationType.IsUltimatelyConsolidatedBy ∷ RelationType.IsInternationalBranchOf ∷ RelationType.IsFundManagedBy ∷ RelationType.IsSubfundOf ∷ RelationType.IsFeederTo ∷ []
+    RelationType.IsDirectlyConsolidatedBy ∷ RelationType.IsUltimatelyConsolidatedBy
+    ∷ RelationType.IsInternationalBranchOf ∷ RelationType.IsFundManagedBy
+    ∷ RelationType.IsSubfundOf ∷ RelationType.IsFeederTo ∷ []
 
 abbrev pub relation_type_of : List ℕ → Option RelationType
 relation_type_of = named relation_type_text relation_types
@@ -125,19 +134,23 @@ relation_registration_text RelationRegistration.Annulled = codes "ANNULLED"
 
 abbrev pub relation_registrations : List RelationRegistration
 relation_registrations =
-    RelationRegistration.Issued ∷ RelationRegistration.Published ∷ RelationRegistration.Lapsed ∷ RelationRegistration.Retired ∷ RelationRegistration.Annulled ∷ []
+    RelationRegistration.Issued ∷ RelationRegistration.Published ∷ RelationRegistration.Lapsed
+    ∷ RelationRegistration.Retired ∷ RelationRegistration.Annulled ∷ []
 
 abbrev pub relation_registration_of : List ℕ → Option RelationRegistration
 relation_registration_of = named relation_registration_text relation_registrations
 
 -- which parent a reporting exception speaks of
 abbrev pub exception_category_text : ExceptionCategory → List ℕ
-exception_category_text ExceptionCategory.DirectAccountingConsolidationParent = codes "DIRECT_ACCOUNTING_CONSOLIDATION_PARENT"
-exception_category_text ExceptionCategory.UltimateAccountingConsolidationParent = codes "ULTIMATE_ACCOUNTING_CONSOLIDATION_PARENT"
+exception_category_text ExceptionCategory.DirectAccountingConsolidationParent =
+    codes "DIRECT_ACCOUNTING_CONSOLIDATION_PARENT"
+exception_category_text ExceptionCategory.UltimateAccountingConsolidationParent =
+    codes "ULTIMATE_ACCOUNTING_CONSOLIDATION_PARENT"
 
 abbrev pub exception_categories : List ExceptionCategory
 exception_categories =
-    ExceptionCategory.DirectAccountingConsolidationParent ∷ ExceptionCategory.UltimateAccountingConsolidationParent ∷ []
+    ExceptionCategory.DirectAccountingConsolidationParent
+    ∷ ExceptionCategory.UltimateAccountingConsolidationParent ∷ []
 
 abbrev pub exception_category_of : List ℕ → Option ExceptionCategory
 exception_category_of = named exception_category_text exception_categories
@@ -157,7 +170,9 @@ reason_text Reason.DetrimentNotExcluded = codes "DETRIMENT_NOT_EXCLUDED"
 
 abbrev pub reasons : List Reason
 reasons =
-    Reason.NaturalPersons ∷ Reason.NonConsolidating ∷ Reason.NoKnownPerson ∷ Reason.NoLei ∷ Reason.NonPublic ∷ Reason.ConsentNotObtained ∷ Reason.BindingLegalCommitments ∷ Reason.LegalObstacles ∷ Reason.DisclosureDetrimental ∷ Reason.DetrimentNotExcluded ∷ []
+    Reason.NaturalPersons ∷ Reason.NonConsolidating ∷ Reason.NoKnownPerson ∷ Reason.NoLei
+    ∷ Reason.NonPublic ∷ Reason.ConsentNotObtained ∷ Reason.BindingLegalCommitments
+    ∷ Reason.LegalObstacles ∷ Reason.DisclosureDetrimental ∷ Reason.DetrimentNotExcluded ∷ []
 
 abbrev pub reason_of : List ℕ → Option Reason
 reason_of = named reason_text reasons

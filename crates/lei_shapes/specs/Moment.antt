@@ -19,8 +19,8 @@ is_moment seconds =
 abbrev pub whole_seconds : ℤ → ℤ
 whole_seconds nanos = int_div_euclid nanos (pos 1_000_000_000)
 
--- a text is read as `jiff` reads it, which takes in RFC 3339: as the whole seconds of that instant exactly
--- where these are a moment, and not at all where `jiff` refuses the text
+-- a text is read as `jiff` reads it, which takes in RFC 3339: as the whole seconds of that instant
+-- exactly where these are a moment, and not at all where `jiff` refuses the text
 abbrev pub IsMomentRead : List ℕ → Option ℤ → Type 0
 IsMomentRead text read = MatchResult (parse_timestamp text)
     (λ nanos. SomeIff read (IsMoment (whole_seconds nanos)) (whole_seconds nanos))

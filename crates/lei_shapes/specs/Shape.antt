@@ -15,12 +15,14 @@ is_capital_or_digit b = is_ascii_uppercase b || is_ascii_digit b
 abbrev pub is_lang_byte : ℕ → Bool
 is_lang_byte b = is_ascii_alphanumeric b || (b == 45)
 
--- a code as ISO 17442-1 writes it, whatever its check digits: 18 capital letters and digits, and then two digits
+-- a code as ISO 17442-1 writes it, whatever its check digits: 18 capital letters and digits, and
+-- then two digits
 abbrev pub is_code : List ℕ → Bool
 is_code text = (length text == 20) && list_all is_capital_or_digit (take 18 text)
     && list_all is_ascii_digit (drop 18 text)
 
--- 1 to 500 characters, of which none is below U+0020 or from U+007F to U+009F: these are the control characters
+-- 1 to 500 characters, of which none is below U+0020 or from U+007F to U+009F: these are the
+-- control characters
 abbrev pub is_free : List ℕ → Bool
 is_free text = is_in_range 1 500 (length (chars text)) && not (list_any is_control (chars text))
 
@@ -37,7 +39,8 @@ abbrev pub is_authority : List ℕ → Bool
 is_authority text = (length text == 8) && starts_with nat_eq text (codes "RA")
     && list_all is_ascii_digit (drop 2 text)
 
--- what may follow the country of a jurisdiction: nothing, or `-` and 1 to 3 capital letters or digits
+-- what may follow the country of a jurisdiction: nothing, or `-` and 1 to 3 capital letters or
+-- digits
 abbrev pub is_subdivision : List ℕ → Bool
 is_subdivision [] = true
 is_subdivision (b ∷ code) =
@@ -51,7 +54,8 @@ is_jurisdiction text = is_country (take 2 text) && is_subdivision (drop 2 text)
 abbrev pub is_form : List ℕ → Bool
 is_form text = (length text == 4) && list_all is_capital_or_digit text
 
--- the text has the shape: its own test, or that the text reads as a moment or as a value of the list
+-- the text has the shape: its own test, or that the text reads as a moment or as a value of the
+-- list
 abbrev pub fits_shape : Shape → List ℕ → Bool
 fits_shape Shape.Code text = is_code text
 fits_shape Shape.Free text = is_free text

@@ -16,8 +16,8 @@ const FIRST: i64 = -62_135_596_800;
 // 9998-12-31T23:59:59Z.
 const LAST: i64 = 253_370_764_799;
 
-/// A whole second from 0001-01-01T00:00:00Z to 9998-12-31T23:59:59Z. Clauses see the number of seconds from
-/// 1970-01-01T00:00:00Z on, which is negative before it.
+/// A whole second from 0001-01-01T00:00:00Z to 9998-12-31T23:59:59Z. Clauses see the number of
+/// seconds from 1970-01-01T00:00:00Z on, which is negative before it.
 #[derive(Clone, Copy, Debug, PartialEq, Eq, PartialOrd, Ord, Hash)]
 pub struct Moment {
     seconds: i64,
@@ -37,7 +37,8 @@ impl Model for Moment {
 }
 
 impl Moment {
-    /// The moment that many seconds after 1970-01-01T00:00:00Z, or before it where they are negative.
+    /// The moment that many seconds after 1970-01-01T00:00:00Z, or before it where they are
+    /// negative.
     pub fn of(seconds: i64) -> Option<Moment>
         ensures some { IsSome result ↔ IsMoment seconds }
         ensures value { IfSome result (λ m. m ≡ seconds) }

@@ -9,7 +9,8 @@ use crate::{
     RelationStatus, RelationType, Validation,
 };
 
-/// The shape of a field's text: one for each way in which texts are built, and one for each list of values.
+/// The shape of a field's text: one for each way in which texts are built, and one for each list of
+/// values.
 #[derive(Clone, Copy, Debug, PartialEq, Eq, Hash)]
 pub enum Shape {
     /// A Legal Entity Identifier, whatever its check digits.
@@ -39,7 +40,8 @@ pub enum Shape {
     Reason,
 }
 
-/// Whether the text has the shape. Nothing is said of what the text means, as of check digits or of codes in use.
+/// Whether the text has the shape. Nothing is said of what the text means, as of check digits or of
+/// codes in use.
 pub fn fits(shape: Shape, text: &str) -> bool
     ensures { result ≡ fits_shape shape text.now }
 {

@@ -1,4 +1,5 @@
-//! What the clauses say, held against the public standards and values that another program computed.
+//! What the clauses say, held against the public standards and values that another program
+//! computed.
 use crate::{
     Category, EntityStatus, ExceptionCategory, Moment, Reason, RecordStatus, RelationRegistration,
     RelationStatus, RelationType, Shape, Validation, fits, moments_are_shown_and_read_back,
@@ -163,7 +164,8 @@ fn expect(rt: &impl Abort, shape: Shape, good: &[&str], bad: &[&str]) {
     }
 }
 
-// The first three codes are those of GLEIF, of Bloomberg and of Deutsche Bank; the shape says nothing of check digits.
+// The first three codes are those of GLEIF, of Bloomberg and of Deutsche Bank; the shape says
+// nothing of check digits.
 #[test]
 fn codes_have_eighteen_characters_and_two_digits(rt: HostRuntime) {
     expect(
