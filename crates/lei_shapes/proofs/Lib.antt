@@ -1,0 +1,5 @@
+pub mod ClockLemmas
+pub mod ListLemmas
+pub mod MomentLemmas
+pub mod StandardFacts
+pub mod ValueTexts

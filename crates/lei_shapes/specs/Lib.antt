@@ -1,0 +1,4 @@
+pub mod Clock
+pub mod Lists
+pub mod Moment
+pub mod Shape

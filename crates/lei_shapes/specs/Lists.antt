@@ -1,0 +1,178 @@
+-- The lists of values. Each has one table, the text of every value, which is compared byte for
+-- byte, as in the Common Data File formats of the Global LEI System. What a text reads as follows
+-- from the table.
+use Rattle.std.specs.Prelude.{◌≡◌, ◌≢◌, ℕ, List, [], ◌∷◌, Option, Some, MatchOption, find, bytes_eq, codes}
+use Rattle.lei_shapes.specs.declared.lists.RecordStatus.{RecordStatus}
+use Rattle.lei_shapes.specs.declared.lists.EntityStatus.{EntityStatus}
+use Rattle.lei_shapes.specs.declared.lists.Category.{Category}
+use Rattle.lei_shapes.specs.declared.lists.Validation.{Validation}
+use Rattle.lei_shapes.specs.declared.lists.RelationType.{RelationType}
+use Rattle.lei_shapes.specs.declared.lists.RelationStatus.{RelationStatus}
+use Rattle.lei_shapes.specs.declared.lists.RelationRegistration.{RelationRegistration}
+use Rattle.lei_shapes.specs.declared.lists.ExceptionCategory.{ExceptionCategory}
+use Rattle.lei_shapes.specs.declared.lists.Reason.{Reason}
+
+-- the first of the values that has this text
+abbrev pub named : {V : Type 0} → (V → List ℕ) → List V → List ℕ → Option V
+named text_of values text = find (λ v. bytes_eq (text_of v) text) values
+
+-- what a text reads as by a table: the value whose text it is, and none exactly where no value has
+-- this text
+abbrev pub IsReadBy : {V : Type 0} → (V → List ℕ) → List ℕ → Option V → Type 0
+IsReadBy {V} text_of text read =
+    MatchOption read ((v : V) → text_of v ≢ text) (λ v. text_of v ≡ text)
+
+-- the text of each value reads as that value
+abbrev pub ReadsBack : {V : Type 0} → (V → List ℕ) → (List ℕ → Option V) → Type 0
+ReadsBack {V} text_of read = (value : V) → read (text_of value) ≡ Some value
+
+-- two values have two texts
+abbrev pub HasTextEach : {V : Type 0} → (V → List ℕ) → Type 0
+HasTextEach {V} text_of = (a b : V) → text_of a ≡ text_of b → a ≡ b
+
+-- the registration status of a record
+abbrev pub record_status_text : RecordStatus → List ℕ
+record_status_text RecordStatus.Issued = codes "ISSUED"
+record_status_text RecordStatus.Lapsed = codes "LAPSED"
+record_status_text RecordStatus.PendingTransfer = codes "PENDING_TRANSFER"
+record_status_text RecordStatus.PendingArchival = codes "PENDING_ARCHIVAL"
+record_status_text RecordStatus.Retired = codes "RETIRED"
+record_status_text RecordStatus.Duplicate = codes "DUPLICATE"
+record_status_text RecordStatus.Annulled = codes "ANNULLED"
+
+abbrev pub record_statuses : List RecordStatus
+record_statuses =
+    RecordStatus.Issued ∷ RecordStatus.Lapsed ∷ RecordStatus.PendingTransfer
+    ∷ RecordStatus.PendingArchival ∷ RecordStatus.Retired ∷ RecordStatus.Duplicate
+    ∷ RecordStatus.Annulled ∷ []
+
+abbrev pub record_status_of : List ℕ → Option RecordStatus
+record_status_of = named record_status_text record_statuses
+
+-- whether the entity itself is active
+abbrev pub entity_status_text : EntityStatus → List ℕ
+entity_status_text EntityStatus.Active = codes "ACTIVE"
+entity_status_text EntityStatus.Inactive = codes "INACTIVE"
+entity_status_text EntityStatus.Null = codes "NULL"
+
+abbrev pub entity_statuses : List EntityStatus
+entity_statuses =
+    EntityStatus.Active ∷ EntityStatus.Inactive ∷ EntityStatus.Null ∷ []
+
+abbrev pub entity_status_of : List ℕ → Option EntityStatus
+entity_status_of = named entity_status_text entity_statuses
+
+-- what kind of entity it is
+abbrev pub category_text : Category → List ℕ
+category_text Category.General = codes "GENERAL"
+category_text Category.Branch = codes "BRANCH"
+category_text Category.Fund = codes "FUND"
+category_text Category.SoleProprietor = codes "SOLE_PROPRIETOR"
+category_text Category.ResidentGovernmentEntity = codes "RESIDENT_GOVERNMENT_ENTITY"
+category_text Category.InternationalOrganization = codes "INTERNATIONAL_ORGANIZATION"
+
+abbrev pub categories : List Category
+categories =
+    Category.General ∷ Category.Branch ∷ Category.Fund ∷ Category.SoleProprietor
+    ∷ Category.ResidentGovernmentEntity ∷ Category.InternationalOrganization ∷ []
+
+abbrev pub category_of : List ℕ → Option Category
+category_of = named category_text categories
+
+-- how far the data were corroborated
+abbrev pub validation_text : Validation → List ℕ
+validation_text Validation.Pending = codes "PENDING"
+validation_text Validation.EntitySuppliedOnly = codes "ENTITY_SUPPLIED_ONLY"
+validation_text Validation.PartiallyCorroborated = codes "PARTIALLY_CORROBORATED"
+validation_text Validation.FullyCorroborated = codes "FULLY_CORROBORATED"
+
+abbrev pub validations : List Validation
+validations =
+    Validation.Pending ∷ Validation.EntitySuppliedOnly ∷ Validation.PartiallyCorroborated
+    ∷ Validation.FullyCorroborated ∷ []
+
+abbrev pub validation_of : List ℕ → Option Validation
+validation_of = named validation_text validations
+
+-- how the start of a relationship is related to its end
+abbrev pub relation_type_text : RelationType → List ℕ
+relation_type_text RelationType.IsDirectlyConsolidatedBy = codes "IS_DIRECTLY_CONSOLIDATED_BY"
+relation_type_text RelationType.IsUltimatelyConsolidatedBy = codes "IS_ULTIMATELY_CONSOLIDATED_BY"
+relation_type_text RelationType.IsInternationalBranchOf = codes "IS_INTERNATIONAL_BRANCH_OF"
+relation_type_text RelationType.IsFundManagedBy = codes "IS_FUND-MANAGED_BY"
+relation_type_text RelationType.IsSubfundOf = codes "IS_SUBFUND_OF"
+relation_type_text RelationType.IsFeederTo = codes "IS_FEEDER_TO"
+
+abbrev pub relation_types : List RelationType
+relation_types =
+    RelationType.IsDirectlyConsolidatedBy ∷ RelationType.IsUltimatelyConsolidatedBy
+    ∷ RelationType.IsInternationalBranchOf ∷ RelationType.IsFundManagedBy
+    ∷ RelationType.IsSubfundOf ∷ RelationType.IsFeederTo ∷ []
+
+abbrev pub relation_type_of : List ℕ → Option RelationType
+relation_type_of = named relation_type_text relation_types
+
+-- whether the relationship holds
+abbrev pub relation_status_text : RelationStatus → List ℕ
+relation_status_text RelationStatus.Active = codes "ACTIVE"
+relation_status_text RelationStatus.Inactive = codes "INACTIVE"
+
+abbrev pub relation_statuses : List RelationStatus
+relation_statuses =
+    RelationStatus.Active ∷ RelationStatus.Inactive ∷ []
+
+abbrev pub relation_status_of : List ℕ → Option RelationStatus
+relation_status_of = named relation_status_text relation_statuses
+
+-- the registration status of a relationship
+abbrev pub relation_registration_text : RelationRegistration → List ℕ
+relation_registration_text RelationRegistration.Issued = codes "ISSUED"
+relation_registration_text RelationRegistration.Published = codes "PUBLISHED"
+relation_registration_text RelationRegistration.Lapsed = codes "LAPSED"
+relation_registration_text RelationRegistration.Retired = codes "RETIRED"
+relation_registration_text RelationRegistration.Annulled = codes "ANNULLED"
+
+abbrev pub relation_registrations : List RelationRegistration
+relation_registrations =
+    RelationRegistration.Issued ∷ RelationRegistration.Published ∷ RelationRegistration.Lapsed
+    ∷ RelationRegistration.Retired ∷ RelationRegistration.Annulled ∷ []
+
+abbrev pub relation_registration_of : List ℕ → Option RelationRegistration
+relation_registration_of = named relation_registration_text relation_registrations
+
+-- which parent a reporting exception speaks of
+abbrev pub exception_category_text : ExceptionCategory → List ℕ
+exception_category_text ExceptionCategory.DirectAccountingConsolidationParent =
+    codes "DIRECT_ACCOUNTING_CONSOLIDATION_PARENT"
+exception_category_text ExceptionCategory.UltimateAccountingConsolidationParent =
+    codes "ULTIMATE_ACCOUNTING_CONSOLIDATION_PARENT"
+
+abbrev pub exception_categories : List ExceptionCategory
+exception_categories =
+    ExceptionCategory.DirectAccountingConsolidationParent
+    ∷ ExceptionCategory.UltimateAccountingConsolidationParent ∷ []
+
+abbrev pub exception_category_of : List ℕ → Option ExceptionCategory
+exception_category_of = named exception_category_text exception_categories
+
+-- why no parent is reported
+abbrev pub reason_text : Reason → List ℕ
+reason_text Reason.NaturalPersons = codes "NATURAL_PERSONS"
+reason_text Reason.NonConsolidating = codes "NON_CONSOLIDATING"
+reason_text Reason.NoKnownPerson = codes "NO_KNOWN_PERSON"
+reason_text Reason.NoLei = codes "NO_LEI"
+reason_text Reason.NonPublic = codes "NON_PUBLIC"
+reason_text Reason.ConsentNotObtained = codes "CONSENT_NOT_OBTAINED"
+reason_text Reason.BindingLegalCommitments = codes "BINDING_LEGAL_COMMITMENTS"
+reason_text Reason.LegalObstacles = codes "LEGAL_OBSTACLES"
+reason_text Reason.DisclosureDetrimental = codes "DISCLOSURE_DETRIMENTAL"
+reason_text Reason.DetrimentNotExcluded = codes "DETRIMENT_NOT_EXCLUDED"
+
+abbrev pub reasons : List Reason
+reasons =
+    Reason.NaturalPersons ∷ Reason.NonConsolidating ∷ Reason.NoKnownPerson ∷ Reason.NoLei
+    ∷ Reason.NonPublic ∷ Reason.ConsentNotObtained ∷ Reason.BindingLegalCommitments
+    ∷ Reason.LegalObstacles ∷ Reason.DisclosureDetrimental ∷ Reason.DetrimentNotExcluded ∷ []
+
+abbrev pub reason_of : List ℕ → Option Reason
+reason_of = named reason_text reasons

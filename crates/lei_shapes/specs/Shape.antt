@@ -1,0 +1,76 @@
+-- The shapes of texts. A text is seen as its bytes, and by `chars` as its characters.
+use Rattle.std.specs.Prelude.{ℕ, Bool, true, not, ◌&&◌, ◌||◌, ◌==◌, List, [], ◌∷◌, length, take, drop, chars, codes, is_some, nat_eq}
+use Rattle.std.specs.Char.{is_ascii_digit, is_ascii_uppercase, is_ascii_alphanumeric, is_control}
+use Rattle.std.specs.Int.{is_in_range}
+use Rattle.std.specs.List.{list_all, list_any, starts_with}
+use Rattle.lei_shapes.specs.declared.shapes.Shape.{Shape}
+use Rattle.lei_shapes.specs.Lists.{record_status_of, entity_status_of, category_of, validation_of, relation_type_of, relation_status_of, relation_registration_of, exception_category_of, reason_of}
+use Rattle.lei_shapes.specs.Moment.{read_moment}
+
+-- `0` to `9` or `A` to `Z`
+abbrev pub is_capital_or_digit : ℕ → Bool
+is_capital_or_digit b = is_ascii_uppercase b || is_ascii_digit b
+
+-- an ASCII letter, a digit or `-`
+abbrev pub is_lang_byte : ℕ → Bool
+is_lang_byte b = is_ascii_alphanumeric b || (b == 45)
+
+-- a code as ISO 17442-1 writes it, whatever its check digits: 18 capital letters and digits, and
+-- then two digits
+abbrev pub is_code : List ℕ → Bool
+is_code text = (length text == 20) && list_all is_capital_or_digit (take 18 text)
+    && list_all is_ascii_digit (drop 18 text)
+
+-- 1 to 500 characters, of which none is below U+0020 or from U+007F to U+009F: these are the
+-- control characters
+abbrev pub is_free : List ℕ → Bool
+is_free text = is_in_range 1 500 (length (chars text)) && not (list_any is_control (chars text))
+
+-- the tag of a language: 1 to 35 ASCII letters, digits and `-`
+abbrev pub is_lang : List ℕ → Bool
+is_lang text = is_in_range 1 35 (length text) && list_all is_lang_byte text
+
+-- the code of a country as ISO 3166-1 writes it: two capital letters
+abbrev pub is_country : List ℕ → Bool
+is_country text = (length text == 2) && list_all is_ascii_uppercase text
+
+-- the code of a registration authority: `RA` and six digits
+abbrev pub is_authority : List ℕ → Bool
+is_authority text = (length text == 8) && starts_with nat_eq text (codes "RA")
+    && list_all is_ascii_digit (drop 2 text)
+
+-- what may follow the country of a jurisdiction: nothing, or `-` and 1 to 3 capital letters or
+-- digits
+abbrev pub is_subdivision : List ℕ → Bool
+is_subdivision [] = true
+is_subdivision (b ∷ code) =
+    (b == 45) && is_in_range 1 3 (length code) && list_all is_capital_or_digit code
+
+-- a country or a part of it, as ISO 3166-2 writes it
+abbrev pub is_jurisdiction : List ℕ → Bool
+is_jurisdiction text = is_country (take 2 text) && is_subdivision (drop 2 text)
+
+-- the code of a legal form as ISO 20275 writes it: four capital letters or digits
+abbrev pub is_form : List ℕ → Bool
+is_form text = (length text == 4) && list_all is_capital_or_digit text
+
+-- the text has the shape: its own test, or that the text reads as a moment or as a value of the
+-- list
+abbrev pub fits_shape : Shape → List ℕ → Bool
+fits_shape Shape.Code text = is_code text
+fits_shape Shape.Free text = is_free text
+fits_shape Shape.Lang text = is_lang text
+fits_shape Shape.Country text = is_country text
+fits_shape Shape.Authority text = is_authority text
+fits_shape Shape.Jurisdiction text = is_jurisdiction text
+fits_shape Shape.Form text = is_form text
+fits_shape Shape.Moment text = is_some (read_moment text)
+fits_shape Shape.RecordStatus text = is_some (record_status_of text)
+fits_shape Shape.EntityStatus text = is_some (entity_status_of text)
+fits_shape Shape.Category text = is_some (category_of text)
+fits_shape Shape.Validation text = is_some (validation_of text)
+fits_shape Shape.RelationType text = is_some (relation_type_of text)
+fits_shape Shape.RelationStatus text = is_some (relation_status_of text)
+fits_shape Shape.RelationRegistration text = is_some (relation_registration_of text)
+fits_shape Shape.ExceptionCategory text = is_some (exception_category_of text)
+fits_shape Shape.Reason text = is_some (reason_of text)

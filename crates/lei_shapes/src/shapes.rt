@@ -1,0 +1,151 @@
+//! The shapes that texts of fields have.
+ghost use Rattle.std.specs.Prelude.{◌≡◌, length, chars};
+ghost use Rattle.std.specs.Char.{is_ascii_digit, is_control};
+ghost use Rattle.std.specs.List.{list_all, list_any};
+ghost use Rattle.lei_shapes.specs.Shape.{fits_shape, is_capital_or_digit, is_lang_byte, is_code as code, is_free as free, is_lang as lang, is_country as country, is_authority as authority, is_subdivision as subdivision, is_jurisdiction as jurisdiction, is_form as form};
+
+use crate::{
+    Category, EntityStatus, ExceptionCategory, Moment, Reason, RecordStatus, RelationRegistration,
+    RelationStatus, RelationType, Validation,
+};
+
+/// The shape of a field's text: one for each way in which texts are built, and one for each list of
+/// values.
+#[derive(Clone, Copy, Debug, PartialEq, Eq, Hash)]
+pub enum Shape {
+    /// A Legal Entity Identifier, whatever its check digits.
+    Code,
+    /// A text without control characters.
+    Free,
+    /// The tag of a language.
+    Lang,
+    /// The code of a country.
+    Country,
+    /// The code of a registration authority.
+    Authority,
+    /// A country, or a part of it.
+    Jurisdiction,
+    /// The code of a legal form.
+    Form,
+    /// A text that [`Moment::read`] takes.
+    Moment,
+    RecordStatus,
+    EntityStatus,
+    Category,
+    Validation,
+    RelationType,
+    RelationStatus,
+    RelationRegistration,
+    ExceptionCategory,
+    Reason,
+}
+
+/// Whether the text has the shape. Nothing is said of what the text means, as of check digits or of
+/// codes in use.
+pub fn fits(shape: Shape, text: &str) -> bool
+    ensures { result ≡ fits_shape shape text.now }
+{
+    match shape {
+        Shape::Code => is_code(text.as_bytes()),
+        Shape::Free => is_free(text),
+        Shape::Lang => is_lang(text.as_bytes()),
+        Shape::Country => is_country(text.as_bytes()),
+        Shape::Authority => is_authority(text.as_bytes()),
+        Shape::Jurisdiction => is_jurisdiction(text.as_bytes()),
+        Shape::Form => is_form(text.as_bytes()),
+        Shape::Moment => Moment::read(text).is_some(),
+        Shape::RecordStatus => RecordStatus::read(text).is_some(),
+        Shape::EntityStatus => EntityStatus::read(text).is_some(),
+        Shape::Category => Category::read(text).is_some(),
+        Shape::Validation => Validation::read(text).is_some(),
+        Shape::RelationType => RelationType::read(text).is_some(),
+        Shape::RelationStatus => RelationStatus::read(text).is_some(),
+        Shape::RelationRegistration => RelationRegistration::read(text).is_some(),
+        Shape::ExceptionCategory => ExceptionCategory::read(text).is_some(),
+        Shape::Reason => Reason::read(text).is_some(),
+    }
+}
+
+fn is_code(text: &[u8]) -> bool
+    ensures { result ≡ code text.now }
+{
+    text.len() == 20 && are_capitals_or_digits(&text[..18]) && are_digits(&text[18..])
+}
+
+fn is_free(text: &str) -> bool
+    ensures { result ≡ free text.now }
+{
+    (1..=500).contains(&char_count(text)) && !has_control(text)
+}
+
+fn char_count(text: &str) -> usize
+    ensures { result ≡ length (chars text.now) }
+{
+    text.chars().count()
+}
+
+fn has_control(text: &str) -> bool
+    ensures { result ≡ list_any is_control (chars text.now) }
+{
+    text.chars().any(|c| c.is_control())
+}
+
+fn is_lang(text: &[u8]) -> bool
+    ensures { result ≡ lang text.now }
+{
+    (1..=35).contains(&text.len()) && are_lang_bytes(text)
+}
+
+fn is_country(text: &[u8]) -> bool
+    ensures { result ≡ country text.now }
+{
+    text.len() == 2 && text.iter().all(|b| b.is_ascii_uppercase())
+}
+
+fn is_authority(text: &[u8]) -> bool
+    ensures { result ≡ authority text.now }
+{
+    text.len() == 8 && text.starts_with(b"RA") && are_digits(&text[2..])
+}
+
+fn is_jurisdiction(text: &[u8]) -> bool
+    ensures { result ≡ jurisdiction text.now }
+{
+    text.len() >= 2 && is_country(&text[..2]) && is_subdivision(&text[2..])
+}
+
+// What may follow the country of a jurisdiction.
+fn is_subdivision(text: &[u8]) -> bool
+    ensures { result ≡ subdivision text.now }
+{
+    match text {
+        [] => true,
+        [b'-', code @ ..] => (1..=3).contains(&code.len()) && are_capitals_or_digits(code),
+        _ => false,
+    }
+}
+
+fn is_form(text: &[u8]) -> bool
+    ensures { result ≡ form text.now }
+{
+    text.len() == 4 && are_capitals_or_digits(text)
+}
+
+fn are_digits(text: &[u8]) -> bool
+    ensures { result ≡ list_all is_ascii_digit text.now }
+{
+    text.iter().all(|b| b.is_ascii_digit())
+}
+
+fn are_capitals_or_digits(text: &[u8]) -> bool
+    ensures { result ≡ list_all is_capital_or_digit text.now }
+{
+    text.iter()
+        .all(|b| b.is_ascii_uppercase() || b.is_ascii_digit())
+}
+
+fn are_lang_bytes(text: &[u8]) -> bool
+    ensures { result ≡ list_all is_lang_byte text.now }
+{
+    text.iter().all(|b| b.is_ascii_alphanumeric() || *b == b'-')
+}
