@@ -1,7 +1,7 @@
 -- What the fault of a code says of its shape and its check digits, and the fields as a table.
 use Rattle.std.proofs.Common.{◌≡◌, ℕ, List, [], ◌∷◌, Bool, true, false, not, ◌&&◌, ◌||◌, ◌==◌, ◌%◌, map, cond, length, codes, Bor, Option, Some, None, refl, sym, ap, ◌∙◌}
 use Rattle.std.specs.List.{find, list_any}
-use Rattle.std.specs.Option.{option_map, option_map_or, is_none}
+use Rattle.std.specs.Option.{option_map, option_or, is_none}
 use Rattle.lei_code.specs.declared.fault.LeiFault.{LeiFault}
 use Rattle.lei_code.specs.declared.fault.LeiFault.TheVariants.{Length, Character, CheckDigits}
 use Rattle.lei_code.specs.Fault.{fault_of, first_wrong}
@@ -18,7 +18,7 @@ is_digits_fault CheckDigits = true
 
 -- the fault by its three questions: has the text 20 characters, which one is wrong, and is the remainder 1
 abbrev fault_by : Bool → Option ℕ → Bool → Option LeiFault
-fault_by b o r = cond b (option_map_or (λ place. Some (Character place)) o (cond r None (Some CheckDigits))) (Some Length)
+fault_by b o r = cond b (option_or (option_map Character o) (cond r None (Some CheckDigits))) (Some Length)
 
 no_fault : (b : Bool) (o : Option ℕ) (r : Bool) → None ≡ fault_by b o r → (b && is_none o ≡ true) × (r ≡ true)
 no_fault true None true is = (refl, refl)
