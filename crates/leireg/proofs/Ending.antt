@@ -77,9 +77,10 @@ begins left taken office waits skips held none empty holds =
 Sends-all : (a b c : Option (List ℕ)) (all waits : List ℕ) → Sends a b all waits → Grows b c waits → Sends a c all []
 Sends-all a b c all waits sent more = (sent.0 ++ waits, Grows-join a b c sent.0 waits sent.1 more, sent.2 ∙ sym (append-nil (sent.0 ++ waits)))
 
-pub flushed : (left left_now a b c : Option (List ℕ)) (count : ℕ) (office : History) (waits : List ℕ) (skips : Bool) (held : List ℕ) → Midway left left_now a b count office waits skips held → Grows b c waits
-    → Midway left left_now a c count office [] skips held
-flushed left left_now a b c count office waits skips held at more =
+pub flushed : (left left_now a b c : Option (List ℕ)) (count : ℕ) (office : History) (waits waits_now : List ℕ) (skips : Bool) (held : List ℕ) → waits_now ≡ [] → Midway left left_now a b count office waits skips held → Grows b c waits
+    → Midway left left_now a c count office waits_now skips held
+flushed left left_now a b c count office waits waits_now skips held empty at more =
+    let S : List ℕ → Type 0 = λ xs. Sends a c at.answered.texts xs in
     record {
       read = at.read;
       front = at.front;
@@ -92,7 +93,7 @@ flushed left left_now a b c count office waits skips held at more =
         closed = at.answered.closed;
         texts = at.answered.texts;
         run = at.answered.run;
-        sent = Sends-all a b c at.answered.texts waits at.answered.sent more;
+        sent = subst S (sym empty) (Sends-all a b c at.answered.texts waits at.answered.sent more);
       };
       holds = at.holds;
     }
@@ -113,26 +114,35 @@ length-none [] is = refl
 length-none (x ∷ xs) is = cc
 
 -- a block was read behind what is held
-pub record Block (held held_now more : List ℕ) (seen : ℕ) : Type 0 where
-  pub front : take seen held_now ≡ held
-  pub back : drop seen held_now ≡ more
+record Block (held held_now more : List ℕ) (seen : ℕ) : Type 0 where
+  front : take seen held_now ≡ held
+  back : drop seen held_now ≡ more
 
-pub block_of : (held held_now more : List ℕ) → held_now ≡ held ++ more → Block held held_now more (length held)
-block_of held held_now more is =
-    let B : List ℕ → Type 0 = λ xs. Block held xs more (length held) in
-    subst B (sym is) (record { front = take-front held more; back = drop-front held more })
+block_of : (held held_now more : List ℕ) (seen : ℕ) → seen ≡ length held → held_now ≡ held ++ more → Block held held_now more seen
+block_of held held_now more seen same is =
+    let B : List ℕ → Type 0 = λ xs. Block held xs more seen in
+    let C : ℕ → Type 0 = λ n. Block held (held ++ more) more n in
+    subst B (sym is) (subst C (sym same) (record { front = take-front held more; back = drop-front held more }))
 
--- and its lines were answered
-pub takes_in : (left mid left_now a b c : Option (List ℕ)) (count n most : ℕ) (office new : History) (waits : List ℕ) (skips skips_now : Bool) (held held_mid held_now : List ℕ) → Midway left mid a b count office [] skips held
-    → Fills mid left_now held held_mid n most → count + n < 4294967296
-    → ((part : List ℕ) → Holds skips (take (length held) held_mid) part → TakesIn {T = Unit {0}} {E = SinkFault} part (drop (length held) held_mid) office new b c [] (Ok (tt {0})) waits skips_now held_now)
-    → Midway left left_now a c (count + n) new waits skips_now held_now
-takes_in left mid left_now a b c count n most office new waits skips skips_now held held_mid held_now at fills below goes =
+pub unseen : (left left_now : Option (List ℕ)) (n most : ℕ) (skips : Bool) (held held_now part : List ℕ) (seen : ℕ) → seen ≡ length held → Holds skips held part → Fills left left_now held held_now n most → HasNoEnd (take seen held_now)
+unseen left left_now n most skips held held_now part seen same holds fills =
+    let N : List ℕ → Type 0 = λ xs. HasNoEnd xs in
+    let block = block_of held held_now fills.0 seen same fills.4 in
+    subst N (sym block.front) (held_unseen skips held part holds)
+
+-- and the lines that end in it were answered, or the sink refused
+abbrev pub Goes : {E : Type 0} → ℕ → Bool → List ℕ → History → History → Option (List ℕ) → Option (List ℕ) → List ℕ → Result (Unit {0}) E → List ℕ → Bool → List ℕ → Type 0
+Goes seen skips window office new b c waited result waits skips_now held_now =
+    (part : List ℕ) → Holds skips (take seen window) part → TakesIn {T = Unit {0}} part (drop seen window) office new b c waited result waits skips_now held_now
+
+pub takes_in : (left mid left_now a b c : Option (List ℕ)) (count n most seen : ℕ) (office new : History) (waited waits : List ℕ) (skips skips_now : Bool) (held window held_now : List ℕ) → seen ≡ length held → Midway left mid a b count office waited skips held
+    → Fills mid left_now held window n most → count + n < 4294967296 → Goes {E = SinkFault} seen skips window office new b c waited (Ok (tt {0})) waits skips_now held_now → Midway left left_now a c (count + n) new waits skips_now held_now
+takes_in left mid left_now a b c count n most seen office new waited waits skips skips_now held window held_now same at fills below goes =
     let more = fills.0 in
-    let block = block_of held held_mid more fills.4 in
+    let block = block_of held window more seen same fills.4 in
     let H : List ℕ → Type 0 = λ xs. Holds skips xs at.part in
     let then = goes at.part (subst H (sym block.front) at.holds) in
-    let next = goes_on {T = Unit {0}} {E = SinkFault} [] office new at.front then.0 a b c [] [] waits (Ok (tt {0})) at.answered then.4 in
+    let next = goes_on {T = Unit {0}} {E = SinkFault} [] office new at.front then.0 a b c [] waited waits (Ok (tt {0})) at.answered then.4 in
     record {
       read = at.read ++ more;
       front = at.front ++ then.0;
@@ -184,6 +194,25 @@ ends_whole : (left left_now a c : Option (List ℕ)) (read : List ℕ) (status :
 ends_whole left left_now a c read status cause below loses stopped =
     record { read = read; written = stopped.written; loses = loses; grows = stopped.grows; ends = inr (inr (inl (cause, below, inl stopped.answers))) }
 
+-- memory was wanted before anything was read
+pub ends_at_once : (left taken : Option (List ℕ)) (status : ℕ) → IsCause status → RunsLines left left taken taken status
+ends_at_once left taken status cause =
+    record {
+      read = [];
+      written = [];
+      loses = Loses-none left;
+      grows = Grows-none taken;
+      ends = inr (inr (inl (cause, omega arith, inl (record {
+      answered = [];
+      left = [];
+      parts = ap lines (whole_part-is [] [] (inl refl) HasNoEnd-nil);
+      replies = [];
+      history = [];
+      session = refl;
+      texts = refl;
+    }))));
+    }
+
 -- the sink refused what waited
 pub stops_waiting : (left left_now a b c : Option (List ℕ)) (count : ℕ) (office : History) (waits : List ℕ) (skips : Bool) (held : List ℕ) (status : ℕ) → IsCause status → Midway left left_now a b count office waits skips held
     → TakesFront b c waits → RunsLines left left_now a c status
@@ -197,15 +226,15 @@ stops_waiting left left_now a b c count office waits skips held status cause at 
     (subst S (sym (lines-behind at.read at.front at.part at.parts answered.closed)) (stopped_at a c (lines at.front) (lines (whole_part at.part)) answered.texts office answered.run took))
 
 -- the sink refused in a block
-pub stops_in : (left mid left_now a b c : Option (List ℕ)) (count n most : ℕ) (office new : History) (waits : List ℕ) (skips skips_now : Bool) (held held_mid held_now : List ℕ) (fault : SinkFault) (status : ℕ) → IsCause status
-    → Midway left mid a b count office [] skips held → Fills mid left_now held held_mid n most → count + n < 4294967296
-    → ((part : List ℕ) → Holds skips (take (length held) held_mid) part → TakesIn {T = Unit {0}} part (drop (length held) held_mid) office new b c [] (Err fault) waits skips_now held_now) → RunsLines left left_now a c status
-stops_in left mid left_now a b c count n most office new waits skips skips_now held held_mid held_now fault status cause at fills below goes =
+pub stops_in : (left mid left_now a b c : Option (List ℕ)) (count n most seen : ℕ) (office new : History) (waited waits : List ℕ) (skips skips_now : Bool) (held window held_now : List ℕ) (fault : SinkFault) (status : ℕ) → IsCause status
+    → seen ≡ length held → Midway left mid a b count office waited skips held → Fills mid left_now held window n most → count + n < 4294967296 → Goes seen skips window office new b c waited (Err fault) waits skips_now held_now
+    → RunsLines left left_now a c status
+stops_in left mid left_now a b c count n most seen office new waited waits skips skips_now held window held_now fault status cause same at fills below goes =
     let more = fills.0 in
-    let block = block_of held held_mid more fills.4 in
+    let block = block_of held window more seen same fills.4 in
     let H : List ℕ → Type 0 = λ xs. Holds skips xs at.part in
     let then = goes at.part (subst H (sym block.front) at.holds) in
-    let next = goes_on {T = Unit {0}} {E = SinkFault} [] office new at.front then.0 a b c [] [] waits (Err fault) at.answered then.4 in
+    let next = goes_on {T = Unit {0}} {E = SinkFault} [] office new at.front then.0 a b c [] waited waits (Err fault) at.answered then.4 in
     let parts = whole_parts at.read at.front at.part more then.0 then.1 at.parts (ap (λ xs. at.part ++ xs) (sym block.back) ∙ then.2) in
     let closed = IsClosed-append at.front then.0 at.answered.closed then.3 in
     let S : List (List ℕ) → Type 0 = λ ls. Stopped a c ls in
@@ -214,9 +243,9 @@ stops_in left mid left_now a b c count n most office new waits skips skips_now h
     (subst S (sym (lines-behind (at.read ++ more) (at.front ++ then.0) then.1 parts closed)) (stopped_at a c (lines (at.front ++ then.0)) (lines (whole_part then.1)) next.0 new next.1 next.2))
 
 -- the source failed
-pub fails_reading : (left mid left_now a c : Option (List ℕ)) (count : ℕ) (office : History) (skips : Bool) (held held_now : List ℕ) → Midway left mid a c count office [] skips held → StaysUnread mid left_now held held_now
+pub fails_reading : (left mid left_now a c : Option (List ℕ)) (count : ℕ) (office : History) (waits : List ℕ) (skips : Bool) (held held_now : List ℕ) → waits ≡ [] → Midway left mid a c count office waits skips held → StaysUnread mid left_now held held_now
     → RunsLines left left_now a c 3
-fails_reading left mid left_now a c count office skips held held_now at unread =
+fails_reading left mid left_now a c count office waits skips held held_now empty at unread =
     let answered = at.answered in
     let L : List ℕ → Type 0 = λ xs. Loses left left_now xs in
     let A : List (List ℕ) → Type 0 = λ ls. Answers [] ls answered.texts office in
@@ -227,14 +256,14 @@ fails_reading left mid left_now a c count office skips held held_now at unread =
       read = at.read;
       written = answered.texts;
       loses = subst L (append-nil at.read) (Loses-join left mid left_now at.read [] at.loses unread.0);
-      grows = subst G (sym (answered.sent.2 ∙ append-nil answered.sent.0)) answered.sent.1;
+      grows = subst G (sym (answered.sent.2 ∙ (ap (λ xs. answered.sent.0 ++ xs) empty ∙ append-nil answered.sent.0))) answered.sent.1;
       ends = inr (inl (refl, below, (office, subst A (sym whole) answered.run)));
     }
 
 -- so many bytes were read that the run ends
-pub ends_too_long : (left mid left_now a c : Option (List ℕ)) (count n most : ℕ) (office : History) (skips : Bool) (held held_now : List ℕ) → Midway left mid a c count office [] skips held → Fills mid left_now held held_now n most
+pub ends_too_long : (left mid left_now a c : Option (List ℕ)) (count n most : ℕ) (office : History) (waits : List ℕ) (skips : Bool) (held held_now : List ℕ) → waits ≡ [] → Midway left mid a c count office waits skips held → Fills mid left_now held held_now n most
     → n ≤ 65536 → 0 < n → count + n ≡ 4294967296 → RunsLines left left_now a c 8
-ends_too_long left mid left_now a c count n most office skips held held_now at fills within some is =
+ends_too_long left mid left_now a c count n most office waits skips held held_now empty at fills within some is =
     let more = fills.0 in
     let answered = at.answered in
     let A : List (List ℕ) → Type 0 = λ ls. Answers [] ls answered.texts office in
@@ -245,7 +274,7 @@ ends_too_long left mid left_now a c count n most office skips held held_now at f
       read = at.read ++ more;
       written = answered.texts;
       loses = Loses-join left mid left_now at.read more at.loses fills.3;
-      grows = subst G (sym (answered.sent.2 ∙ append-nil answered.sent.0)) answered.sent.1;
+      grows = subst G (sym (answered.sent.2 ∙ (ap (λ xs. answered.sent.0 ++ xs) empty ∙ append-nil answered.sent.0))) answered.sent.1;
       ends = inr (inr (inr (refl, long, at.read, more, refl, omega (arith, fills.1), omega (arith, fills.1), (office, subst A (sym whole) answered.run))));
     }
 
@@ -257,10 +286,10 @@ pub record AtEnd (left left_now taken taken_now : Option (List ℕ)) (office : H
   pub midway : Midway left left_now taken taken_now count office waits skips held
   pub ended : IsAtEnd left_now
 
-pub reaches_end : (left mid left_now a c : Option (List ℕ)) (count most : ℕ) (office : History) (skips : Bool) (held held_now : List ℕ) → Midway left mid a c count office [] skips held → Fills mid left_now held held_now 0 most
-    → AtEnd left left_now a c office [] skips held_now
-reaches_end left mid left_now a c count most office skips held held_now at fills =
-    let none : fills.0 ≡ [] = length-none fills.0 fills.1 in
+pub reaches_end : (left mid left_now a c : Option (List ℕ)) (count n most : ℕ) (office : History) (waits : List ℕ) (skips : Bool) (held held_now : List ℕ) → n ≡ 0 → Midway left mid a c count office waits skips held → Fills mid left_now held held_now n most
+    → AtEnd left left_now a c office waits skips held_now
+reaches_end left mid left_now a c count n most office waits skips held held_now none_read at fills =
+    let none : fills.0 ≡ [] = length-none fills.0 (fills.1 ∙ none_read) in
     let same : held_now ≡ held = fills.4 ∙ (ap (λ xs. held ++ xs) none ∙ append-nil held) in
     let L : List ℕ → Type 0 = λ xs. Loses left left_now xs in
     let H : List ℕ → Type 0 = λ xs. Holds skips xs at.part in
@@ -277,7 +306,7 @@ reaches_end left mid left_now a c count most office skips held held_now at fills
         answered = at.answered;
         holds = subst H (sym same) at.holds;
       };
-      ended = fills.5 refl;
+      ended = fills.5 none_read;
     }
 
 -- all lines were answered, whatever the sink did

@@ -6,3 +6,4 @@ pub mod Asking
 pub mod LineLemmas
 pub mod Reading
 pub mod Ending
+pub mod Stopping

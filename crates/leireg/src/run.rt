@@ -40,17 +40,21 @@ impl Stop {
 }
 
 impl From<Failed> for Stop {
-    fn from(_: Failed) -> Self
-        ensures { result ≡ Stop.ReadFault }
-    {
+    ghost use Rattle.leireg.specs.declared.run.Stop.TheVariants.{ReadFault};
+
+    ghost from_gives = { λ _ stop. stop ≡ ReadFault };
+
+    fn from(_: Failed) -> Self {
         Stop::ReadFault
     }
 }
 
 impl From<SinkFault> for Stop {
-    fn from(fault: SinkFault) -> Self
-        ensures { result ≡ stop_of fault }
-    {
+    ghost use Rattle.leireg.specs.Status.{stop_of};
+
+    ghost from_gives = { λ fault stop. stop ≡ stop_of fault };
+
+    fn from(fault: SinkFault) -> Self {
         match fault {
             SinkFault::Failed => Stop::WriteFault,
             SinkFault::NoMemory => Stop::NoMemory,
@@ -59,9 +63,11 @@ impl From<SinkFault> for Stop {
 }
 
 impl From<NoMemory> for Stop {
-    fn from(_: NoMemory) -> Self
-        ensures { result ≡ Stop.NoMemory }
-    {
+    ghost use Rattle.leireg.specs.declared.run.Stop.TheVariants as stop;
+
+    ghost from_gives = { λ _ e. e ≡ stop.NoMemory };
+
+    fn from(_: NoMemory) -> Self {
         Stop::NoMemory
     }
 }

@@ -53,6 +53,7 @@ impl Window {
         requires room { length self.old ≤ MAX_LINE + 1 }
         requires some { 0 < most }
         ensures ok { IfOk result (λ count. Fills (S.left input.old) (S.left input.new) self.old self.new count most) }
+        ensures block { IfOk result (λ count. count ≤ BLOCK) }
         ensures err { OnErr result (StaysUnread (S.left input.old) (S.left input.new) self.old self.new) }
         ensures count { S.faults input.old ≤ S.faults input.new }
         ensures failed { OnErr result (Rose (S.faults input.old) (S.faults input.new)) }
