@@ -4,7 +4,7 @@ ghost use Rattle.upload_format.specs.Names.{names, AreRising};
 ghost use Rattle.lei_office.specs.Records.{IsLeastUnknown, text_of, is_field, is_missing, is_misshapen, has_other_remainder, has_wrong_digits, unknown_name, first_field, failed_check, field_check, record_of, readied, ready as ready_of};
 
 use crate::check::{CHECK_DIGITS, Check, Detail, FIELD_MISSING, FIELD_SHAPE, FIELD_UNKNOWN};
-use crate::fields::{Shape, record_fields};
+use crate::fields::{Field, Shape, record_fields};
 use lei_code::{Lei, LeiFault};
 use lei_outside::{NoMemory, Text};
 use std::alloc::Global;
@@ -150,19 +150,19 @@ fn is_field(name: &str) -> bool
     record_fields().iter().any(|field| field.0 == name)
 }
 
-fn is_missing(pairs: &[(Text, Text)], field: &(&'static str, Shape)) -> bool
+fn is_missing(pairs: &[(Text, Text)], field: &Field) -> bool
     ensures { result ≡ is_missing pairs.now (field.now.0.now, field.now.1) }
 {
     text_of(pairs, field.0).is_empty()
 }
 
-fn is_misshapen(pairs: &[(Text, Text)], field: &(&'static str, Shape)) -> bool
+fn is_misshapen(pairs: &[(Text, Text)], field: &Field) -> bool
     ensures { result ≡ is_misshapen pairs.now (field.now.0.now, field.now.1) }
 {
     !is_missing(pairs, field) && !field.1.fits(text_of(pairs, field.0))
 }
 
-fn has_wrong_digits(pairs: &[(Text, Text)], field: &(&'static str, Shape)) -> bool
+fn has_wrong_digits(pairs: &[(Text, Text)], field: &Field) -> bool
     ensures { result ≡ has_wrong_digits pairs.now (field.now.0.now, field.now.1) }
 {
     match field.1 {
