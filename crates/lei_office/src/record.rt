@@ -41,6 +41,7 @@ pub fn least_unknown_name()
         → (name : List ℕ) → Contains (names pairs) name → IsTrue (is_field name) }
 {}
 
+// C01, and then the checks after it.
 #[tactic(auto, unfolding(crate::specs::Records::failed_check))]
 fn by_names(alloc: Global, pairs: &[(Text, Text)]) -> Result<Readied, NoMemory>
     ensures { IfOk result (λ item. item ≡ readied pairs.now (failed_check pairs.now)) }
@@ -51,6 +52,7 @@ fn by_names(alloc: Global, pairs: &[(Text, Text)]) -> Result<Readied, NoMemory>
     }
 }
 
+// C02, and then the checks after it.
 #[tactic(auto, unfolding(crate::specs::Records::failed_check))]
 fn by_presence(alloc: Global, pairs: &[(Text, Text)]) -> Result<Readied, NoMemory>
     requires { unknown_name pairs.now ≡ None }
@@ -62,6 +64,7 @@ fn by_presence(alloc: Global, pairs: &[(Text, Text)]) -> Result<Readied, NoMemor
     }
 }
 
+// C03, and then the check after it.
 #[tactic(auto, unfolding(crate::specs::Records::failed_check))]
 fn by_shapes(alloc: Global, pairs: &[(Text, Text)]) -> Result<Readied, NoMemory>
     requires known { unknown_name pairs.now ≡ None }
@@ -74,6 +77,7 @@ fn by_shapes(alloc: Global, pairs: &[(Text, Text)]) -> Result<Readied, NoMemory>
     }
 }
 
+// C04, and then the record.
 #[tactic(auto, unfolding(crate::specs::Records::failed_check))]
 fn by_digits(alloc: Global, pairs: &[(Text, Text)]) -> Result<Readied, NoMemory>
     requires known { unknown_name pairs.now ≡ None }
@@ -117,6 +121,7 @@ fn unknown_name(pairs: &[(Text, Text)]) -> Option<&str>
         .find(|name| !is_field(name))
 }
 
+// The first field of which each check's question is true.
 fn first_missing(pairs: &[(Text, Text)]) -> Option<&'static str>
     ensures { option_copied result ≡ first_field (is_missing pairs.now) }
 {
