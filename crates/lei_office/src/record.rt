@@ -121,7 +121,7 @@ fn unknown_name(pairs: &[(Text, Text)]) -> Option<&str>
         .find(|name| !is_field(name))
 }
 
-// The first field of which each check's question is true.
+// The first needed field that is absent.
 fn first_missing(pairs: &[(Text, Text)]) -> Option<&'static str>
     ensures { option_copied result ≡ first_field (is_missing pairs.now) }
 {
@@ -131,6 +131,7 @@ fn first_missing(pairs: &[(Text, Text)]) -> Option<&'static str>
     Some(field.0)
 }
 
+// The first field that stands and has another shape.
 fn first_misshapen(pairs: &[(Text, Text)]) -> Option<&'static str>
     ensures { option_copied result ≡ first_field (is_misshapen pairs.now) }
 {
@@ -140,6 +141,7 @@ fn first_misshapen(pairs: &[(Text, Text)]) -> Option<&'static str>
     Some(field.0)
 }
 
+// The first code with wrong check digits.
 fn first_with_wrong_digits(pairs: &[(Text, Text)]) -> Option<&'static str>
     ensures { option_copied result ≡ first_field (has_wrong_digits pairs.now) }
 {
