@@ -1,5 +1,5 @@
 -- The fields of a record, and the shapes of their texts. This project's profile.
-use Rattle.std.specs.Prelude.{◌≡◌, ℕ, List, length, map, Bool, true, false, not, ◌&&◌, ◌==◌, is_none}
+use Rattle.std.specs.Prelude.{ℕ, List, length, map, Bool, true, false, not, ◌&&◌, ◌==◌, is_none}
 use Rattle.std.specs.Borrow.{Bor}
 use Rattle.std.specs.Char.{is_control}
 use Rattle.std.specs.Int.{is_in_range}

@@ -1,5 +1,5 @@
 -- Whether an item that was sent is a record: its checks, each a sentence over its fields, and the record that it is.
-use Rattle.std.specs.Prelude.{◌≡◌, ◌≢◌, ℕ, ◌%◌, List, ◌∷◌, ◌++◌, length, Contains, IsTrue, if◌then◌else◌, codes, Bool, not, ◌&&◌, ◌==◌, find, Option, Some, None, option_map, unwrap_or}
+use Rattle.std.specs.Prelude.{◌≢◌, ℕ, ◌%◌, List, ◌∷◌, ◌++◌, length, Contains, IsTrue, if◌then◌else◌, codes, Bool, not, ◌&&◌, ◌==◌, find, Option, Some, None, option_map, unwrap_or}
 use Rattle.std.specs.Cmp.Lexicographic.{slice_cmp}
 use Rattle.std.specs.Option.{option_or}
 use Rattle.std.specs.Ordering.{nat_cmp}

@@ -13,15 +13,15 @@ pub enum Shape {
     Free,
 }
 
-/// The fields of a record in order of place, each with its name and its shape. Each is needed.
-pub const FIELDS: [(&'static str, Shape); 2] = [
-    ("LEI", Shape::Code),
-    ("Entity.LegalName", Shape::Free),
-];
+/// A field's name and its shape.
+pub type Field = (&'static str, Shape);
+
+/// The fields of a record in order of place. Each is needed.
+pub const FIELDS: [Field; 2] = [("LEI", Shape::Code), ("Entity.LegalName", Shape::Free)];
 
 // The fields of a record, lent.
 #[tactic(auto, unfolding(crate::specs::Fields::fields))]
-pub fn record_fields() -> &'static [(&'static str, Shape)]
+pub fn record_fields() -> &'static [Field]
     ensures { map read_field result.now ≡ fields }
 {
     &FIELDS

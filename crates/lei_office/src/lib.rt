@@ -14,7 +14,7 @@ mod texts;
 mod verdict;
 
 pub use check::{Check, Detail};
-pub use fields::{FIELDS, Shape};
+pub use fields::{FIELDS, Field, Shape};
 pub use ledger::{ACCREDIT, RULES, UPLOAD};
 pub use office::Office;
 pub use record::{Readied, Record, least_unknown_name, ready};

@@ -4,7 +4,7 @@ ghost use Rattle.upload_format.specs.Names.{names, AreRising};
 ghost use Rattle.lei_office.specs.Records.{IsLeastUnknown, text_of, is_field, is_missing, is_misshapen, has_other_remainder, has_wrong_digits, unknown_name, first_field, failed_check, field_check, record_of, readied, ready as ready_of};
 
 use crate::check::{CHECK_DIGITS, Check, Detail, FIELD_MISSING, FIELD_SHAPE, FIELD_UNKNOWN};
-use crate::fields::{Shape, record_fields};
+use crate::fields::{Field, Shape, record_fields};
 use lei_code::{Lei, LeiFault};
 use lei_outside::{NoMemory, Text};
 use std::alloc::Global;
@@ -41,6 +41,7 @@ pub fn least_unknown_name()
         → (name : List ℕ) → Contains (names pairs) name → IsTrue (is_field name) }
 {}
 
+// C01, and then the checks after it.
 #[tactic(auto, unfolding(crate::specs::Records::failed_check))]
 fn by_names(alloc: Global, pairs: &[(Text, Text)]) -> Result<Readied, NoMemory>
     ensures { IfOk result (λ item. item ≡ readied pairs.now (failed_check pairs.now)) }
@@ -51,6 +52,7 @@ fn by_names(alloc: Global, pairs: &[(Text, Text)]) -> Result<Readied, NoMemory>
     }
 }
 
+// C02, and then the checks after it.
 #[tactic(auto, unfolding(crate::specs::Records::failed_check))]
 fn by_presence(alloc: Global, pairs: &[(Text, Text)]) -> Result<Readied, NoMemory>
     requires { unknown_name pairs.now ≡ None }
@@ -62,6 +64,7 @@ fn by_presence(alloc: Global, pairs: &[(Text, Text)]) -> Result<Readied, NoMemor
     }
 }
 
+// C03, and then the check after it.
 #[tactic(auto, unfolding(crate::specs::Records::failed_check))]
 fn by_shapes(alloc: Global, pairs: &[(Text, Text)]) -> Result<Readied, NoMemory>
     requires known { unknown_name pairs.now ≡ None }
@@ -74,6 +77,7 @@ fn by_shapes(alloc: Global, pairs: &[(Text, Text)]) -> Result<Readied, NoMemory>
     }
 }
 
+// C04, and then the record.
 #[tactic(auto, unfolding(crate::specs::Records::failed_check))]
 fn by_digits(alloc: Global, pairs: &[(Text, Text)]) -> Result<Readied, NoMemory>
     requires known { unknown_name pairs.now ≡ None }
@@ -117,6 +121,7 @@ fn unknown_name(pairs: &[(Text, Text)]) -> Option<&str>
         .find(|name| !is_field(name))
 }
 
+// The first needed field that is absent.
 fn first_missing(pairs: &[(Text, Text)]) -> Option<&'static str>
     ensures { option_copied result ≡ first_field (is_missing pairs.now) }
 {
@@ -126,6 +131,7 @@ fn first_missing(pairs: &[(Text, Text)]) -> Option<&'static str>
     Some(field.0)
 }
 
+// The first field that stands and has another shape.
 fn first_misshapen(pairs: &[(Text, Text)]) -> Option<&'static str>
     ensures { option_copied result ≡ first_field (is_misshapen pairs.now) }
 {
@@ -135,6 +141,7 @@ fn first_misshapen(pairs: &[(Text, Text)]) -> Option<&'static str>
     Some(field.0)
 }
 
+// The first code with wrong check digits.
 fn first_with_wrong_digits(pairs: &[(Text, Text)]) -> Option<&'static str>
     ensures { option_copied result ≡ first_field (has_wrong_digits pairs.now) }
 {
@@ -150,19 +157,19 @@ fn is_field(name: &str) -> bool
     record_fields().iter().any(|field| field.0 == name)
 }
 
-fn is_missing(pairs: &[(Text, Text)], field: &(&'static str, Shape)) -> bool
+fn is_missing(pairs: &[(Text, Text)], field: &Field) -> bool
     ensures { result ≡ is_missing pairs.now (field.now.0.now, field.now.1) }
 {
     text_of(pairs, field.0).is_empty()
 }
 
-fn is_misshapen(pairs: &[(Text, Text)], field: &(&'static str, Shape)) -> bool
+fn is_misshapen(pairs: &[(Text, Text)], field: &Field) -> bool
     ensures { result ≡ is_misshapen pairs.now (field.now.0.now, field.now.1) }
 {
     !is_missing(pairs, field) && !field.1.fits(text_of(pairs, field.0))
 }
 
-fn has_wrong_digits(pairs: &[(Text, Text)], field: &(&'static str, Shape)) -> bool
+fn has_wrong_digits(pairs: &[(Text, Text)], field: &Field) -> bool
     ensures { result ≡ has_wrong_digits pairs.now (field.now.0.now, field.now.1) }
 {
     match field.1 {

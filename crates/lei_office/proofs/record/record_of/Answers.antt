@@ -1,6 +1,5 @@
-use Rattle.std.proofs.Common.{◌≡◌, None, codes, sym, ap, ◌∙◌}
+use Rattle.std.proofs.Common.{ap, ◌∙◌}
 use Rattle.lei_code.specs.Fault.{fault_of}
-use Rattle.lei_office.specs.Records.{text_of}
 use Rattle.lei_office.proofs.RecordLemmas.{no_fault_of_item}
 use Rattle.lei_office.proofs.record.record_of.Goals as goal
 
