@@ -1,7 +1,6 @@
 -- Histories that grow by an entry: the table after them, and that they stay legal.
-use Rattle.std.proofs.Common.{◌≡◌, ℕ, List, [], ◌∷◌, ◌++◌, fold, Bool, true, false, cond, ltb, length, Option, Some, None, Result, Ok, Err, refl, sym, ap, ◌∙◌, subst, append_assoc, append-nil, rules}
+use Rattle.std.proofs.Common.{◌≡◌, ℕ, List, [], ◌∷◌, ◌++◌, fold, Bool, true, false, cond, ltb, length, Option, Some, None, Result, Ok, Err, refl, sym, ap, ◌∙◌, subst, append_assoc, append-nil}
 use Rattle.std.proofs.lemmas.List.Sums.{fold-append}
-use Rattle.lei_code.specs.Code.{IsValid}
 use Rattle.lei_outside.specs.declared.faults.NoMemory.{NoMemory}
 use Rattle.lei_outside.specs.declared.entry.KeptEntry.{KeptEntry}
 use Rattle.upload_format.specs.Bodies.{upload}
@@ -17,9 +16,9 @@ use Rattle.lei_office.specs.declared.reply.Reply.{Reply}
 use Rattle.lei_office.specs.declared.reply.Reply.TheVariants.{Words}
 use Rattle.lei_office.specs.declared.verdict.Verdict.{Verdict}
 use Rattle.lei_office.specs.History.{History, accredited, Place, unknown_office, repeat_of, taken, ahead, fresh, place}
-use Rattle.lei_office.specs.Register.{Table, put, take_items, after, after_entry, items_in}
-use Rattle.lei_office.specs.Replies.{Outcome, stays, adds, outcome, accredit_outcome, upload_outcome, place_outcome, body_outcome, accreditation, upload_entry, taken_upload, next_of, next, Comes}
-use Rattle.lei_office.specs.Legal.{IsNumbered, IsRequest, request_of, IsNext, LegalAfter, Legal}
+use Rattle.lei_office.specs.Register.{put, take_items, after, after_entry, items_in}
+use Rattle.lei_office.specs.Replies.{stays, adds, outcome, accredit_outcome, upload_outcome, place_outcome, body_outcome, accreditation, upload_entry, taken_upload, next_of, next, Comes}
+use Rattle.lei_office.specs.Legal.{IsRequest, request_of, IsNext, LegalAfter, Legal}
 
 -- ---- the table
 

@@ -1,5 +1,5 @@
 -- The texts of answers: JSON objects in their compact form, with their names in byte order (RFC 8259).
-use Rattle.std.specs.Prelude.{ℕ, List, [], ◌∷◌, ◌++◌, codes, map}
+use Rattle.std.specs.Prelude.{ℕ, List, [], ◌∷◌, codes, map}
 use Rattle.serde_json.specs.Data.{Data, number, unsigned, string, array, object, Items, no_items, item, member, no_members}
 use Rattle.serde_json.specs.Written.{compact_text}
 use Rattle.lei_office.specs.declared.verdict.Verdict.{Verdict}

@@ -1,5 +1,4 @@
 use Rattle.std.proofs.Common.{rules, tests, ◌≡◌, ◌==◌, ◌-◌, false, cond, None, slice_get, ap, ◌∙◌, sym}
-use Rattle.std.proofs.lemmas.Bool.Decides.{nat_tests}
 use Rattle.std.proofs.lemmas.Iterator.{YieldsList-from_slice}
 use Rattle.std.proofs.lemmas.Iterator.Consumers.{nth_from_yields_List, YieldsList-from_filter}
 use Rattle.lei_office.specs.History.{is_upload_of, uploads}

@@ -1,0 +1,270 @@
+// What an office answers. The answers come from the profile of requests; the codes are public ones or made ones.
+use super::Office;
+use crate::reply::{Refusal, Reply};
+use crate::request::{Call, MAX_BODY, MAX_NUMBER, Request};
+use lei_code::Lei;
+use lei_outside::Bytes;
+use std::alloc::Global;
+use std::process::Abort;
+use std::test::Fail;
+
+const FIRST: &str = "506700GE1G29325QX363";
+
+const SECOND: &str = "HWUPKR0MPOU8FGXBT394";
+
+const ALPHA: &str = r#"{"records":[{"Entity.LegalName":"Alpha","LEI":"00000000000000000195"}]}"#;
+
+const WRONG_DIGITS: &str =
+    r#"{"records":[{"Entity.LegalName":"Alpha","LEI":"00000000000000000196"}]}"#;
+
+// A request, and the reply in words.
+#[derive(Clone, Copy)]
+enum Case {
+    Accredit(&'static str, &'static str),
+    Upload(&'static str, u32, &'static str, &'static str),
+}
+
+// The reply's code, a space, and its text or the refusal in words.
+fn told(alloc: Global, reply: &Reply) -> Result<String, Fail> {
+    let code = reply.code();
+    match reply {
+        Reply::Text { text, .. } => {
+            let text = str::from_utf8(text.as_slice())?;
+            Ok(format!(in alloc; "{code} {text}")?)
+        }
+        Reply::Words(refusal) => Ok(format!(in alloc; "{code} {refusal}")?),
+    }
+}
+
+fn accredit(alloc: Global, office: &mut Office, lei: &str) -> Result<String, Fail> {
+    let request = Request::Accredit(Lei::read(lei.as_bytes())?);
+    told(alloc, &office.answer(&request))
+}
+
+fn upload(
+    alloc: Global,
+    office: &mut Office,
+    lei: &str,
+    number: u32,
+    body: &[u8],
+) -> Result<String, Fail> {
+    if number == 0 || number > MAX_NUMBER {
+        return Err(Fail::from("a number that uploads may have"));
+    }
+    let request = Request::Upload(Call {
+        office: Lei::read(lei.as_bytes())?,
+        number,
+        body: Bytes::copy_of(alloc, body)?,
+    });
+    told(alloc, &office.answer(&request))
+}
+
+// The text as often as asked for, between two others.
+fn repeated(
+    alloc: Global,
+    front: &str,
+    text: &str,
+    times: usize,
+    back: &str,
+) -> Result<String, Fail> {
+    let mut all = String::from_str(alloc, front)?;
+    for _ in 0..times {
+        all.push_str(text)?;
+    }
+    all.push_str(back)?;
+    Ok(all)
+}
+
+// Puts the requests to a new office, in order.
+fn answers(rt: &impl Abort, alloc: Global, cases: &[Case]) -> Result<(), Fail> {
+    let mut office = Office::new(alloc)?;
+    for case in cases {
+        match case {
+            Case::Accredit(lei, want) => {
+                let reply = accredit(alloc, &mut office, lei)?;
+                assert_eq!(rt; reply.as_str(), *want, "{lei}");
+            }
+            Case::Upload(lei, number, body, want) => {
+                let reply = upload(alloc, &mut office, lei, *number, body.as_bytes())?;
+                assert_eq!(rt; reply.as_str(), *want, "{lei} {number} {body}");
+            }
+        }
+    }
+    Ok(())
+}
+
+#[test]
+fn one_office_and_its_numbers(rt: HostRuntime) -> Result<(), Fail> {
+    let accredited = r#"200 {"entry":1,"issuer":"506700GE1G29325QX363"}"#;
+    let first =
+        r#"200 {"entry":2,"issuer":"506700GE1G29325QX363","items":["ACCEPTED"],"number":1}"#;
+    answers(
+        &rt,
+        rt.alloc(),
+        &[
+            Case::Accredit(FIRST, accredited),
+            Case::Upload(FIRST, 1, ALPHA, first),
+            Case::Upload(FIRST, 1, ALPHA, first),
+            Case::Upload(FIRST, 1, r#"{"records":[]}"#, "409 NUMBER_TAKEN"),
+            Case::Upload(
+                FIRST,
+                2,
+                WRONG_DIGITS,
+                r#"200 {"entry":3,"issuer":"506700GE1G29325QX363","items":["C04 CHECK_DIGITS LEI"],"number":2}"#,
+            ),
+            Case::Upload(FIRST, 4, ALPHA, "409 NUMBER_AHEAD 3"),
+            // One more space is another body.
+            Case::Upload(
+                FIRST,
+                1,
+                r#"{"records":[{"Entity.LegalName":"Alpha","LEI":"00000000000000000195"}]} "#,
+                "409 NUMBER_TAKEN",
+            ),
+            // Later repeats get what was kept, and make no entry: the next one has the number 4.
+            Case::Upload(FIRST, 1, ALPHA, first),
+            Case::Accredit(FIRST, accredited),
+            Case::Upload(
+                FIRST,
+                3,
+                ALPHA,
+                r#"200 {"entry":4,"issuer":"506700GE1G29325QX363","items":["ACCEPTED"],"number":3}"#,
+            ),
+            Case::Upload(FIRST, 1_000_000, ALPHA, "409 NUMBER_AHEAD 4"),
+        ],
+    )
+}
+
+#[test]
+fn two_offices_number_their_own(rt: HostRuntime) -> Result<(), Fail> {
+    answers(
+        &rt,
+        rt.alloc(),
+        &[
+            Case::Upload(FIRST, 1, ALPHA, "404 ISSUER_UNKNOWN"),
+            Case::Accredit(FIRST, r#"200 {"entry":1,"issuer":"506700GE1G29325QX363"}"#),
+            Case::Upload(SECOND, 1, ALPHA, "404 ISSUER_UNKNOWN"),
+            Case::Upload(FIRST, 2, ALPHA, "409 NUMBER_AHEAD 1"),
+            Case::Upload(
+                FIRST,
+                1,
+                ALPHA,
+                r#"200 {"entry":2,"issuer":"506700GE1G29325QX363","items":["ACCEPTED"],"number":1}"#,
+            ),
+            Case::Accredit(SECOND, r#"200 {"entry":3,"issuer":"HWUPKR0MPOU8FGXBT394"}"#),
+            Case::Upload(SECOND, 2, ALPHA, "409 NUMBER_AHEAD 1"),
+            Case::Upload(
+                SECOND,
+                1,
+                WRONG_DIGITS,
+                r#"200 {"entry":4,"issuer":"HWUPKR0MPOU8FGXBT394","items":["C04 CHECK_DIGITS LEI"],"number":1}"#,
+            ),
+            Case::Upload(SECOND, 1, ALPHA, "409 NUMBER_TAKEN"),
+            Case::Accredit(FIRST, r#"200 {"entry":1,"issuer":"506700GE1G29325QX363"}"#),
+        ],
+    )
+}
+
+#[test]
+fn bodies_that_are_no_uploads_take_no_number(rt: HostRuntime) -> Result<(), Fail> {
+    answers(
+        &rt,
+        rt.alloc(),
+        &[
+            // An unknown office comes before the body, and so does a number that isn't the next.
+            Case::Upload(FIRST, 1, r#"{"records":[]}"#, "404 ISSUER_UNKNOWN"),
+            Case::Accredit(FIRST, r#"200 {"entry":1,"issuer":"506700GE1G29325QX363"}"#),
+            Case::Upload(FIRST, 2, r#"{"records":[]}"#, "409 NUMBER_AHEAD 1"),
+            Case::Upload(FIRST, 1, r#"{"records":[]}"#, "400 MALFORMED NO_ITEMS"),
+            Case::Upload(FIRST, 1, r#"{"records":["#, "400 MALFORMED NOT_JSON"),
+            Case::Upload(FIRST, 1, "", "400 MALFORMED NOT_JSON"),
+            Case::Upload(FIRST, 1, r#"{"records":{}}"#, "400 MALFORMED NOT_AN_UPLOAD"),
+            Case::Upload(
+                FIRST,
+                1,
+                r#"{"records":[],"x":1}"#,
+                "400 MALFORMED NOT_AN_UPLOAD",
+            ),
+            // The number is as free as it was, and no entry was made.
+            Case::Upload(
+                FIRST,
+                1,
+                r#"{"records":[{}]}"#,
+                r#"200 {"entry":2,"issuer":"506700GE1G29325QX363","items":["C02 FIELD_MISSING LEI"],"number":1}"#,
+            ),
+        ],
+    )
+}
+
+#[test]
+fn verdicts_stand_in_the_order_of_the_items(rt: HostRuntime) -> Result<(), Fail> {
+    answers(
+        &rt,
+        rt.alloc(),
+        &[
+            Case::Accredit(FIRST, r#"200 {"entry":1,"issuer":"506700GE1G29325QX363"}"#),
+            Case::Upload(
+                FIRST,
+                1,
+                concat!(
+                    r#"{"records":[{"LEI":"00000000000000000195","Entity.LegalName":"Alpha"},"#,
+                    r#"{"LEI":"00000000000000000196","Entity.LegalName":"Alpha"},"#,
+                    r#"{"LEI":"1","Entity.LegalName":"Alpha"},{"LEI":"1"},"#,
+                    r#"{"LEI":"1","a\"\\\nb\u00e9/":""},"#,
+                    r#"{"LEI":"00000000000000000195","Entity.LegalName":"Beta"},"#,
+                    r#"{"LEI":"00000000000000000292","Entity.LegalName":"Alpha"}]}"#
+                ),
+                concat!(
+                    r#"200 {"entry":2,"issuer":"506700GE1G29325QX363","items":["ACCEPTED","#,
+                    r#""C04 CHECK_DIGITS LEI","C03 FIELD_SHAPE LEI","C02 FIELD_MISSING Entity.LegalName","#,
+                    r#""C01 FIELD_UNKNOWN a\"\\\nbé/","ACCEPTED","ACCEPTED"],"number":1}"#
+                ),
+            ),
+        ],
+    )
+}
+
+#[test]
+fn items_are_counted(rt: HostRuntime) -> Result<(), Fail> {
+    let alloc = rt.alloc();
+    let mut office = Office::new(alloc)?;
+    accredit(alloc, &mut office, FIRST)?;
+    let body = repeated(alloc, r#"{"records":["#, "{},", 5_000, "{}]}")?;
+    let reply = upload(alloc, &mut office, FIRST, 1, body.as_bytes())?;
+    assert_eq!(rt; reply.as_str(), "400 MALFORMED TOO_MANY_ITEMS");
+    let body = repeated(alloc, r#"{"records":["#, "{},", 4_999, "{}]}")?;
+    let reply = upload(alloc, &mut office, FIRST, 1, body.as_bytes())?;
+    let want = repeated(
+        alloc,
+        r#"200 {"entry":2,"issuer":"506700GE1G29325QX363","items":["#,
+        r#""C02 FIELD_MISSING LEI","#,
+        4_999,
+        r#""C02 FIELD_MISSING LEI"],"number":1}"#,
+    )?;
+    assert!(rt; reply == want, "5,000 items");
+    Ok(())
+}
+
+#[test]
+fn bodies_are_measured_before_all_else(rt: HostRuntime) -> Result<(), Fail> {
+    let alloc = rt.alloc();
+    let mut office = Office::new(alloc)?;
+    let most = repeated(alloc, ALPHA, " ", 4_194_304 - ALPHA.len(), "")?;
+    let more = repeated(alloc, most.as_str(), " ", 1, "")?;
+    assert_eq!(rt; most.len(), MAX_BODY);
+    for (body, before, after) in [
+        (more.as_str(), "413 TOO_LONG", "413 TOO_LONG"),
+        (
+            most.as_str(),
+            "404 ISSUER_UNKNOWN",
+            r#"200 {"entry":2,"issuer":"506700GE1G29325QX363","items":["ACCEPTED"],"number":1}"#,
+        ),
+        (more.as_str(), "413 TOO_LONG", "413 TOO_LONG"),
+    ] {
+        let reply = upload(alloc, &mut office, SECOND, 1, body.as_bytes())?;
+        assert_eq!(rt; reply.as_str(), before);
+        accredit(alloc, &mut office, FIRST)?;
+        let reply = upload(alloc, &mut office, FIRST, 1, body.as_bytes())?;
+        assert_eq!(rt; reply.as_str(), after);
+    }
+    Ok(())
+}
