@@ -4,3 +4,5 @@ pub mod Running
 pub mod Filling
 pub mod Asking
 pub mod LineLemmas
+pub mod Reading
+pub mod Ending

@@ -4,3 +4,6 @@ pub mod Outbox
 pub mod Runs
 pub mod Window
 pub mod Lines
+pub mod Reading
+pub mod Ends
+pub mod Status

@@ -54,8 +54,8 @@ fn line_of(part: &[u8]) -> &[u8]
     }
 }
 
-// Where the next line ends, if the first `seen` bytes have no line's end.
-fn next_end(rest: &[u8], seen: usize) -> Option<usize>
+/// Where the next line ends, if the first `seen` bytes have no line's end.
+pub fn next_end(rest: &[u8], seen: usize) -> Option<usize>
     requires within { seen ≤ length rest.now }
     requires seen { HasNoEnd (take seen rest.now) }
     ensures found { IfSome result (λ end. Ends rest.now (take end rest.now) (drop (end + 1) rest.now)) }

@@ -5,11 +5,29 @@ mod answering;
 #[cfg(test)]
 mod fakes;
 mod outbox;
+mod reader;
 pub mod requests;
+pub mod run;
 mod streams;
 mod window;
 mod writing;
 
-fn main() {
-    let _ = requests::MAX_LINE;
+use run::{OK, run, status_text};
+use std::env;
+use std::io;
+use std::process::ExitCode;
+use streams::{StdSink, StdSource};
+
+const HELP: &'static str = "leireg lines: answers each line of the standard input, as in ACCREDIT OFFICE or UPLOAD OFFICE NUMBER BODY";
+
+fn main(rt: HostRuntime) -> io::Result<ExitCode> {
+    let alloc = rt.alloc();
+    let words: Vec<String> = env::args(&rt)?.skip(1).collect(alloc)?;
+    let mut input = StdSource::new(rt.stdin());
+    let mut out = StdSink::new(rt.stdout());
+    let status = run(alloc, &words, &mut input, &mut out);
+    if status != OK {
+        eprintln!(rt; "{}\n{HELP}", status_text(status))?;
+    }
+    Ok(ExitCode::from(status))
 }

@@ -1,8 +1,9 @@
 //! The bytes of the input that were read and not used up yet.
 ghost use Rattle.std.specs.Prelude.{◌≡◌, ◌≤◌, ◌<◌, ◌+◌, [], length, drop, vec_len, IfOk, OnErr};
 ghost use Rattle.lei_outside.specs.Count.{Rose};
-ghost use Rattle.leireg.specs.Window.{Fills, StaysUnread};
+ghost use Rattle.leireg.specs.Window.{Fills, Skips, StaysUnread};
 
+use crate::answering::next_end;
 use crate::outbox::BLOCK;
 use crate::requests::MAX_LINE;
 use lei_outside::{Failed, NoMemory, Source};
@@ -70,6 +71,22 @@ impl Window {
     {
         self.buffer.copy_within(count..self.held, 0);
         self.held -= count;
+    }
+
+    /// Drops the bytes up to the first line's end, with it, or all where there is none. Says whether there was one.
+    pub fn skip_line(&mut self) -> bool
+        ensures { Skips self.old self.new result }
+    {
+        match next_end(self.bytes(), 0) {
+            Some(end) => {
+                self.use_up(end + 1);
+                true
+            }
+            None => {
+                self.clear();
+                false
+            }
+        }
     }
 
     /// Drops all bytes.

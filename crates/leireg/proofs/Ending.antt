@@ -1,0 +1,336 @@
+-- Runs over lines: what they have done between two reads, and how they end.
+use Rattle.std.proofs.Common.{◌≡◌, ℕ, ◌+◌, ◌<◌, ◌≤◌, List, [], ◌∷◌, ◌++◌, length, take, drop, Bool, true, false, cond, eqb, Option, Result, Ok, Err, IsErr, ◌⊎◌, inl, inr, refl, sym, ap, ◌∙◌, subst, append_assoc, arith, length-append, take-append-drop}
+use Rattle.std.proofs.lemmas.List.{append-nil, take-append-le}
+use Rattle.std.proofs.Math.Seq.{take-append-add, take-length}
+use Rattle.std.specs.Str.Lines.{lines}
+use Rattle.lei_outside.specs.Told.{Grows, Loses, IsAtEnd, TakesFront}
+use Rattle.lei_outside.specs.declared.faults.SinkFault.{SinkFault}
+use Rattle.lei_outside.proofs.Told.{Grows-none, Grows-join, Loses-none, Loses-join}
+use Rattle.lei_office.specs.declared.request.Asked.{Asked}
+use Rattle.lei_office.specs.declared.reply.Reply.{Reply}
+use Rattle.lei_office.specs.History.{History}
+use Rattle.lei_office.specs.Legal.{Session}
+use Rattle.leireg.specs.Ends.{AreAnswered, IsDone, IsReadFault, IsStopped, IsTooLong, RunsLines}
+use Rattle.leireg.specs.Lines.{HasNoEnd, IsClosed, whole_part, last_part}
+use Rattle.leireg.specs.Outbox.{Sends, Puts}
+use Rattle.leireg.specs.Reading.{Holds, TakesIn}
+use Rattle.leireg.specs.Requests.{asked}
+use Rattle.leireg.specs.Runs.{asks_of, Answers, AnswersFront, AnswersAndPuts}
+use Rattle.leireg.specs.Window.{Fills, StaysUnread}
+use Rattle.leireg.proofs.LineLemmas.{IsClosed-append, IsClosed-whole_part, HasNoEnd-last_part, HasNoEnd-nil, HasNoEnd-take, parts_of, whole_part-is, lines-end, lines-closed}
+use Rattle.leireg.proofs.Reading.{goes_on}
+use Rattle.leireg.proofs.Running.{Answered, Answered-nothing, Answers-join, AnswersFront-of}
+use Rattle.leireg.proofs.Sending.{Grows-front, Puts-then}
+
+-- ---- what a reader holds
+
+pub held_unseen : (skips : Bool) (held part : List ℕ) → Holds skips held part → HasNoEnd held
+held_unseen true held part holds = let N : List ℕ → Type 0 = λ xs. HasNoEnd xs in subst N (sym holds.1) HasNoEnd-nil
+held_unseen false held part holds = let N : List ℕ → Type 0 = λ xs. HasNoEnd xs in subst N (sym holds.1) holds.0
+
+pub held_room : (skips : Bool) (held part : List ℕ) → Holds skips held part → length held ≤ 4194341
+held_room true held part holds = let none : length held ≡ 0 = ap length holds.1 in omega arith
+held_room false held part holds = let same : length held ≡ length part = ap length holds.1 in omega (arith, holds.2)
+
+-- ---- the last line
+
+asks_of-last : (part : List ℕ) (test : Bool) → eqb (length part) 0 ≡ test → asks_of (part ∷ []) ≡ asks_of (cond test [] (part ∷ []))
+asks_of-last part true is = ap (λ b. cond b [] (asked part ∷ [])) is
+asks_of-last part false is = refl
+
+Answers-last : (old new : History) (part texts : List ℕ) → Answers old (part ∷ []) texts new → Answers old (cond (eqb (length part) 0) [] (part ∷ [])) texts new
+Answers-last old new part texts run =
+    let S : List Asked → Type 0 = λ asks. Session old asks run.replies new in
+    record { replies = run.replies; session = subst S (asks_of-last part (eqb (length part) 0) refl) run.session; texts = run.texts }
+
+-- ---- between two reads
+
+-- So many bytes were read, of which those in front are whole lines and were answered, and the rest is held.
+pub record Midway (left left_now taken taken_now : Option (List ℕ)) (count : ℕ) (office : History) (waits : List ℕ) (skips : Bool) (held : List ℕ) : Type 0 where
+  pub read : List ℕ
+  pub front : List ℕ
+  pub part : List ℕ
+  pub long : length read ≡ count
+  pub below : count < 4294967296
+  pub loses : Loses left left_now read
+  pub parts : read ≡ front ++ part
+  pub answered : Answered [] front office taken taken_now [] waits
+  pub holds : Holds skips held part
+
+pub begins : (left taken : Option (List ℕ)) (office : History) (waits : List ℕ) (skips : Bool) (held : List ℕ) → office ≡ [] → waits ≡ [] → Holds skips held [] → Midway left left taken taken 0 office waits skips held
+begins left taken office waits skips held none empty holds =
+    let A : History → Type 0 = λ h. Answered [] [] h taken taken [] waits in
+    let B : List ℕ → Type 0 = λ xs. Answered [] [] [] taken taken [] xs in
+    record {
+      read = [];
+      front = [];
+      part = [];
+      long = refl;
+      below = omega arith;
+      loses = Loses-none left;
+      parts = refl;
+      answered = subst A (sym none) (subst B (sym empty) (Answered-nothing [] taken []));
+      holds = holds;
+    }
+
+-- what waited was taken
+Sends-all : (a b c : Option (List ℕ)) (all waits : List ℕ) → Sends a b all waits → Grows b c waits → Sends a c all []
+Sends-all a b c all waits sent more = (sent.0 ++ waits, Grows-join a b c sent.0 waits sent.1 more, sent.2 ∙ sym (append-nil (sent.0 ++ waits)))
+
+pub flushed : (left left_now a b c : Option (List ℕ)) (count : ℕ) (office : History) (waits : List ℕ) (skips : Bool) (held : List ℕ) → Midway left left_now a b count office waits skips held → Grows b c waits
+    → Midway left left_now a c count office [] skips held
+flushed left left_now a b c count office waits skips held at more =
+    record {
+      read = at.read;
+      front = at.front;
+      part = at.part;
+      long = at.long;
+      below = at.below;
+      loses = at.loses;
+      parts = at.parts;
+      answered = record {
+        closed = at.answered.closed;
+        texts = at.answered.texts;
+        run = at.answered.run;
+        sent = Sends-all a b c at.answered.texts waits at.answered.sent more;
+      };
+      holds = at.holds;
+    }
+
+whole_parts : (read front part more front' rest : List ℕ) → read ≡ front ++ part → part ++ more ≡ front' ++ rest → read ++ more ≡ (front ++ front') ++ rest
+whole_parts read front part more front' rest first second =
+    ap (λ xs. xs ++ more) first ∙ (append_assoc front part more ∙ (ap (λ xs. front ++ xs) second ∙ sym (append_assoc front front' rest)))
+
+take-front : (xs ys : List ℕ) → take (length xs) (xs ++ ys) ≡ xs
+take-front xs ys = take-append-le (length xs) xs ys (omega arith) ∙ take-length xs
+
+drop-front : (xs ys : List ℕ) → drop (length xs) (xs ++ ys) ≡ ys
+drop-front [] ys = refl
+drop-front (x ∷ xs) ys = drop-front xs ys
+
+length-none : (xs : List ℕ) → length xs ≡ 0 → xs ≡ []
+length-none [] is = refl
+length-none (x ∷ xs) is = cc
+
+-- a block was read behind what is held
+pub record Block (held held_now more : List ℕ) (seen : ℕ) : Type 0 where
+  pub front : take seen held_now ≡ held
+  pub back : drop seen held_now ≡ more
+
+pub block_of : (held held_now more : List ℕ) → held_now ≡ held ++ more → Block held held_now more (length held)
+block_of held held_now more is =
+    let B : List ℕ → Type 0 = λ xs. Block held xs more (length held) in
+    subst B (sym is) (record { front = take-front held more; back = drop-front held more })
+
+-- and its lines were answered
+pub takes_in : (left mid left_now a b c : Option (List ℕ)) (count n most : ℕ) (office new : History) (waits : List ℕ) (skips skips_now : Bool) (held held_mid held_now : List ℕ) → Midway left mid a b count office [] skips held
+    → Fills mid left_now held held_mid n most → count + n < 4294967296
+    → ((part : List ℕ) → Holds skips (take (length held) held_mid) part → TakesIn {T = Unit {0}} {E = SinkFault} part (drop (length held) held_mid) office new b c [] (Ok (tt {0})) waits skips_now held_now)
+    → Midway left left_now a c (count + n) new waits skips_now held_now
+takes_in left mid left_now a b c count n most office new waits skips skips_now held held_mid held_now at fills below goes =
+    let more = fills.0 in
+    let block = block_of held held_mid more fills.4 in
+    let H : List ℕ → Type 0 = λ xs. Holds skips xs at.part in
+    let then = goes at.part (subst H (sym block.front) at.holds) in
+    let next = goes_on {T = Unit {0}} {E = SinkFault} [] office new at.front then.0 a b c [] [] waits (Ok (tt {0})) at.answered then.4 in
+    record {
+      read = at.read ++ more;
+      front = at.front ++ then.0;
+      part = then.1;
+      long = length-append at.read more ∙ omega (arith, at.long, fills.1);
+      below = below;
+      loses = Loses-join left mid left_now at.read more at.loses fills.3;
+      parts = whole_parts at.read at.front at.part more then.0 then.1 at.parts (ap (λ xs. at.part ++ xs) (sym block.back) ∙ then.2);
+      answered = record {
+        closed = IsClosed-append at.front then.0 at.answered.closed then.3;
+        texts = next.0;
+        run = next.1;
+        sent = next.2;
+      };
+      holds = then.5;
+    }
+
+-- what the lines are
+whole_part-behind : (front rest : List ℕ) → IsClosed front → whole_part (front ++ rest) ≡ front ++ whole_part rest
+whole_part-behind front rest closed =
+    ap (λ xs. whole_part (front ++ xs)) (sym (parts_of rest))
+    ∙ (ap whole_part (sym (append_assoc front (whole_part rest) (last_part rest)))
+    ∙ whole_part-is (front ++ whole_part rest) (last_part rest) (IsClosed-append front (whole_part rest) closed (IsClosed-whole_part rest)) (HasNoEnd-last_part rest))
+
+lines-behind : (read front rest : List ℕ) → read ≡ front ++ rest → IsClosed front → lines (whole_part read) ≡ lines front ++ lines (whole_part rest)
+lines-behind read front rest parts closed =
+    ap (λ xs. lines (whole_part xs)) parts ∙ (ap lines (whole_part-behind front rest closed) ∙ lines-closed front (whole_part rest) closed)
+
+holds-none : (skips : Bool) (held part : List ℕ) → Holds skips held part → HasNoEnd part
+holds-none true held part holds = holds.0
+holds-none false held part holds = holds.0
+
+-- ---- a run that stops
+
+-- what a sink that stopped has of the texts of replies
+record Stopped (taken taken_now : Option (List ℕ)) (all : List (List ℕ)) : Type 0 where
+  written : List ℕ
+  grows : Grows taken taken_now written
+  answers : AnswersFront all written
+
+stopped_at : (a c : Option (List ℕ)) (answered left : List (List ℕ)) (texts : List ℕ) (new : History) → Answers [] answered texts new → TakesFront a c texts → Stopped a c (answered ++ left)
+stopped_at a c answered left texts new run front =
+    record { written = take front.0 texts; grows = front.2; answers = AnswersFront-of answered left texts new front.0 run }
+
+abbrev pub IsCause : ℕ → Type 0
+IsCause status = (status ≡ 4) ⊎ (status ≡ 6)
+
+ends_whole : (left left_now a c : Option (List ℕ)) (read : List ℕ) (status : ℕ) → IsCause status → length read < 4294967296 → Loses left left_now read → Stopped a c (lines (whole_part read)) → RunsLines left left_now a c status
+ends_whole left left_now a c read status cause below loses stopped =
+    record { read = read; written = stopped.written; loses = loses; grows = stopped.grows; ends = inr (inr (inl (cause, below, inl stopped.answers))) }
+
+-- the sink refused what waited
+pub stops_waiting : (left left_now a b c : Option (List ℕ)) (count : ℕ) (office : History) (waits : List ℕ) (skips : Bool) (held : List ℕ) (status : ℕ) → IsCause status → Midway left left_now a b count office waits skips held
+    → TakesFront b c waits → RunsLines left left_now a c status
+stops_waiting left left_now a b c count office waits skips held status cause at front =
+    let answered = at.answered in
+    let T : List ℕ → Type 0 = λ xs. TakesFront a c xs in
+    let S : List (List ℕ) → Type 0 = λ ls. Stopped a c ls in
+    let took = subst T (sym answered.sent.2) (Grows-front a b c answered.sent.0 waits answered.sent.1 front) in
+    let below : length at.read < 4294967296 = omega (arith, at.long, at.below) in
+    ends_whole left left_now a c at.read status cause below at.loses
+    (subst S (sym (lines-behind at.read at.front at.part at.parts answered.closed)) (stopped_at a c (lines at.front) (lines (whole_part at.part)) answered.texts office answered.run took))
+
+-- the sink refused in a block
+pub stops_in : (left mid left_now a b c : Option (List ℕ)) (count n most : ℕ) (office new : History) (waits : List ℕ) (skips skips_now : Bool) (held held_mid held_now : List ℕ) (fault : SinkFault) (status : ℕ) → IsCause status
+    → Midway left mid a b count office [] skips held → Fills mid left_now held held_mid n most → count + n < 4294967296
+    → ((part : List ℕ) → Holds skips (take (length held) held_mid) part → TakesIn {T = Unit {0}} part (drop (length held) held_mid) office new b c [] (Err fault) waits skips_now held_now) → RunsLines left left_now a c status
+stops_in left mid left_now a b c count n most office new waits skips skips_now held held_mid held_now fault status cause at fills below goes =
+    let more = fills.0 in
+    let block = block_of held held_mid more fills.4 in
+    let H : List ℕ → Type 0 = λ xs. Holds skips xs at.part in
+    let then = goes at.part (subst H (sym block.front) at.holds) in
+    let next = goes_on {T = Unit {0}} {E = SinkFault} [] office new at.front then.0 a b c [] [] waits (Err fault) at.answered then.4 in
+    let parts = whole_parts at.read at.front at.part more then.0 then.1 at.parts (ap (λ xs. at.part ++ xs) (sym block.back) ∙ then.2) in
+    let closed = IsClosed-append at.front then.0 at.answered.closed then.3 in
+    let S : List (List ℕ) → Type 0 = λ ls. Stopped a c ls in
+    let short : length (at.read ++ more) < 4294967296 = omega (arith, length-append at.read more, at.long, fills.1) in
+    ends_whole left left_now a c (at.read ++ more) status cause short (Loses-join left mid left_now at.read more at.loses fills.3)
+    (subst S (sym (lines-behind (at.read ++ more) (at.front ++ then.0) then.1 parts closed)) (stopped_at a c (lines (at.front ++ then.0)) (lines (whole_part then.1)) next.0 new next.1 next.2))
+
+-- the source failed
+pub fails_reading : (left mid left_now a c : Option (List ℕ)) (count : ℕ) (office : History) (skips : Bool) (held held_now : List ℕ) → Midway left mid a c count office [] skips held → StaysUnread mid left_now held held_now
+    → RunsLines left left_now a c 3
+fails_reading left mid left_now a c count office skips held held_now at unread =
+    let answered = at.answered in
+    let L : List ℕ → Type 0 = λ xs. Loses left left_now xs in
+    let A : List (List ℕ) → Type 0 = λ ls. Answers [] ls answered.texts office in
+    let G : List ℕ → Type 0 = λ xs. Grows a c xs in
+    let below : length at.read < 4294967296 = omega (arith, at.long, at.below) in
+    let whole : lines (whole_part at.read) ≡ lines at.front = ap (λ xs. lines (whole_part xs)) at.parts ∙ ap lines (whole_part-is at.front at.part answered.closed (holds-none skips held at.part at.holds)) in
+    record {
+      read = at.read;
+      written = answered.texts;
+      loses = subst L (append-nil at.read) (Loses-join left mid left_now at.read [] at.loses unread.0);
+      grows = subst G (sym (answered.sent.2 ∙ append-nil answered.sent.0)) answered.sent.1;
+      ends = inr (inl (refl, below, (office, subst A (sym whole) answered.run)));
+    }
+
+-- so many bytes were read that the run ends
+pub ends_too_long : (left mid left_now a c : Option (List ℕ)) (count n most : ℕ) (office : History) (skips : Bool) (held held_now : List ℕ) → Midway left mid a c count office [] skips held → Fills mid left_now held held_now n most
+    → n ≤ 65536 → 0 < n → count + n ≡ 4294967296 → RunsLines left left_now a c 8
+ends_too_long left mid left_now a c count n most office skips held held_now at fills within some is =
+    let more = fills.0 in
+    let answered = at.answered in
+    let A : List (List ℕ) → Type 0 = λ ls. Answers [] ls answered.texts office in
+    let G : List ℕ → Type 0 = λ xs. Grows a c xs in
+    let whole : lines (whole_part at.read) ≡ lines at.front = ap (λ xs. lines (whole_part xs)) at.parts ∙ ap lines (whole_part-is at.front at.part answered.closed (holds-none skips held at.part at.holds)) in
+    let long : length (at.read ++ more) ≡ 4294967296 = length-append at.read more ∙ omega (arith, at.long, fills.1, is) in
+    record {
+      read = at.read ++ more;
+      written = answered.texts;
+      loses = Loses-join left mid left_now at.read more at.loses fills.3;
+      grows = subst G (sym (answered.sent.2 ∙ append-nil answered.sent.0)) answered.sent.1;
+      ends = inr (inr (inr (refl, long, at.read, more, refl, omega (arith, fills.1), omega (arith, fills.1), (office, subst A (sym whole) answered.run))));
+    }
+
+-- ---- the input's end
+
+-- the input was read to its end
+pub record AtEnd (left left_now taken taken_now : Option (List ℕ)) (office : History) (waits : List ℕ) (skips : Bool) (held : List ℕ) : Type 0 where
+  pub count : ℕ
+  pub midway : Midway left left_now taken taken_now count office waits skips held
+  pub ended : IsAtEnd left_now
+
+pub reaches_end : (left mid left_now a c : Option (List ℕ)) (count most : ℕ) (office : History) (skips : Bool) (held held_now : List ℕ) → Midway left mid a c count office [] skips held → Fills mid left_now held held_now 0 most
+    → AtEnd left left_now a c office [] skips held_now
+reaches_end left mid left_now a c count most office skips held held_now at fills =
+    let none : fills.0 ≡ [] = length-none fills.0 fills.1 in
+    let same : held_now ≡ held = fills.4 ∙ (ap (λ xs. held ++ xs) none ∙ append-nil held) in
+    let L : List ℕ → Type 0 = λ xs. Loses left left_now xs in
+    let H : List ℕ → Type 0 = λ xs. Holds skips xs at.part in
+    record {
+      count = count;
+      midway = record {
+        read = at.read;
+        front = at.front;
+        part = at.part;
+        long = at.long;
+        below = at.below;
+        loses = subst L (ap (λ xs. at.read ++ xs) none ∙ append-nil at.read) (Loses-join left mid left_now at.read fills.0 at.loses fills.3);
+        parts = at.parts;
+        answered = at.answered;
+        holds = subst H (sym same) at.holds;
+      };
+      ended = fills.5 refl;
+    }
+
+-- all lines were answered, whatever the sink did
+all_answered : {E : Type 0} (left left_now a b c : Option (List ℕ)) (count : ℕ) (office new : History) (waits left_waits : List ℕ) (skips : Bool) (held : List ℕ) (result : Result (Unit {0}) E) (at : Midway left left_now a b count office waits skips held)
+    → AnswersAndPuts office (at.part ∷ []) new b c waits result left_waits → AnswersAndPuts [] (lines at.read) new a c [] result left_waits
+all_answered left left_now a b c count office new waits left_waits skips held result at then =
+    let answered = at.answered in
+    let last = cond (eqb (length at.part) 0) [] (at.part ∷ []) in
+    let texts = answered.texts ++ then.0 in
+    let A : List (List ℕ) → Type 0 = λ ls. Answers [] ls texts new in
+    let whole : lines at.read ≡ lines at.front ++ last = ap lines at.parts ∙ lines-end at.front at.part answered.closed (holds-none skips held at.part at.holds) in
+    (texts,
+      subst A (sym whole) (Answers-join [] office new (lines at.front) last answered.texts then.0 answered.run (Answers-last office new at.part then.0 then.1)),
+      Puts-then a b c answered.texts waits then.0 left_waits result answered.sent then.2)
+
+ends_all : (left left_now a c : Option (List ℕ)) (read : List ℕ) (status : ℕ) → IsCause status → length read < 4294967296 → Loses left left_now read → IsAtEnd left_now → Stopped a c (lines read) → RunsLines left left_now a c status
+ends_all left left_now a c read status cause below loses ended stopped =
+    record { read = read; written = stopped.written; loses = loses; grows = stopped.grows; ends = inr (inr (inl (cause, below, inr (ended, stopped.answers)))) }
+
+-- the sink refused the last reply
+pub stops_last : (left left_now a b c : Option (List ℕ)) (office new : History) (waits left_waits : List ℕ) (skips : Bool) (held : List ℕ) (fault : SinkFault) (status : ℕ) → IsCause status → AtEnd left left_now a b office waits skips held
+    → ((part : List ℕ) → Holds skips held part → AnswersAndPuts {T = Unit {0}} office (part ∷ []) new b c waits (Err fault) left_waits) → RunsLines left left_now a c status
+stops_last left left_now a b c office new waits left_waits skips held fault status cause end goes =
+    let at = end.midway in
+    let all = all_answered {E = SinkFault} left left_now a b c end.count office new waits left_waits skips held (Err fault) at (goes at.part at.holds) in
+    let S : List (List ℕ) → Type 0 = λ ls. Stopped a c ls in
+    let below : length at.read < 4294967296 = omega (arith, at.long, at.below) in
+    ends_all left left_now a c at.read status cause below at.loses end.ended (subst S (append-nil (lines at.read)) (stopped_at a c (lines at.read) [] all.0 new all.1 all.2))
+
+-- the sink refused what waited at the end
+pub stops_sending : (left left_now a b c d : Option (List ℕ)) (office new : History) (waits left_waits : List ℕ) (skips : Bool) (held : List ℕ) (status : ℕ) → IsCause status → AtEnd left left_now a b office waits skips held
+    → ((part : List ℕ) → Holds skips held part → AnswersAndPuts {T = Unit {0}} {E = SinkFault} office (part ∷ []) new b c waits (Ok (tt {0})) left_waits) → TakesFront c d left_waits → RunsLines left left_now a d status
+stops_sending left left_now a b c d office new waits left_waits skips held status cause end goes front =
+    let at = end.midway in
+    let all = all_answered {E = SinkFault} left left_now a b c end.count office new waits left_waits skips held (Ok (tt {0})) at (goes at.part at.holds) in
+    let S : List (List ℕ) → Type 0 = λ ls. Stopped a d ls in
+    let T : List ℕ → Type 0 = λ xs. TakesFront a d xs in
+    let took = subst T (sym all.2.2) (Grows-front a c d all.2.0 left_waits all.2.1 front) in
+    let below : length at.read < 4294967296 = omega (arith, at.long, at.below) in
+    ends_all left left_now a d at.read status cause below at.loses end.ended (subst S (append-nil (lines at.read)) (stopped_at a d (lines at.read) [] all.0 new all.1 took))
+
+-- all was written
+pub ends_well : (left left_now a b c d : Option (List ℕ)) (office new : History) (waits left_waits : List ℕ) (skips : Bool) (held : List ℕ) → AtEnd left left_now a b office waits skips held
+    → ((part : List ℕ) → Holds skips held part → AnswersAndPuts {T = Unit {0}} {E = SinkFault} office (part ∷ []) new b c waits (Ok (tt {0})) left_waits) → Grows c d left_waits → RunsLines left left_now a d 0
+ends_well left left_now a b c d office new waits left_waits skips held end goes more =
+    let at = end.midway in
+    let all = all_answered {E = SinkFault} left left_now a b c end.count office new waits left_waits skips held (Ok (tt {0})) at (goes at.part at.holds) in
+    let G : List ℕ → Type 0 = λ xs. Grows a d xs in
+    let below : length at.read < 4294967296 = omega (arith, at.long, at.below) in
+    record {
+      read = at.read;
+      written = all.0;
+      loses = at.loses;
+      grows = subst G (sym all.2.2) (Grows-join a c d all.2.0 left_waits all.2.1 more);
+      ends = inl (refl, below, end.ended, (new, all.1));
+    }
