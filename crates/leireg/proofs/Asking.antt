@@ -44,10 +44,10 @@ by_range : (word : List ℕ) (rest : Option (List ℕ)) → AsksInRange (asked_b
 unfolding asked_by
 by_range word rest =
     elim (bytes_eq word (codes "ACCREDIT")) as (λ b. AsksInRange (cond b (or_path (option_and_then accreditation_of rest)) (cond (bytes_eq word (codes "UPLOAD")) (or_path (option_and_then upload_of rest)) (Refuse NoRoute)))) [
-      true ↦ bind_range rest accreditation_of (λ r _. accreditation_range (code_of r))
-    | false ↦ elim (bytes_eq word (codes "UPLOAD")) as (λ b. AsksInRange (cond b (or_path (option_and_then upload_of rest)) (Refuse NoRoute))) [
-        true ↦ bind_range rest upload_of (λ r _. upload_range r)
-      | false ↦ tt
+      | true ↦ bind_range rest accreditation_of (λ r _. accreditation_range (code_of r))
+      | false ↦ elim (bytes_eq word (codes "UPLOAD")) as (λ b. AsksInRange (cond b (or_path (option_and_then upload_of rest)) (Refuse NoRoute))) [
+        | true ↦ bind_range rest upload_of (λ r _. upload_range r)
+        | false ↦ tt
       ]
     ]
 

@@ -202,15 +202,19 @@ ends_at_once left taken status cause =
       written = [];
       loses = Loses-none left;
       grows = Grows-none taken;
-      ends = inr (inr (inl (cause, omega arith, inl (record {
-      answered = [];
-      left = [];
-      parts = ap lines (whole_part-is [] [] (inl refl) HasNoEnd-nil);
-      replies = [];
-      history = [];
-      session = refl;
-      texts = refl;
-    }))));
+      ends = inr (inr (inl (
+        cause,
+        omega arith,
+        inl (record {
+          answered = [];
+          left = [];
+          parts = ap lines (whole_part-is [] [] (inl refl) HasNoEnd-nil);
+          replies = [];
+          history = [];
+          session = refl;
+          texts = refl;
+        }),
+      )));
     }
 
 -- the sink refused what waited
@@ -317,10 +321,11 @@ all_answered left left_now a b c count office new waits left_waits skips held re
     let last = cond (eqb (length at.part) 0) [] (at.part ∷ []) in
     let texts = answered.texts ++ then.0 in
     let A : List (List ℕ) → Type 0 = λ ls. Answers [] ls texts new in
-    let whole : lines at.read ≡ lines at.front ++ last = ap lines at.parts ∙ lines-end at.front at.part answered.closed (holds-none skips held at.part at.holds) in
-    (texts,
+    let whole : lines at.read ≡ lines at.front ++ last = ap lines at.parts ∙ lines-end at.front at.part answered.closed (holds-none skips held at.part at.holds) in (
+      texts,
       subst A (sym whole) (Answers-join [] office new (lines at.front) last answered.texts then.0 answered.run (Answers-last office new at.part then.0 then.1)),
-      Puts-then a b c answered.texts waits then.0 left_waits result answered.sent then.2)
+      Puts-then a b c answered.texts waits then.0 left_waits result answered.sent then.2,
+    )
 
 ends_all : (left left_now a c : Option (List ℕ)) (read : List ℕ) (status : ℕ) → IsCause status → length read < 4294967296 → Loses left left_now read → IsAtEnd left_now → Stopped a c (lines read) → RunsLines left left_now a c status
 ends_all left left_now a c read status cause below loses ended stopped =

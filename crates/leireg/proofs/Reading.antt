@@ -44,9 +44,9 @@ pub goes_on : {T E : Type 0} (old mid new : History) (front more : List ℕ) (a 
 goes_on old mid new front more a b c waited waits left result before then = (
   before.texts ++ then.0,
   (let A : List (List ℕ) → Type 0 = λ ls. Answers old ls (before.texts ++ then.0) new in
-  subst A (sym (lines-closed front more before.closed)) (Answers-join old mid new (lines front) (lines more) before.texts then.0 before.run then.1)),
+      subst A (sym (lines-closed front more before.closed)) (Answers-join old mid new (lines front) (lines more) before.texts then.0 before.run then.1)),
   (let P : List ℕ → Type 0 = λ all. Puts a c all result left in
-  subst P (append_assoc waited before.texts then.0) (Puts-then a b c (waited ++ before.texts) waits then.0 left result before.sent then.2)),
+      subst P (append_assoc waited before.texts then.0) (Puts-then a b c (waited ++ before.texts) waits then.0 left result before.sent then.2)),
 )
 
 -- ---- a block behind the begin of a line that is skipped
@@ -64,9 +64,14 @@ pub skips_all : (E : Type 0) (skips : Bool) (window held : List ℕ) (seen : ℕ
 skips_all E true window held seen office a waits part is none empty holds =
     let N : List ℕ → Type 0 = λ xs. HasNoEnd xs in
     let S : List ℕ → Type 0 = λ all. Sends a a all waits in
-    let more = drop seen window in
-    ([], part ++ more, refl, inl refl, ([], Answers-nothing office, subst S (sym (append-nil waits)) (Sends-nothing a waits)),
-      (HasNoEnd-append part more holds.0 (subst N (sym (behind seen window holds.1)) none), empty, omega (arith, length-append part more, holds.2)))
+    let more = drop seen window in (
+      [],
+      part ++ more,
+      refl,
+      inl refl,
+      ([], Answers-nothing office, subst S (sym (append-nil waits)) (Sends-nothing a waits)),
+      (HasNoEnd-append part more holds.0 (subst N (sym (behind seen window holds.1)) none), empty, omega (arith, length-append part more, holds.2)),
+    )
 skips_all E false window held seen office a waits part is none empty holds = cc
 
 -- a long line ends in the block
@@ -107,12 +112,14 @@ long_goes true window held skips_now seen office new a b c waited waits left par
       texts = reply_text (Words TooLong);
       run = long_line office part before holds.0 ends.none holds.2;
       sent = sent;
-    } in
-    (long ++ then.0, then.1,
+    } in (
+      long ++ then.0,
+      then.1,
       long_parts seen window part before after holds.1 ends ∙ (ap (λ xs. long ++ xs) then.2 ∙ sym (append_assoc long then.0 then.1)),
       IsClosed-append long then.0 closed then.3,
       goes_on office office new long then.0 a b c waited waits left result answered then.4,
-      then.5)
+      then.5,
+    )
 long_goes false window held skips_now seen office new a b c waited waits left part before after result is ends sent then holds = cc
 
 -- ---- a block behind the begin of a line that is held

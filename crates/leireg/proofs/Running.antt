@@ -31,8 +31,8 @@ asks_of-append : (xs ys : List (List ℕ)) → asks_of (xs ++ ys) ≡ asks_of xs
 asks_of-append [] ys = refl
 asks_of-append (line ∷ xs) ys =
     elim (eqb (length line) 0) as (λ b. cond b (asks_of (xs ++ ys)) (asked line ∷ asks_of (xs ++ ys)) ≡ cond b (asks_of xs) (asked line ∷ asks_of xs) ++ asks_of ys) [
-      true ↦ asks_of-append xs ys
-    | false ↦ ap (λ asks. asked line ∷ asks) (asks_of-append xs ys)
+      | true ↦ asks_of-append xs ys
+      | false ↦ ap (λ asks. asked line ∷ asks) (asks_of-append xs ys)
     ]
 
 pub Answers-join : (old mid new : History) (xs ys : List (List ℕ)) (first second : List ℕ) → Answers old xs first mid → Answers mid ys second new → Answers old (xs ++ ys) (first ++ second) new
@@ -176,9 +176,9 @@ pub line_more : {T E : Type 0} (old mid new : History) (front part : List ℕ) (
 line_more old mid new front part a b c waited waits more result before none line = (
   before.texts ++ line.0,
   (let A : List (List ℕ) → Type 0 = λ ls. Answers old ls (before.texts ++ line.0) new in
-  subst A (sym (lines-more front part before.closed none)) (Answers-join old mid new (lines front) (line_of part ∷ []) before.texts line.0 before.run line.1)),
+      subst A (sym (lines-more front part before.closed none)) (Answers-join old mid new (lines front) (line_of part ∷ []) before.texts line.0 before.run line.1)),
   (let P : List ℕ → Type 0 = λ all. Puts a c all result more in
-  subst P (append_assoc waited before.texts line.0) (Puts-then a b c (waited ++ before.texts) waits line.0 more result before.sent line.2)),
+      subst P (append_assoc waited before.texts line.0) (Puts-then a b c (waited ++ before.texts) waits line.0 more result before.sent line.2)),
 )
 
 -- the state of a walk over a block: the lines in front were answered, and the rest has no end up to where it was seen
@@ -199,7 +199,7 @@ next_end rest seen at within unseen found =
     let N : List ℕ → Type 0 = λ xs. HasNoEnd xs in
     record {
       parts = sym (take-append-drop seen rest) ∙ (ap (λ xs. take seen rest ++ xs) (cut_at_end behind at found) ∙ (regrouped (take seen rest) (take at behind) (drop (at + 1) behind)
-      ∙ (ap (λ xs. (xs ++ 10 ∷ []) ++ drop (at + 1) behind) (sym part) ∙ ap (λ xs. (take (seen + at) rest ++ 10 ∷ []) ++ xs) (sym after))));
+          ∙ (ap (λ xs. (xs ++ 10 ∷ []) ++ drop (at + 1) behind) (sym part) ∙ ap (λ xs. (take (seen + at) rest ++ 10 ∷ []) ++ xs) (sym after))));
       none = subst N (sym part) (HasNoEnd-append (take seen rest) (take at behind) unseen (HasNoEnd-before behind at found));
     }
 
@@ -226,9 +226,14 @@ pub walk_stops : (block : List ℕ) (old mid new : History) (rest part after : L
     → IsErr result → Walked block old rest seen mid a b waited waits → Ends rest part after → AnswersAndPuts {T = Unit {0}} mid (line_of part ∷ []) new b c waits (Err fault) more
     → AnswersWhole old block new a c waited result more
 walk_stops block old mid new rest part after seen a b c waited waits more fault (Ok used) failed walked ends line = cc
-walk_stops block old mid new rest part after seen a b c waited waits more fault (Err other) failed walked ends line =
-    ((walked.front ++ part) ++ 10 ∷ [], after, walked.parts ∙ (ap (λ xs. walked.front ++ xs) ends.parts ∙ regrouped walked.front part after), inr (walked.front ++ part, refl),
-      line_more {T = Unit {0}} {E = SinkFault} old mid new walked.front part a b c waited waits more (Err other) walked.answered ends.none line, tt)
+walk_stops block old mid new rest part after seen a b c waited waits more fault (Err other) failed walked ends line = (
+  (walked.front ++ part) ++ 10 ∷ [],
+  after,
+  walked.parts ∙ (ap (λ xs. walked.front ++ xs) ends.parts ∙ regrouped walked.front part after),
+  inr (walked.front ++ part, refl),
+  line_more {T = Unit {0}} {E = SinkFault} old mid new walked.front part a b c waited waits more (Err other) walked.answered ends.none line,
+  tt,
+)
 
 -- the walk's end
 pub walk_ends : (block : List ℕ) (old new : History) (rest : List ℕ) (seen : ℕ) (a b : Option (List ℕ)) (waited waits : List ℕ) → Walked block old rest seen new a b waited waits

@@ -24,9 +24,11 @@ TakesFront-longer a c xs ys front =
 -- ---- what was sent and waits, with a piece more
 
 pub Sends-then : (a b c : Option (List ℕ)) (all waits piece more : List ℕ) → Sends a b all waits → Sends b c (waits ++ piece) more → Sends a c (all ++ piece) more
-Sends-then a b c all waits piece more first second =
-    (first.0 ++ second.0, Grows-join a b c first.0 second.0 first.1 second.1,
-      ap (λ xs. xs ++ piece) first.2 ∙ (append_assoc first.0 waits piece ∙ (ap (λ xs. first.0 ++ xs) second.2 ∙ sym (append_assoc first.0 second.0 more))))
+Sends-then a b c all waits piece more first second = (
+  first.0 ++ second.0,
+  Grows-join a b c first.0 second.0 first.1 second.1,
+  ap (λ xs. xs ++ piece) first.2 ∙ (append_assoc first.0 waits piece ∙ (ap (λ xs. first.0 ++ xs) second.2 ∙ sym (append_assoc first.0 second.0 more))),
+)
 
 pub Sends-front : (a b c : Option (List ℕ)) (all waits piece : List ℕ) → Sends a b all waits → TakesFront b c (waits ++ piece) → TakesFront a c (all ++ piece)
 Sends-front a b c all waits piece first front =
@@ -61,5 +63,5 @@ refused a b c pieces i d held waits within sent front =
     let P : List ℕ → Type 0 = λ xs. TakesFront a c xs in
     let whole : ((held ++ done) ++ here) ++ rest ≡ held ++ flat_map (λ piece. piece.now) pieces =
     ap (λ xs. xs ++ rest) (append_assoc held done here) ∙ (append_assoc held (done ++ here) rest
-      ∙ ap (λ xs. held ++ xs) (ap (λ xs. xs ++ rest) (sym (pieces_more pieces i d within)) ∙ pieces_rest pieces (i + 1))) in
+    ∙ ap (λ xs. held ++ xs) (ap (λ xs. xs ++ rest) (sym (pieces_more pieces i d within)) ∙ pieces_rest pieces (i + 1))) in
     subst P whole (TakesFront-longer a c ((held ++ done) ++ here) rest (Sends-front a b c (held ++ done) waits here sent front))

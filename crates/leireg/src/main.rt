@@ -13,12 +13,12 @@ mod window;
 mod writing;
 
 use run::{OK, run, status_text};
-use std::env;
-use std::io;
 use std::process::ExitCode;
+use std::{env, io};
 use streams::{StdSink, StdSource};
 
-const HELP: &'static str = "leireg lines: answers each line of the standard input, as in ACCREDIT OFFICE or UPLOAD OFFICE NUMBER BODY";
+const HELP: &'static str =
+    "leireg lines: answers each line of the standard input, as in ACCREDIT OFFICE or UPLOAD OFFICE NUMBER BODY";
 
 fn main(rt: HostRuntime) -> io::Result<ExitCode> {
     let alloc = rt.alloc();

@@ -71,7 +71,14 @@ impl Reader {
         ensures failed { IsErrOf result SinkFault.Failed → Rose (W.faults out.old) (W.faults out.new) }
     {
         let block = self.window.bytes();
-        let used = answer_lines(self.alloc, &mut self.office, block, seen, &mut self.outbox, out)?;
+        let used = answer_lines(
+            self.alloc,
+            &mut self.office,
+            block,
+            seen,
+            &mut self.outbox,
+            out,
+        )?;
         self.window.use_up(used);
         self.skips = self.window.bytes().len() > MAX_LINE + 1;
         if self.skips {

@@ -17,6 +17,14 @@ pub const MAX_INPUT: usize = 4_294_967_296;
 pub const OK: u8 = 0;
 /// The words are no command.
 pub const USAGE: u8 = 1;
+/// The source failed.
+pub const READ_FAULT: u8 = 3;
+/// The sink failed.
+pub const WRITE_FAULT: u8 = 4;
+/// Memory was wanted.
+pub const NO_MEMORY: u8 = 6;
+/// The input has as many bytes as no input may have.
+pub const INPUT_TOO_LONG: u8 = 8;
 
 // Why a run ends before its input.
 enum Stop {
@@ -31,10 +39,10 @@ impl Stop {
         ensures { result ≡ stop_status self }
     {
         match self {
-            Stop::ReadFault => 3,
-            Stop::WriteFault => 4,
-            Stop::NoMemory => 6,
-            Stop::InputTooLong => 8,
+            Stop::ReadFault => READ_FAULT,
+            Stop::WriteFault => WRITE_FAULT,
+            Stop::NoMemory => NO_MEMORY,
+            Stop::InputTooLong => INPUT_TOO_LONG,
         }
     }
 }
@@ -74,12 +82,7 @@ impl From<NoMemory> for Stop {
 
 /// Answers each line of an input, from an office without entries. `words` are the program's words without its name,
 /// and have to be `lines` alone; the result is the status that it ends with.
-pub fn run<S: Source, W: Sink>(
-    alloc: Global,
-    words: &[String],
-    input: &mut S,
-    out: &mut W,
-) -> u8
+pub fn run<S: Source, W: Sink>(alloc: Global, words: &[String], input: &mut S, out: &mut W) -> u8
     ensures usage { result ≡ 1 ↔ (map string_bytes words.now ≢ codes "lines" ∷ []) }
     ensures untouched { result ≡ 1 → Loses (S.left input.old) (S.left input.new) [] × Grows (W.taken out.old) (W.taken out.new) [] }
     ensures lines { map string_bytes words.now ≡ codes "lines" ∷ [] → RunsLines (S.left input.old) (S.left input.new) (W.taken out.old) (W.taken out.new) result }
@@ -106,11 +109,7 @@ fn are_lines(words: &[String]) -> bool
     }
 }
 
-fn run_lines<S: Source, W: Sink>(
-    alloc: Global,
-    input: &mut S,
-    out: &mut W,
-) -> Result<(), Stop>
+fn run_lines<S: Source, W: Sink>(alloc: Global, input: &mut S, out: &mut W) -> Result<(), Stop>
     ensures runs { RunsLines (S.left input.old) (S.left input.new) (W.taken out.old) (W.taken out.new) (end_status result) }
     ensures input_count { S.faults input.old ≤ S.faults input.new }
     ensures out_count { W.faults out.old ≤ W.faults out.new }
@@ -155,3 +154,6 @@ pub fn status_text(status: u8) -> &'static str
         _ => "UNKNOWN",
     }
 }
+
+#[cfg(test)]
+mod tests;

@@ -10,11 +10,7 @@ use lei_outside::{Sink, SinkFault};
 
 /// Puts a reply: its code, a space, its text and the end of the line.
 #[tactic(auto, unfolding(crate::specs::Replies::reply_text))]
-pub fn put_reply<W: Sink>(
-    outbox: &mut Outbox,
-    out: &mut W,
-    reply: &Reply,
-) -> Result<(), SinkFault>
+pub fn put_reply<W: Sink>(outbox: &mut Outbox, out: &mut W, reply: &Reply) -> Result<(), SinkFault>
     ensures puts { Puts (W.taken out.old) (W.taken out.new) (outbox.old ++ reply_text reply.now) result outbox.new }
     ensures count { W.faults out.old ≤ W.faults out.new }
     ensures failed { IsErrOf result SinkFault.Failed → Rose (W.faults out.old) (W.faults out.new) }
@@ -22,9 +18,7 @@ pub fn put_reply<W: Sink>(
     let mut code = itoa::Buffer::new();
     let code = code.format(reply.code()).as_bytes();
     match reply {
-        Reply::Text { text, .. } => {
-            put_all(outbox, out, &[code, b" ", text.as_slice(), b"\n"])
-        }
+        Reply::Text { text, .. } => { put_all(outbox, out, &[code, b" ", text.as_slice(), b"\n"]) }
         Reply::Words(refusal) => match refusal.number() {
             None => put_all(outbox, out, &[code, b" ", refusal.name().as_bytes(), b"\n"]),
             Some(number) => {
@@ -37,11 +31,7 @@ pub fn put_reply<W: Sink>(
     }
 }
 
-fn put_all<W: Sink>(
-    outbox: &mut Outbox,
-    out: &mut W,
-    pieces: &[&[u8]],
-) -> Result<(), SinkFault>
+fn put_all<W: Sink>(outbox: &mut Outbox, out: &mut W, pieces: &[&[u8]]) -> Result<(), SinkFault>
     ensures puts { Puts (W.taken out.old) (W.taken out.new) (outbox.old ++ flat_map (λ piece. piece.now) pieces.now) result outbox.new }
     ensures count { W.faults out.old ≤ W.faults out.new }
     ensures failed { IsErrOf result SinkFault.Failed → Rose (W.faults out.old) (W.faults out.new) }

@@ -62,7 +62,7 @@ loop-reader-preserved g c =
     let below : c.loop-reader.read + count < 4294967296 = omega (arith, fills.2, at.below, c.if-read-eq-MAX_INPUT.false) in
     record {
       midway = takes_in (left c.args.input.now) (left c.loop-reader.input) (left c.read_from.new.input) (taken c.args.out.now) (taken c.flush.new.out) (taken c.take_in.new.out) c.loop-reader.read count _ (length c.bytes-held.result.now) reader.office c.take_in.new.self.office c.flush.new.self c.take_in.new.self.outbox reader.skips c.take_in.new.self.skips reader.window c.read_from.new.self c.take_in.new.self.window
-      (ap length c.bytes-held.ensures) at fills below c.in_ok-take_in.ensures.answered;
+          (ap length c.bytes-held.ensures) at fills below c.in_ok-take_in.ensures.answered;
       input_count = omega (arith, c.loop-reader.invariant.input_count, c.read_from.ensures.count);
       out_count = omega (arith, c.loop-reader.invariant.out_count, c.flush.ensures.count, c.take_in.ensures.count);
     }

@@ -1,0 +1,231 @@
+// Whole runs. The replies come from the profile of lines and replies; the codes are public ones or made ones.
+use super::{INPUT_TOO_LONG, OK, READ_FAULT, USAGE, WRITE_FAULT, run, status_text};
+use crate::requests::MAX_LINE;
+use lei_outside::{ByteSink, ByteSource, Bytes, Failed, List, Source, SureSink, SureSource};
+use std::alloc::Global;
+use std::test::Fail;
+
+const SESSION: &str = r#"ACCREDIT 506700GE1G29325QX363
+UPLOAD 506700GE1G29325QX363 1 {"records":[{"Entity.LegalName":"Alpha","LEI":"00000000000000000195"}]}
+UPLOAD 506700GE1G29325QX363 1 {"records":[{"Entity.LegalName":"Alpha","LEI":"00000000000000000195"}]}
+UPLOAD 506700GE1G29325QX363 1 {"records":[]}
+UPLOAD 506700GE1G29325QX363 2 {"records":[{"Entity.LegalName":"Alpha","LEI":"00000000000000000196"}]}
+UPLOAD 506700GE1G29325QX363 4 {"records":[{"Entity.LegalName":"Alpha","LEI":"00000000000000000195"}]}
+"#;
+
+const REPLIES: &str = r#"200 {"entry":1,"issuer":"506700GE1G29325QX363"}
+200 {"entry":2,"issuer":"506700GE1G29325QX363","items":["ACCEPTED"],"number":1}
+200 {"entry":2,"issuer":"506700GE1G29325QX363","items":["ACCEPTED"],"number":1}
+409 NUMBER_TAKEN
+200 {"entry":3,"issuer":"506700GE1G29325QX363","items":["C04 CHECK_DIGITS LEI"],"number":2}
+409 NUMBER_AHEAD 3
+"#;
+
+fn words(alloc: Global, texts: &[&str]) -> Result<Vec<String>, Fail> {
+    let mut words = Vec::new(alloc);
+    for text in texts {
+        words.push(String::from_str(alloc, text)?)?;
+    }
+    Ok(words)
+}
+
+// The status of a run over these bytes, so many a read, and what it writes.
+fn answers(alloc: Global, input: &[u8], most: usize) -> Result<(u8, SureSink), Fail> {
+    let mut source = SureSource::new(Bytes::copy_of(alloc, input)?, most);
+    let mut sink = SureSink::new(alloc, usize::MAX);
+    let status = run(alloc, &words(alloc, &["lines"])?, &mut source, &mut sink);
+    Ok((status, sink))
+}
+
+#[test]
+fn answers_a_session_however_its_bytes_are_cut(rt: HostRuntime) -> Result<(), Fail> {
+    for most in [1, 2, 7, 65_536] {
+        let (status, sink) = answers(rt.alloc(), SESSION.as_bytes(), most)?;
+        assert_eq!(rt; status, OK, "{most} bytes a read");
+        assert_eq!(rt; sink.taken(), REPLIES.as_bytes(), "{most} bytes a read");
+    }
+    Ok(())
+}
+
+#[test]
+fn writes_byte_by_byte(rt: HostRuntime) -> Result<(), Fail> {
+    let alloc = rt.alloc();
+    let mut source = SureSource::new(Bytes::copy_of(alloc, SESSION.as_bytes())?, 65_536);
+    let mut sink = SureSink::new(alloc, 1);
+    let status = run(alloc, &words(alloc, &["lines"])?, &mut source, &mut sink);
+    assert_eq!(rt; status, OK);
+    assert_eq!(rt; sink.taken(), REPLIES.as_bytes());
+    Ok(())
+}
+
+#[test]
+fn cuts_lines_at_their_ends(rt: HostRuntime) -> Result<(), Fail> {
+    let cases = [
+        ("", ""),
+        ("\n\r\n\n", ""),
+        ("frob\r\nfrob\n", "404 NO_ROUTE\n404 NO_ROUTE\n"),
+        ("frob", "404 NO_ROUTE\n"),
+        ("\r", "404 NO_ROUTE\n"),
+        (
+            "ACCREDIT 506700GE1G29325QX363\r\n",
+            "200 {\"entry\":1,\"issuer\":\"506700GE1G29325QX363\"}\n",
+        ),
+        (
+            "ACCREDIT 506700GE1G29325QX363",
+            "200 {\"entry\":1,\"issuer\":\"506700GE1G29325QX363\"}\n",
+        ),
+        ("ACCREDIT 506700GE1G29325QX363\r", "400 PATH\n"),
+        ("ACCREDIT\r506700GE1G29325QX363\n", "404 NO_ROUTE\n"),
+        (
+            "ACCREDIT\nUPLOAD\nUPLOAD x 1 {}\n",
+            "400 PATH\n400 PATH\n400 PATH\n",
+        ),
+        ("UPLOAD 506700GE1G29325QX363 0 {}\n", "400 PATH\n"),
+        ("UPLOAD 506700GE1G29325QX363 01 {}\n", "400 PATH\n"),
+        ("UPLOAD 506700GE1G29325QX363 1000001 {}\n", "400 PATH\n"),
+        (
+            "UPLOAD 506700GE1G29325QX363 1000000 {}\n",
+            "404 ISSUER_UNKNOWN\n",
+        ),
+    ];
+    for (input, want) in cases {
+        for most in [1, 65_536] {
+            let (status, sink) = answers(rt.alloc(), input.as_bytes(), most)?;
+            assert_eq!(rt; status, OK, "{input:?}");
+            assert_eq!(rt; sink.taken(), want.as_bytes(), "{input:?}");
+        }
+    }
+    Ok(())
+}
+
+#[test]
+fn skips_the_rest_of_a_long_line(rt: HostRuntime) -> Result<(), Fail> {
+    let alloc = rt.alloc();
+    for (length, end, want) in [
+        (MAX_LINE, "\nfrob\n", "404 NO_ROUTE\n404 NO_ROUTE\n"),
+        (MAX_LINE, "\r\nfrob\n", "404 NO_ROUTE\n404 NO_ROUTE\n"),
+        (MAX_LINE, "\r", "413 TOO_LONG\n"),
+        (MAX_LINE + 1, "\nfrob\n", "413 TOO_LONG\n404 NO_ROUTE\n"),
+        (MAX_LINE + 1, "\r\n\nfrob", "413 TOO_LONG\n404 NO_ROUTE\n"),
+        (3 * MAX_LINE, "\nfrob\n", "413 TOO_LONG\n404 NO_ROUTE\n"),
+        (3 * MAX_LINE, "", "413 TOO_LONG\n"),
+    ] {
+        let mut input = vec![in alloc; b'x'; length]?;
+        input.extend_from_slice(end.as_bytes())?;
+        let (status, sink) = answers(alloc, &input, 65_536)?;
+        assert_eq!(rt; status, OK, "{length} {end:?}");
+        assert_eq!(rt; sink.taken(), want.as_bytes(), "{length} {end:?}");
+    }
+    Ok(())
+}
+
+#[test]
+fn refuses_words_that_are_no_command(rt: HostRuntime) -> Result<(), Fail> {
+    let alloc = rt.alloc();
+    for texts in [
+        [].as_slice(),
+        &["frob"],
+        &["lines", "lines"],
+        &["Lines"],
+        &[""],
+    ] {
+        let mut source = SureSource::new(Bytes::copy_of(alloc, b"frob\n")?, 8);
+        let mut sink = SureSink::new(alloc, 8);
+        let status = run(alloc, &words(alloc, texts)?, &mut source, &mut sink);
+        assert_eq!(rt; status, USAGE, "{texts:?}");
+        assert_eq!(rt; source.left(), b"frob\n".as_slice(), "{texts:?}");
+        assert!(rt; sink.taken().is_empty(), "{texts:?}");
+    }
+    Ok(())
+}
+
+// The list of one number.
+fn only(alloc: Global, number: u64) -> Result<List<u64>, Fail> {
+    let mut numbers = Vec::new(alloc);
+    numbers.push(number)?;
+    Ok(List::from(numbers))
+}
+
+#[test]
+fn ends_where_a_read_fails(rt: HostRuntime) -> Result<(), Fail> {
+    let alloc = rt.alloc();
+    for call in 1..=14 {
+        let bytes = Bytes::copy_of(alloc, SESSION.as_bytes())?;
+        let mut source = ByteSource::new(bytes, 40, only(alloc, call)?);
+        let mut sink = SureSink::new(alloc, usize::MAX);
+        let status = run(alloc, &words(alloc, &["lines"])?, &mut source, &mut sink);
+        assert_eq!(rt; status, READ_FAULT, "read {call}");
+        let read = SESSION.len() - source.left().len();
+        let lines = SESSION.as_bytes()[..read]
+            .iter()
+            .filter(|byte| **byte == b'\n')
+            .count();
+        let replies = sink.taken().iter().filter(|byte| **byte == b'\n').count();
+        assert_eq!(rt; replies, lines, "read {call}");
+        assert!(rt; REPLIES.as_bytes().starts_with(sink.taken()), "read {call}");
+    }
+    Ok(())
+}
+
+#[test]
+fn ends_where_a_write_fails(rt: HostRuntime) -> Result<(), Fail> {
+    let alloc = rt.alloc();
+    for call in 1..=6 {
+        let mut source = SureSource::new(Bytes::copy_of(alloc, SESSION.as_bytes())?, 65_536);
+        let mut sink = ByteSink::new(alloc, 50, only(alloc, call)?);
+        let status = run(alloc, &words(alloc, &["lines"])?, &mut source, &mut sink);
+        assert_eq!(rt; status, WRITE_FAULT, "write {call}");
+        assert_eq!(rt; sink.faults(), 1, "write {call}");
+        assert!(rt;
+            REPLIES.as_bytes().starts_with(sink.taken()),
+            "write {call}"
+        );
+    }
+    Ok(())
+}
+
+// A source of one byte without end. It tells nothing of its bytes.
+#[derive(Drop)]
+struct Endless;
+
+impl Source for Endless {
+    ghost use Rattle.std.specs.Prelude.{None};
+
+    ghost left = { λ _. None };
+
+    ghost faults = { λ _. 0 };
+
+    fn read(&mut self, buffer: &mut [u8]) -> Result<usize, Failed> {
+        buffer.fill(b'x');
+        Ok(buffer.len())
+    }
+}
+
+#[test]
+fn ends_at_the_greatest_input(rt: HostRuntime) -> Result<(), Fail> {
+    let alloc = rt.alloc();
+    let mut sink = SureSink::new(alloc, usize::MAX);
+    let status = run(alloc, &words(alloc, &["lines"])?, &mut Endless, &mut sink);
+    assert_eq!(rt; status, INPUT_TOO_LONG);
+    assert!(rt; sink.taken().is_empty());
+    Ok(())
+}
+
+#[test]
+fn names_each_status(rt: HostRuntime) {
+    let names = [
+        "OK",
+        "USAGE",
+        "REFUSED",
+        "READ_FAULT",
+        "WRITE_FAULT",
+        "KEEPER_FAULT",
+        "NO_MEMORY",
+        "STORE_DAMAGED",
+        "INPUT_TOO_LONG",
+        "DOOR_FAULT",
+    ];
+    for (status, name) in (0..).zip(names) {
+        assert_eq!(rt; status_text(status), name);
+    }
+}
