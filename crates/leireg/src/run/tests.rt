@@ -31,7 +31,7 @@ fn words(alloc: Global, texts: &[&str]) -> Result<Vec<String>, Fail> {
 
 // The status of a run over these bytes, so many a read, and what it writes.
 fn answers(alloc: Global, input: &[u8], most: usize) -> Result<(u8, SureSink), Fail> {
-    let mut source = SureSource::new(Bytes::copy_of(alloc, input)?, most);
+    let mut source = SureSource::new(Bytes::copy_of(alloc, input)?, most.max(1));
     let mut sink = SureSink::new(alloc, usize::MAX);
     let status = run(alloc, &words(alloc, &["lines"])?, &mut source, &mut sink);
     Ok((status, sink))
