@@ -1,9 +1,9 @@
 -- What a line's request, refusal or want of memory does to a history.
-use Rattle.std.proofs.Common.{◌≡◌, ℕ, ◌≤◌, List, [], ◌∷◌, ◌++◌, length, Option, Some, None, Bool, true, false, cond, eqb, leb, ltb, ◌&&◌, ◌⊎◌, inl, inr, refl, sym, ap, ◌∙◌, subst, arith, bytes_eq, codes, decimal}
+use Rattle.std.proofs.Common.{◌≡◌, ℕ, List, [], ◌∷◌, length, Option, Some, None, Bool, true, false, cond, eqb, ltb, inr, refl, sym, subst, bytes_eq, codes}
 use Rattle.std.proofs.lemmas.List.{append-nil}
 use Rattle.std.specs.Option.{option_and_then, option_map}
 use Rattle.lei_office.specs.declared.request.Request.{Request}
-use Rattle.lei_office.specs.declared.request.Request.TheVariants.{Accredit, Upload}
+use Rattle.lei_office.specs.declared.request.Request.TheVariants.{Accredit}
 use Rattle.lei_office.specs.declared.request.Asked.{Asked}
 use Rattle.lei_office.specs.declared.request.Asked.TheVariants.{Ask, Refuse}
 use Rattle.lei_office.specs.declared.reply.Refusal.TheVariants.{TooLong, NoRoute, NoMemory}

@@ -1,23 +1,22 @@
 -- Runs over lines: what they have done between two reads, and how they end.
-use Rattle.std.proofs.Common.{◌≡◌, ℕ, ◌+◌, ◌<◌, ◌≤◌, List, [], ◌∷◌, ◌++◌, length, take, drop, Bool, true, false, cond, eqb, Option, Result, Ok, Err, IsErr, ◌⊎◌, inl, inr, refl, sym, ap, ◌∙◌, subst, append_assoc, arith, length-append, take-append-drop}
+use Rattle.std.proofs.Common.{◌≡◌, ℕ, ◌+◌, ◌<◌, ◌≤◌, List, [], ◌∷◌, ◌++◌, length, take, drop, Bool, true, false, cond, eqb, Option, Result, Ok, Err, ◌⊎◌, inl, inr, refl, sym, ap, ◌∙◌, subst, append_assoc, arith, length-append}
 use Rattle.std.proofs.lemmas.List.{append-nil, take-append-le}
-use Rattle.std.proofs.Math.Seq.{take-append-add, take-length}
+use Rattle.std.proofs.Math.Seq.{take-length}
 use Rattle.std.specs.Str.Lines.{lines}
 use Rattle.lei_outside.specs.Told.{Grows, Loses, IsAtEnd, TakesFront}
 use Rattle.lei_outside.specs.declared.faults.SinkFault.{SinkFault}
 use Rattle.lei_outside.proofs.Told.{Grows-none, Grows-join, Loses-none, Loses-join}
 use Rattle.lei_office.specs.declared.request.Asked.{Asked}
-use Rattle.lei_office.specs.declared.reply.Reply.{Reply}
 use Rattle.lei_office.specs.History.{History}
 use Rattle.lei_office.specs.Legal.{Session}
-use Rattle.leireg.specs.Ends.{AreAnswered, IsDone, IsReadFault, IsStopped, IsTooLong, RunsLines}
+use Rattle.leireg.specs.Ends.{RunsLines}
 use Rattle.leireg.specs.Lines.{HasNoEnd, IsClosed, whole_part, last_part}
-use Rattle.leireg.specs.Outbox.{Sends, Puts}
+use Rattle.leireg.specs.Outbox.{Sends}
 use Rattle.leireg.specs.Reading.{Holds, TakesIn}
 use Rattle.leireg.specs.Requests.{asked}
 use Rattle.leireg.specs.Runs.{asks_of, Answers, AnswersFront, AnswersAndPuts}
 use Rattle.leireg.specs.Window.{Fills, StaysUnread}
-use Rattle.leireg.proofs.LineLemmas.{IsClosed-append, IsClosed-whole_part, HasNoEnd-last_part, HasNoEnd-nil, HasNoEnd-take, parts_of, whole_part-is, lines-end, lines-closed}
+use Rattle.leireg.proofs.LineLemmas.{IsClosed-append, IsClosed-whole_part, HasNoEnd-last_part, HasNoEnd-nil, parts_of, whole_part-is, lines-end, lines-closed}
 use Rattle.leireg.proofs.Reading.{goes_on}
 use Rattle.leireg.proofs.Running.{Answered, Answered-nothing, Answers-join, AnswersFront-of}
 use Rattle.leireg.proofs.Sending.{Grows-front, Puts-then}

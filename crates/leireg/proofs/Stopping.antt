@@ -1,5 +1,5 @@
 -- What stopped a run over lines.
-use Rattle.std.proofs.Common.{◌≡◌, ℕ, ◌≤◌, Result, Ok, Err, ◌<◌, IsErrAnd, ◌⊎◌, inl, inr, refl, sym, ap, subst, arith, List, [], ◌∷◌, map, String, Global, string_bytes, length, slice_index_or}
+use Rattle.std.proofs.Common.{◌≡◌, ◌≤◌, Result, Ok, Err, ◌<◌, IsErrAnd, inl, inr, refl, sym, ap, subst, arith, List, [], ◌∷◌, map, String, Global, string_bytes, length, slice_index_or}
 use Rattle.lei_outside.specs.declared.faults.SinkFault.{SinkFault}
 use Rattle.lei_outside.specs.declared.faults.SinkFault.TheVariants.{Failed, NoMemory}
 use Rattle.leireg.specs.declared.run.Stop.{Stop}

@@ -1,5 +1,5 @@
 -- What the reader of lines has of its input, and what it does with a block more.
-use Rattle.std.specs.Prelude.{◌≡◌, ◌≤◌, ◌<◌, ◌+◌, ℕ, List, [], ◌++◌, length, Bool, true, false, Option, Result, IfOk}
+use Rattle.std.specs.Prelude.{◌≡◌, ◌≤◌, ◌<◌, ℕ, List, [], ◌++◌, length, Bool, true, false, Option, Result, IfOk}
 use Rattle.std.specs.Str.Lines.{lines}
 use Rattle.lei_office.specs.History.{History}
 use Rattle.leireg.specs.Lines.{HasNoEnd, IsClosed}

@@ -12,7 +12,7 @@ mod streams;
 mod window;
 mod writing;
 
-use run::{OK, run, status_text};
+use run::{NO_MEMORY, OK, run, status_text};
 use std::process::ExitCode;
 use std::{env, io};
 use streams::{StdSink, StdSource};
@@ -22,10 +22,15 @@ const HELP: &'static str =
 
 fn main(rt: HostRuntime) -> io::Result<ExitCode> {
     let alloc = rt.alloc();
-    let words: Vec<String> = env::args(&rt)?.skip(1).collect(alloc)?;
-    let mut input = StdSource::new(rt.stdin());
-    let mut out = StdSink::new(rt.stdout());
-    let status = run(alloc, &words, &mut input, &mut out);
+    let words: Result<Vec<String>, _> = env::args(&rt)?.skip(1).collect(alloc);
+    let status = match words {
+        Ok(words) => {
+            let mut input = StdSource::new(rt.stdin());
+            let mut out = StdSink::new(rt.stdout());
+            run(alloc, &words, &mut input, &mut out)
+        }
+        Err(_) => NO_MEMORY,
+    };
     if status != OK {
         eprintln!(rt; "{}\n{HELP}", status_text(status))?;
     }

@@ -70,6 +70,9 @@ impl Window {
         requires { count ≤ length self.old }
         ensures { self.new ≡ drop count self.old }
     {
+        if count == 0 {
+            return;
+        }
         self.buffer.copy_within(count..self.held, 0);
         self.held -= count;
     }

@@ -1,4 +1,4 @@
-use Rattle.std.proofs.Common.{false, length, eqb, ◌≡◌, rules, tests}
+use Rattle.std.proofs.Common.{false, length, eqb, ◌≡◌}
 use Rattle.leireg.specs.Replies.{reply_text}
 use Rattle.leireg.proofs.Asking.{Answers-one}
 use Rattle.leireg.proofs.answering.answer_line.Goals as goal

@@ -1,4 +1,4 @@
-use Rattle.std.proofs.Common.{◌≤◌, ◌+◌, length}
+use Rattle.std.proofs.Common.{◌≤◌, length}
 use Rattle.leireg.proofs.Running.{Walked}
 use Rattle.leireg.proofs.answering.answer_lines.Given as goal
 

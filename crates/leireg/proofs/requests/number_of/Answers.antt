@@ -1,5 +1,4 @@
-use Rattle.std.proofs.Common.{sym, ap, ◌∙◌}
-use Rattle.leireg.specs.Requests.{number_of}
+use Rattle.std.proofs.Common.{sym}
 use Rattle.leireg.proofs.Numbers.{number_of-no_text}
 use Rattle.leireg.proofs.requests.number_of.Goals as goal
 

@@ -1,4 +1,4 @@
-use Rattle.std.proofs.Common.{[], ◌∷◌, rules}
+use Rattle.std.proofs.Common.{rules}
 use Rattle.leireg.proofs.Stopping.{one_word}
 use Rattle.leireg.proofs.run.are_lines.Goals as goal
 

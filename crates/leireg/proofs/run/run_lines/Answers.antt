@@ -1,6 +1,6 @@
-use Rattle.std.proofs.Common.{◌≡◌, ◌<◌, ◌+◌, [], ℕ, Bool, List, length, sym, ap, subst, arith}
+use Rattle.std.proofs.Common.{◌<◌, ◌+◌, ℕ, length, sym, ap, subst, arith}
 use Rattle.leireg.specs.Ends.{RunsLines}
-use Rattle.leireg.proofs.Ending.{Midway, AtEnd, begins, ends_at_once, ends_too_long, ends_well, fails_reading, flushed, reaches_end, stops_in, stops_last, stops_sending, stops_waiting, takes_in, unseen}
+use Rattle.leireg.proofs.Ending.{ends_at_once, ends_too_long, ends_well, fails_reading, flushed, reaches_end, stops_in, stops_last, stops_sending, stops_waiting, takes_in, unseen}
 use Rattle.leireg.proofs.Stopping.{memory_cause, read_status, sink_cause}
 use Rattle.leireg.proofs.run.run_lines.Goals as goal
 

@@ -1,4 +1,4 @@
-use Rattle.leireg.proofs.Reading.{last_held, last_long}
+use Rattle.leireg.proofs.Reading.{last_long}
 use Rattle.leireg.proofs.reader.Reader.answer_last.Goals as goal
 
 pub returns-then-self-clause-answered : goal.returns-then-self-clause-answered

@@ -1,6 +1,6 @@
 use Rattle.std.proofs.Common.{[], ◌∷◌, ◌++◌, inr, refl}
 use Rattle.lei_outside.specs.declared.faults.SinkFault.{SinkFault}
-use Rattle.leireg.proofs.Reading.{never, skips_all, long_stops, long_goes, held_goes}
+use Rattle.leireg.proofs.Reading.{never, skips_all, long_stops, long_goes}
 use Rattle.leireg.proofs.reader.Reader.take_in.Goals as goal
 
 pub returns-then-not-skip_line-clause-answered : goal.returns-then-not-skip_line-clause-answered
