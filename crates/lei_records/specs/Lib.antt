@@ -4,3 +4,4 @@ pub mod Rows
 pub mod Spelled
 pub mod Items
 pub mod Parts
+pub mod Sheets
