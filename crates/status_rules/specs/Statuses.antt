@@ -52,10 +52,14 @@ entity_fits status entity =
 abbrev pub is_before : ℤ → ℤ → Bool
 is_before day other = int_lt day other
 
--- ISSUED needs a day of renewal that is today or later and at most 400 days after today, and LAPSED
--- one before today; the other statuses ask nothing of it
+-- the day is today or later, and at most 400 days after today
+abbrev pub is_within_term : ℤ → ℤ → Bool
+is_within_term day today =
+    not (is_before day today) && not (is_before (today +ℤ pos 400) day)
+
+-- ISSUED needs a renewal within the term, and LAPSED one before today; the other statuses ask
+-- nothing of it
 abbrev pub renewal_fits : RecordStatus → ℤ → ℤ → Bool
 renewal_fits status renewal_day today =
-    only_with (is_issued status)
-    (not (is_before renewal_day today) && not (is_before (today +ℤ pos 400) renewal_day))
+    only_with (is_issued status) (is_within_term renewal_day today)
     && only_with (is_lapsed status) (is_before renewal_day today)
