@@ -1,0 +1,12 @@
+//! The items of an upload: what was sent, the checks of its fields alone, and the record that it is.
+#![tactic(auto)]
+
+mod check;
+mod fields;
+mod item;
+mod record;
+
+pub use check::{CHECK_DIGITS, Check, Detail, FIELD_MISSING, FIELD_SHAPE, FIELD_UNKNOWN};
+pub use fields::{Field, Need, RECORD_FIELDS};
+pub use item::{Fields, Item, RawItem, Readied, Upload};
+pub use record::Record;
