@@ -4,3 +4,5 @@ pub mod Rows
 pub mod Spelled
 pub mod Items
 pub mod Parts
+pub mod Cells
+pub mod Tables
