@@ -1,3 +1,4 @@
 pub mod SheetLemmas
 pub mod Codes
 pub mod RowLemmas
+pub mod CellLemmas

@@ -5,3 +5,5 @@ pub mod Spelled
 pub mod Items
 pub mod Parts
 pub mod Sheets
+pub mod Cells
+pub mod Tables
