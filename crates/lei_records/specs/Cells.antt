@@ -1,5 +1,5 @@
 -- Cells: what the rules ask of a table, by key. What a row has by its texts, and what a view answers.
-use Rattle.std.specs.Prelude.{ℕ, ℤ, pos, List, Bool, true, false, ◌&&◌, ◌||◌, if◌then◌else◌, Option, Some, None, unwrap_or, codes}
+use Rattle.std.specs.Prelude.{ℕ, ℤ, pos, List, Bool, true, false, ◌&&◌, ◌||◌, if◌then◌else◌, Option, Some, None, unwrap_or, option_and_then, codes}
 use Rattle.std.specs.Str.{bytes_eq}
 use Rattle.lei_shapes.specs.declared.lists.Category.{Category}
 use Rattle.lei_shapes.specs.declared.lists.EntityStatus.{EntityStatus}
@@ -37,7 +37,7 @@ renewal_in row = unwrap_or (read_moment (text_at row 25)) (pos 0)
 
 -- when the entity was created, where that is said
 abbrev pub created_in : Row → Option ℤ
-created_in row = read_moment (text_at row 20)
+created_in row = option_and_then read_moment (present (text_at row 20))
 
 -- the office that manages the record
 abbrev pub manager_in : Row → List ℕ

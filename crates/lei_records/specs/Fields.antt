@@ -13,6 +13,10 @@ read_field field = (field.0.now, field.1, field.2)
 unfoldable pub fields : List (List ℕ × Shape × Need)
 fields = map (λ field. (field.0.now, field.1, field.2)) RECORD_FIELDS
 
+-- their names
+abbrev pub field_names : List (List ℕ)
+field_names = map (λ field. field.0) fields
+
 -- whether a field has to stand in a record, of which is said whether its status is PENDING_ARCHIVAL
 abbrev pub is_needed : Bool → Need → Bool
 is_needed archival Need.Always = true

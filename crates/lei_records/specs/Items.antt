@@ -1,6 +1,6 @@
 -- Whether an item that was sent is a record: its checks, each a sentence over its fields, and the row that it has.
 -- This project's profile.
-use Rattle.std.specs.Prelude.{◌≢◌, ℕ, ◌%◌, List, map, length, Contains, IsTrue, codes, Bool, true, false, not, ◌&&◌, ◌==◌, find, Option, Some, None, option_map, unwrap_or}
+use Rattle.std.specs.Prelude.{◌≢◌, ℕ, ◌%◌, List, map, length, Contains, IsTrue, codes, Bool, true, false, not, ◌&&◌, ◌==◌, if◌then◌else◌, find, Option, Some, None, option_map, unwrap_or}
 use Rattle.std.specs.Cmp.Lexicographic.{slice_cmp}
 use Rattle.std.specs.Option.{option_or}
 use Rattle.std.specs.Ordering.{nat_cmp}
@@ -101,7 +101,7 @@ failed_check pairs = option_or (option_map (field_check 1) (unknown_name pairs))
 
 -- a text as a row has it: that of a moment in printed form, and every other one as it was sent
 abbrev pub printed : Shape → List ℕ → List ℕ
-printed Shape.Moment text = unwrap_or (option_map moment_text (read_moment text)) text
+printed Shape.Moment text = if is_absent text then text else unwrap_or (option_map moment_text (read_moment text)) text
 printed other text = text
 
 -- the texts of the fields in order of place

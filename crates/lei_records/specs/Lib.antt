@@ -6,3 +6,4 @@ pub mod Items
 pub mod Parts
 pub mod Cells
 pub mod Tables
+pub mod Sheets

@@ -1,8 +1,9 @@
-ghost use Rattle.std.specs.Prelude.{◌≡◌, ◌≤◌, length, Some, IfOk};
+ghost use Rattle.std.specs.Prelude.{◌≡◌, ◌≤◌, length, IfOk, IfSome, IsSome, Some, option_and_then};
+ghost use Rattle.lei_code.specs.Code.{IsValid};
 ghost use Rattle.lei_shapes.specs.Lists.{record_status_of, entity_status_of, category_of};
 ghost use Rattle.lei_shapes.specs.Moment.{read_moment};
 ghost use Rattle.lei_records.specs.Rows.{text_at};
-ghost use Rattle.lei_records.specs.Spelled.{IsRow, present};
+ghost use Rattle.lei_records.specs.Spelled.{IsPrinted, IsRow, present};
 
 use lei_code::Lei;
 use lei_outside::{NoMemory, Text};
@@ -63,6 +64,27 @@ impl Eq for Record {
 }
 
 impl Record {
+    /// The record with these texts, which move. The condition is that they are the row of a record.
+    pub fn of(texts: Vec<Text>) -> Self
+        requires { IsRow texts.items }
+        ensures { result ≡ texts.items }
+    {
+        Record {
+            lei: code_at(&texts, 1),
+            category: category_at(&texts, 17),
+            entity_status: entity_status_at(&texts, 19),
+            created: present_moment_at(&texts, 20),
+            successor: present_code_at(&texts, 21),
+            initial: moment_at(&texts, 22),
+            updated: moment_at(&texts, 23),
+            status: status_at(&texts, 24),
+            renewal: moment_at(&texts, 25),
+            manager: code_at(&texts, 26),
+            transfer_to: present_code_at(&texts, 28),
+            texts,
+        }
+    }
+
     /// The text of a field, by its place from 1 to 28: the empty text where the field is absent.
     pub fn field(&self, place: u8) -> &str
         requires first { 1 ≤ place }
@@ -70,7 +92,7 @@ impl Record {
         ensures value { result.now ≡ text_at self.now place }
         ensures row { IsRow self.now }
     {
-        self.texts[usize::from(place) - 1].as_str()
+        text_at(&self.texts, usize::from(place))
     }
 
     /// The entity's code: the field LEI.
@@ -146,7 +168,7 @@ impl Record {
 
     /// When the entity was created: the field Entity.EntityCreationDate.
     pub fn created(&self) -> Option<Moment>
-        ensures { result ≡ read_moment (text_at self.now 20) }
+        ensures { result ≡ option_and_then read_moment (present (text_at self.now 20)) }
     {
         self.created
     }
@@ -182,4 +204,101 @@ fn copied(alloc: Global, texts: &[Text]) -> Result<Vec<Text>, NoMemory>
         copies.push(Text::copy_of(alloc, text.as_str())?)?;
     }
     Ok(copies)
+}
+
+// The text at a place, places counted from 1.
+fn text_at(texts: &[Text], place: usize) -> &str
+    requires first { 1 ≤ place }
+    requires last { place ≤ length texts.now }
+    ensures { result.now ≡ text_at texts.now place }
+{
+    texts[place - 1].as_str()
+}
+
+// The code that the text at a place is.
+fn code_at(texts: &[Text], place: usize) -> Lei
+    requires first { 1 ≤ place }
+    requires last { place ≤ length texts.now }
+    requires valid { IsValid (text_at texts.now place) }
+    ensures { result ≡ text_at texts.now place }
+{
+    match Lei::read(text_at(texts, place).as_bytes()) {
+        Ok(code) => code,
+        Err(_) => unreachable!(),
+    }
+}
+
+// The same where the text may be absent.
+fn present_code_at(texts: &[Text], place: usize) -> Option<Lei>
+    requires first { 1 ≤ place }
+    requires last { place ≤ length texts.now }
+    requires valid { IfSome (present (text_at texts.now place)) IsValid }
+    ensures { result ≡ present (text_at texts.now place) }
+{
+    if text_at(texts, place).is_empty() {
+        return None;
+    }
+    Some(code_at(texts, place))
+}
+
+// The moment that the text at a place reads as.
+fn moment_at(texts: &[Text], place: usize) -> Moment
+    requires first { 1 ≤ place }
+    requires last { place ≤ length texts.now }
+    requires printed { IsPrinted (text_at texts.now place) }
+    ensures { read_moment (text_at texts.now place) ≡ Some result }
+{
+    match Moment::read(text_at(texts, place)) {
+        Some(moment) => moment,
+        None => unreachable!(),
+    }
+}
+
+// The same where the text may be absent.
+fn present_moment_at(texts: &[Text], place: usize) -> Option<Moment>
+    requires first { 1 ≤ place }
+    requires last { place ≤ length texts.now }
+    ensures { result ≡ option_and_then read_moment (present (text_at texts.now place)) }
+{
+    let text = text_at(texts, place);
+    if text.is_empty() {
+        return None;
+    }
+    Moment::read(text)
+}
+
+fn status_at(texts: &[Text], place: usize) -> RecordStatus
+    requires first { 1 ≤ place }
+    requires last { place ≤ length texts.now }
+    requires listed { IsSome (record_status_of (text_at texts.now place)) }
+    ensures { record_status_of (text_at texts.now place) ≡ Some result }
+{
+    match RecordStatus::read(text_at(texts, place)) {
+        Some(status) => status,
+        None => unreachable!(),
+    }
+}
+
+fn entity_status_at(texts: &[Text], place: usize) -> EntityStatus
+    requires first { 1 ≤ place }
+    requires last { place ≤ length texts.now }
+    requires listed { IsSome (entity_status_of (text_at texts.now place)) }
+    ensures { entity_status_of (text_at texts.now place) ≡ Some result }
+{
+    match EntityStatus::read(text_at(texts, place)) {
+        Some(status) => status,
+        None => unreachable!(),
+    }
+}
+
+fn category_at(texts: &[Text], place: usize) -> Category
+    requires first { 1 ≤ place }
+    requires last { place ≤ length texts.now }
+    requires listed { IsSome (category_of (text_at texts.now place)) }
+    ensures { category_of (text_at texts.now place) ≡ Some result }
+{
+    match Category::read(text_at(texts, place)) {
+        Some(category) => category,
+        None => unreachable!(),
+    }
 }
