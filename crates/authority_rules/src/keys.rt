@@ -1,13 +1,48 @@
 ghost use Rattle.std.specs.Prelude.{◌≡◌, option_map};
 ghost use Rattle.authority_rules.specs.Taken;
 ghost use Rattle.lei_records.specs.Cells.{akey, is_no_authority as names_none};
+ghost use Rattle.lei_records.specs.Cells;
 ghost use Rattle.lei_records.specs.Tables.{Table, IsSound, cells_of, other_holder, seen};
 
 use lei_code::Lei;
 use lei_records::{Record, Seen, View};
+use lei_shapes::RecordStatus;
 
 // The codes that stand in the field of the registration authority where there is none.
 const NO_AUTHORITY: [&str; 2] = ["RA888888", "RA999999"];
+
+/// Whether the record is live: its status is ISSUED, LAPSED, PENDING_TRANSFER or PENDING_ARCHIVAL.
+pub fn is_live(item: &Record) -> bool
+    ensures { result ≡ Cells.is_live item.now }
+{
+    is_live_status(item.status())
+}
+
+fn is_live_status(status: RecordStatus) -> bool
+    ensures { result ≡ Cells.is_live_status status }
+{
+    match status {
+        RecordStatus::Retired | RecordStatus::Duplicate | RecordStatus::Annulled => false,
+        _ => true,
+    }
+}
+
+/// Whether the record is live and has this authority key.
+#[tactic(auto, unfolding(lei_records::specs::Cells::holds))]
+pub fn holds(item: &Record, authority: &str, id: &str) -> bool
+    ensures { result ≡ Cells.holds authority.now id.now item.now }
+{
+    is_live(item) && is_key(key_of(item), authority, id)
+}
+
+fn is_key(key: Option<(&str, &str)>, authority: &str, id: &str) -> bool
+    ensures { result ≡ Cells.is_key authority.now id.now (option_map (λ k. (k.0.now, k.1.now)) key.entry) }
+{
+    match key {
+        Some(key) => key.0 == authority && key.1 == id,
+        None => false,
+    }
+}
 
 /// The registration authority and its id of the entity. `None` where the id is absent, or where a
 /// code says that there is no authority.

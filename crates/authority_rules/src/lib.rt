@@ -5,5 +5,5 @@
 mod keys;
 mod laws;
 
-pub use keys::{key_of, taken};
+pub use keys::{holds, is_live, key_of, taken};
 pub use laws::free_records_keep_tables_sound;

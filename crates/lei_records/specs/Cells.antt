@@ -1,5 +1,5 @@
 -- Cells: what the rules ask of a table, by key. What a row has by its texts, and what a view answers.
-use Rattle.std.specs.Prelude.{ℕ, ℤ, pos, List, Bool, true, false, ◌&&◌, ◌||◌, if◌then◌else◌, Option, Some, None, option_and_then, unwrap_or, codes}
+use Rattle.std.specs.Prelude.{ℕ, ℤ, pos, List, Bool, true, false, ◌&&◌, ◌||◌, if◌then◌else◌, Option, Some, None, unwrap_or, option_and_then, codes}
 use Rattle.std.specs.Str.{bytes_eq}
 use Rattle.lei_shapes.specs.declared.lists.Category.{Category}
 use Rattle.lei_shapes.specs.declared.lists.EntityStatus.{EntityStatus}

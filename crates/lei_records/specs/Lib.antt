@@ -4,6 +4,6 @@ pub mod Rows
 pub mod Spelled
 pub mod Items
 pub mod Parts
-pub mod Sheets
 pub mod Cells
 pub mod Tables
+pub mod Sheets
