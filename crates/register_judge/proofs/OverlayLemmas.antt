@@ -2,12 +2,11 @@
 use Rattle.std.specs.Prelude.{◌≡◌, ℕ, List, Bool, true, false, ◌&&◌, cond, Option, Some, None, is_some}
 use Rattle.std.specs.Str.{bytes_eq}
 use Rattle.std.proofs.Common.{refl, sym, ap, ◌∙◌}
-use Rattle.lei_records.specs.declared.view.RecCell.{RecCell}
 use Rattle.lei_records.specs.declared.view.Seen.{Seen}
 use Rattle.lei_records.specs.Cells.{Cells, lei_in, rec_cell, is_live, akey, is_key, holds}
 use Rattle.lei_records.specs.Rows.{Row}
 use Rattle.authority_rules.specs.Taken.{unless_own}
-use Rattle.authority_rules.proofs.HolderLemmas.{bytes_same, bytes_itself}
+use Rattle.authority_rules.proofs.HolderLemmas.{bytes_itself}
 use Rattle.register_judge.specs.Overlays.{Records, Takers, record_at, taker_at, has_record, row_holds, with_record, with_taker, unless_replaced, overlaid, put_cells}
 
 -- ---- the key that a record holds

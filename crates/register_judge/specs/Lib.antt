@@ -1,1 +1,5 @@
+pub mod Checks
+pub mod Judging
+pub mod Outcomes
 pub mod Overlays
+pub mod Taking

@@ -2,4 +2,14 @@
 //! it left, by the checks C05 to C20. This project's profile.
 #![tactic(auto)]
 
+mod checks;
+mod judge;
+mod outcome;
 mod overlay;
+
+pub use checks::{
+    AUTHORITY_KEY_TAKEN, DATE_FUTURE, DATES_ORDER, INITIAL_DATE_CHANGED, MANAGER_NOT_UPLOADER,
+    NOT_ISSUED, NOT_MANAGER, REGISTER_FULL, RENEWAL_DATE, STATUS_ENTITY, SUCCESSOR_SHAPE,
+    TRANSITION, UPDATE_EARLIER,
+};
+pub use outcome::{JudgeStop, Outcome, Verdict};

@@ -1,5 +1,5 @@
-use Rattle.std.specs.Prelude.{◌≡◌, Some, None, true, false, cond}
-use Rattle.std.proofs.Common.{rules, sym, ap, ◌∙◌}
+use Rattle.std.specs.Prelude.{◌≡◌, Some, None, true, cond}
+use Rattle.std.proofs.Common.{rules, sym, ap}
 use Rattle.std.proofs.lemmas.Result.{on_ok_weaker}
 use Rattle.lei_records.specs.Cells.{lei_in, is_live, akey}
 use Rattle.register_judge.specs.Overlays.{taker_at}
