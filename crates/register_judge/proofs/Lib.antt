@@ -1,2 +1,3 @@
 pub mod MapLemmas
 pub mod OverlayLemmas
+pub mod JudgingLemmas

@@ -3,3 +3,4 @@ pub mod Judging
 pub mod Outcomes
 pub mod Overlays
 pub mod Taking
+pub mod Progress

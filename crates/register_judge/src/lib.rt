@@ -4,6 +4,7 @@
 
 mod checks;
 mod judge;
+mod judging;
 mod outcome;
 mod overlay;
 
@@ -12,4 +13,5 @@ pub use checks::{
     NOT_ISSUED, NOT_MANAGER, REGISTER_FULL, RENEWAL_DATE, STATUS_ENTITY, SUCCESSOR_SHAPE,
     TRANSITION, UPDATE_EARLIER,
 };
+pub use judging::judge_all;
 pub use outcome::{JudgeStop, Outcome, Verdict};
