@@ -16,10 +16,11 @@ use Rattle.lei_records.specs.declared.view.RowKey.{RowKey}
 use Rattle.lei_records.specs.declared.view.Seen.{Seen}
 use Rattle.lei_records.specs.Cells.{lei_in, rec_cell, is_live, akey, holds}
 use Rattle.lei_records.specs.Rows.{Row}
-use Rattle.lei_records.specs.Tables.{Table, record_key, put, put_all, row_at, record_of, record_count, holder_of, other_holder, seen, cells_of, IsKeyed, HasHolders}
+use Rattle.lei_records.specs.Spelled.{IsRow}
+use Rattle.lei_records.specs.Tables.{Table, record_key, put, put_write, put_all, row_at, record_of, record_count, holder_of, other_holder, seen, cells_of, IsKeyed, HasHolders, IsSound}
 use Rattle.authority_rules.specs.Taken.{unless_own, taken, IsFree}
 use Rattle.authority_rules.proofs.HolderLemmas.{keys_total, some_apart, taken-cells}
-use Rattle.authority_rules.proofs.PutLemmas.{record_of-put, holder_of-put, IsKeyed-put, HasHolders-put, other_than}
+use Rattle.authority_rules.proofs.PutLemmas.{record_of-put, holder_of-put, IsKeyed-put, HasHolders-put, IsSound-put, other_than}
 use Rattle.register_judge.specs.declared.judge.Judged.{Judged}
 use Rattle.register_judge.specs.declared.outcome.JudgeStop.{JudgeStop}
 use Rattle.register_judge.specs.declared.outcome.Outcome.{Outcome}
@@ -28,7 +29,7 @@ use Rattle.register_judge.specs.Checks.{Line, fails_if, first_failing, own_check
 use Rattle.register_judge.specs.Judging.{unless_failed, on_seen, key_cell, judge_room, judge_other, judge_key, judge_held, judge_record, judge_item, put_writes, cells_after, room_after, room_taken, Judgement, before, judge_items}
 use Rattle.register_judge.specs.Outcomes.{Judges, Takes}
 use Rattle.register_judge.specs.Overlays.{put_cells}
-use Rattle.register_judge.specs.Taking.{verdict_of, verdict, writes_of, is_new, Taken, take}
+use Rattle.register_judge.specs.Taking.{verdict_of, verdict, writes_of, is_new, Taken, take, HaveRows}
 
 -- ---- the first check that fails, in parts
 
@@ -249,6 +250,37 @@ judged-taken table limit room today office (item ∷ items) keyed holders limit_
     ∙ ap (before (Ok (judged_on table limit today office item)) item)
     (ap (λ cells. judge_items cells (room - room_taken given new) today office items) next.cells
     ∙ judged-taken (put_all (writes_of given item) table) limit (room - room_taken given new) today office items next.keyed next.holders next.left)
+
+-- ---- the table behind the items
+
+put_all-append : (first second : List (RowKey × Option Item)) (table : Table) → put_all (first ++ second) table ≡ put_all second (put_all first table)
+put_all-append [] second table = refl
+put_all-append (write ∷ writes) second table = put_all-append writes second (put_write table write)
+
+-- the table behind the items is the table with what they wrote
+pub take-written : (table : Table) (limit : ℕ) (today : ℤ) (office : List ℕ) (items : List Readied)
+    → (take table limit today office items).table ≡ put_all (take table limit today office items).writes table
+take-written table limit today office [] = refl
+take-written table limit today office (item ∷ items) =
+    let writes = writes_of (verdict table limit today office item) item in
+    take-written (put_all writes table) limit today office items
+    ∙ sym (put_all-append writes (take (put_all writes table) limit today office items).writes table)
+
+record_sound : (table : Table) (limit : ℕ) (today : ℤ) (office : List ℕ) (item : Row) (failed : Option Check) → IsSound table → IsRow item
+    → first_failing (checks table limit today office item) ≡ failed
+    → IsSound (put_all (writes_of (verdict_of failed) (Readied.Good (Item.Record item))) table)
+record_sound table limit today office item None sound is_row is = IsSound-put table item sound is_row (free_if_passes table limit today office item is)
+record_sound table limit today office item (Some check) sound is_row is = sound
+
+-- the items leave a sound table sound
+pub take-sound : (table : Table) (limit : ℕ) (today : ℤ) (office : List ℕ) (items : List Readied) → IsSound table → HaveRows items
+    → IsSound (take table limit today office items).table
+take-sound table limit today office [] sound rows = sound
+take-sound table limit today office (Readied.Bad check ∷ items) sound rows = take-sound table limit today office items sound rows
+take-sound table limit today office (Readied.Good (Item.Record item) ∷ items) sound rows =
+    let given = verdict table limit today office (Readied.Good (Item.Record item)) in
+    take-sound (put_all (writes_of given (Readied.Good (Item.Record item))) table) limit today office items
+    (record_sound table limit today office item (first_failing (checks table limit today office item)) sound rows.0 refl) rows.1
 
 -- what is judged of a table is taken, and no cell is wanted
 pub judges-takes : (result : Result Outcome JudgeStop) (judged : Result Judgement CellKey) (taken : Taken) → judged ≡ Ok (shown taken) → Judges result judged → Takes result taken
