@@ -170,8 +170,11 @@ key_seen : (table : Table) (key : Option (List ℕ × List ℕ)) → seen_holder
 key_seen table None = refl
 key_seen table (Some key) = refl
 
--- the same of a view that answers the cells of a sound table
+-- the same by the cells of the table
+pub taken-cells : (table : Table) (row : Row) → IsKeyed table → HasHolders table → taken (cells_of table) row ≡ seen (other_holder table row)
+taken-cells table row keyed holders =
+    ap (unless_own (lei_in row)) (key_seen table (akey row)) ∙ other_holder-seen table row keyed holders
+
+-- and of a view that answers the cells of a sound table
 pub taken-over_table : (cells : Cells) (table : Table) (row : Row) → IsSound table → cells ≡ cells_of table → taken cells row ≡ seen (other_holder table row)
-taken-over_table cells table row sound same =
-    ap (λ answers. taken answers row) same
-    ∙ (ap (unless_own (lei_in row)) (key_seen table (akey row)) ∙ other_holder-seen table row sound.keyed sound.holders)
+taken-over_table cells table row sound same = ap (λ answers. taken answers row) same ∙ taken-cells table row sound.keyed sound.holders

@@ -1,5 +1,5 @@
 -- Items from the first to the last, by what was judged so far.
-use Rattle.std.specs.Prelude.{◌≡◌, ℕ, ◌+◌, ◌-◌, ◌==◌, ℤ, List, [], ◌∷◌, ◌++◌, Bool, true, false, if◌then◌else◌, Option, Some, None, Result, Ok, Err, length, ◌≤◌, ⊤}
+use Rattle.std.specs.Prelude.{◌≡◌, ℕ, ◌+◌, ◌-◌, ◌==◌, ℤ, List, [], ◌∷◌, ◌++◌, Bool, true, false, if◌then◌else◌, Option, Result, Ok, Err, length, ◌≤◌}
 use Rattle.std.proofs.Common.{refl, sym, ap, subst, ◌∙◌, append_assoc, append-nil, zero-add, add-zero, add-one, add_assoc, drop, get_or, ◌<◌, arith}
 use Rattle.std.proofs.Math.Seq.{drop-cons}
 use Rattle.std.proofs.lemmas.List.{drop_all}
@@ -12,7 +12,7 @@ use Rattle.register_judge.specs.declared.judge.Judged.{Judged}
 use Rattle.register_judge.specs.declared.outcome.JudgeStop.{JudgeStop}
 use Rattle.register_judge.specs.declared.outcome.Outcome.{Outcome}
 use Rattle.register_judge.specs.declared.outcome.Verdict.{Verdict}
-use Rattle.register_judge.specs.Judging.{Judgement, judge_item, judge_items, cells_after, room_after, item_in_front, before, put_writes, room_taken}
+use Rattle.register_judge.specs.Judging.{Judgement, judge_item, judge_items, cells_after, room_after, before, put_writes, room_taken}
 use Rattle.register_judge.specs.Outcomes.{Judges, Shows, Stops}
 use Rattle.register_judge.specs.Taking.{writes_of}
 

@@ -1,5 +1,5 @@
 -- The same over any view: what a view's cells make of items, or the first cell that they need and the view lacks.
-use Rattle.std.specs.Prelude.{ℕ, ◌+◌, ◌-◌, ◌==◌, ℤ, List, [], ◌∷◌, ◌++◌, Bool, true, false, ◌&&◌, if◌then◌else◌, Option, Some, None, is_none, Result, Ok, Err}
+use Rattle.std.specs.Prelude.{ℕ, ◌+◌, ◌-◌, ◌==◌, ℤ, List, [], ◌∷◌, ◌++◌, Bool, true, false, if◌then◌else◌, Option, Some, None, is_none, Result, Ok, Err}
 use Rattle.lei_records.specs.declared.check.Check.{Check}
 use Rattle.lei_records.specs.declared.item.Item.{Item}
 use Rattle.lei_records.specs.declared.item.Readied.{Readied}
@@ -12,7 +12,7 @@ use Rattle.lei_records.specs.Rows.{Row}
 use Rattle.authority_rules.specs.Taken.{taken}
 use Rattle.register_judge.specs.declared.judge.Judged.{Judged}
 use Rattle.register_judge.specs.declared.outcome.Verdict.{Verdict}
-use Rattle.register_judge.specs.Checks.{Line, first_failing, own_checks, held_checks, c19, c20}
+use Rattle.register_judge.specs.Checks.{first_failing, own_checks, held_checks, c19, c20}
 use Rattle.register_judge.specs.Overlays.{put_cells}
 use Rattle.register_judge.specs.Taking.{verdict_of, writes_of}
 

@@ -1,13 +1,11 @@
 -- What was judged so far, and one more item.
-use Rattle.std.specs.Prelude.{◌≡◌, ℕ, ◌+◌, ◌-◌, List, [], ◌∷◌, ◌++◌, if◌then◌else◌, Option}
-use Rattle.lei_records.specs.declared.item.Item.{Item}
+use Rattle.std.specs.Prelude.{◌≡◌, ◌+◌, ◌-◌, [], ◌∷◌, ◌++◌, if◌then◌else◌}
 use Rattle.lei_records.specs.declared.item.Readied.{Readied}
-use Rattle.lei_records.specs.declared.view.RowKey.{RowKey}
 use Rattle.lei_records.specs.Cells.{Cells}
 use Rattle.register_judge.specs.declared.judge.Judged.{Judged}
 use Rattle.register_judge.specs.declared.judging.Progress.{Progress}
 use Rattle.register_judge.specs.declared.overlay.Overlay.{Overlay}
-use Rattle.register_judge.specs.Judging.{put_writes, room_taken}
+use Rattle.register_judge.specs.Judging.{room_taken}
 use Rattle.register_judge.specs.Overlays.{overlaid}
 use Rattle.register_judge.specs.Taking.{writes_of}
 

@@ -1,11 +1,11 @@
 -- What an upload's items do to a table, from the first to the last.
-use Rattle.std.specs.Prelude.{ℕ, ◌+◌, ℤ, List, [], ◌∷◌, ◌++◌, Bool, true, false, ◌&&◌, if◌then◌else◌, Option, Some, None, is_none}
+use Rattle.std.specs.Prelude.{ℕ, ◌+◌, ℤ, List, [], ◌∷◌, ◌++◌, Bool, false, ◌&&◌, if◌then◌else◌, Option, Some, None, is_none, ⊤}
 use Rattle.lei_records.specs.declared.check.Check.{Check}
 use Rattle.lei_records.specs.declared.item.Item.{Item}
 use Rattle.lei_records.specs.declared.item.Readied.{Readied}
 use Rattle.lei_records.specs.declared.view.RowKey.{RowKey}
 use Rattle.lei_records.specs.Cells.{lei_in}
-use Rattle.lei_records.specs.Rows.{Row}
+use Rattle.lei_records.specs.Spelled.{IsRow}
 use Rattle.lei_records.specs.Tables.{Table, record_of, put_all}
 use Rattle.register_judge.specs.declared.outcome.Verdict.{Verdict}
 use Rattle.register_judge.specs.Checks.{first_failing, earlier_checks, checks}
@@ -61,3 +61,9 @@ take table limit today office (item ∷ items) =
     let given = verdict table limit today office item in
     let writes = writes_of given item in
     in_front given writes (is_new table today office item) (take (put_all writes table) limit today office items)
+
+-- each item that passed the checks of its fields has the row of a record
+abbrev pub HaveRows : List Readied → Type 0
+HaveRows [] = ⊤
+HaveRows (Readied.Bad check ∷ items) = HaveRows items
+HaveRows (Readied.Good (Item.Record item) ∷ items) = IsRow item × HaveRows items

@@ -5,6 +5,7 @@
 mod checks;
 mod judge;
 mod judging;
+mod laws;
 mod outcome;
 mod overlay;
 
@@ -14,4 +15,5 @@ pub use checks::{
     TRANSITION, UPDATE_EARLIER,
 };
 pub use judging::judge_all;
+pub use laws::{items_keep_tables_sound, writes_make_the_table};
 pub use outcome::{JudgeStop, Outcome, Verdict};
