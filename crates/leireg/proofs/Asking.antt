@@ -1,9 +1,9 @@
 -- What a line's request, refusal or want of memory does to a history.
-use Rattle.std.proofs.Common.{◌≡◌, ℕ, List, [], ◌∷◌, length, Option, Some, None, Bool, true, false, cond, eqb, ltb, inr, refl, sym, subst, bytes_eq, codes}
+use Rattle.std.proofs.Common.{◌≡◌, ℕ, ℤ, List, [], ◌∷◌, ◌++◌, length, Option, Some, None, Bool, true, false, cond, eqb, ltb, Result, inr, refl, sym, subst, bytes_eq, codes}
 use Rattle.std.proofs.lemmas.List.{append-nil}
 use Rattle.std.specs.Option.{option_and_then, option_map}
 use Rattle.lei_office.specs.declared.request.Request.{Request}
-use Rattle.lei_office.specs.declared.request.Request.TheVariants.{Accredit}
+use Rattle.lei_office.specs.declared.request.Request.TheVariants.{Accredit, Show}
 use Rattle.lei_office.specs.declared.request.Asked.{Asked}
 use Rattle.lei_office.specs.declared.request.Asked.TheVariants.{Ask, Refuse}
 use Rattle.lei_office.specs.declared.reply.Refusal.TheVariants.{TooLong, NoRoute, NoMemory}
@@ -11,16 +11,20 @@ use Rattle.lei_office.specs.declared.reply.Reply.{Reply}
 use Rattle.lei_office.specs.declared.reply.Reply.TheVariants.{Words}
 use Rattle.lei_office.specs.History.{History}
 use Rattle.lei_office.specs.Legal.{AskStep, Session, IsNumbered}
-use Rattle.leireg.specs.declared.requests.TheConstants.{MAX_LINE}
 use Rattle.leireg.proofs.Numbers.{number_of-range}
-use Rattle.leireg.specs.Requests.{asked, asked_in, asked_by, or_path, cut, code_of, upload_of, accreditation_of, number_of, IsUpload}
+use Rattle.leireg.specs.Requests.{asked, asked_in, asked_by, or_path, cut, code_of, upload_of, accreditation_of, show_of, number_of, IsUpload}
 use Rattle.leireg.specs.Replies.{reply_text}
-use Rattle.leireg.specs.Runs.{Answers}
+use Rattle.leireg.specs.Outbox.{Puts}
+use Rattle.leireg.specs.Runs.{Answers, AnswersLine, AnswersAndPuts}
+use Rattle.leireg.proofs.Giving.{Gives-none}
 
--- want of memory for an upload's body leaves the history
-pub AskStep-no_memory : (old : History) (what : Asked) → IsUpload what → AskStep old what (Words NoMemory) old
+AskStep-no_memory : (old : History) (what : Asked) → IsUpload what → AskStep old what [] (Words NoMemory) old
 AskStep-no_memory old (Refuse refusal) is = absurd is
-AskStep-no_memory old (Ask request) is = inr (refl, refl)
+AskStep-no_memory old (Ask request) is = inr (refl, refl, refl)
+
+-- want of memory for an upload's body leaves the history, and asks for no moment
+pub line_wants : (old : History) (line : List ℕ) (u : Option (List ℤ)) → IsUpload (asked line) → AnswersLine old line u u (Words NoMemory) old
+line_wants old line u is = ([], Gives-none u, AskStep-no_memory old (asked line) is)
 
 -- what is asked has a number in its range
 abbrev pub AsksInRange : Asked → Type 0
@@ -40,14 +44,27 @@ accreditation_range : (code : Option (List ℕ)) → AsksInRange (or_path (optio
 accreditation_range None = tt
 accreditation_range (Some office) = tt
 
+show_range : (code : Option (List ℕ)) → AsksInRange (or_path (option_map Show code))
+show_range None = tt
+show_range (Some code) = tt
+
+-- where the word is none of the first ones
+other_range : (word : List ℕ) (rest : Option (List ℕ)) → AsksInRange (cond (bytes_eq word (codes "SHOW")) (or_path (option_and_then show_of rest)) (Refuse NoRoute))
+other_range word rest =
+    elim (bytes_eq word (codes "SHOW")) as (λ b. AsksInRange (cond b (or_path (option_and_then show_of rest)) (Refuse NoRoute))) [
+      | true ↦ bind_range rest show_of (λ r _. show_range (code_of r))
+      | false ↦ tt
+    ]
+
 by_range : (word : List ℕ) (rest : Option (List ℕ)) → AsksInRange (asked_by word rest)
 unfolding asked_by
 by_range word rest =
-    elim (bytes_eq word (codes "ACCREDIT")) as (λ b. AsksInRange (cond b (or_path (option_and_then accreditation_of rest)) (cond (bytes_eq word (codes "UPLOAD")) (or_path (option_and_then upload_of rest)) (Refuse NoRoute)))) [
+    let other = cond (bytes_eq word (codes "SHOW")) (or_path (option_and_then show_of rest)) (Refuse NoRoute) in
+    elim (bytes_eq word (codes "ACCREDIT")) as (λ b. AsksInRange (cond b (or_path (option_and_then accreditation_of rest)) (cond (bytes_eq word (codes "UPLOAD")) (or_path (option_and_then upload_of rest)) other))) [
       | true ↦ bind_range rest accreditation_of (λ r _. accreditation_range (code_of r))
-      | false ↦ elim (bytes_eq word (codes "UPLOAD")) as (λ b. AsksInRange (cond b (or_path (option_and_then upload_of rest)) (Refuse NoRoute))) [
+      | false ↦ elim (bytes_eq word (codes "UPLOAD")) as (λ b. AsksInRange (cond b (or_path (option_and_then upload_of rest)) other)) [
         | true ↦ bind_range rest upload_of (λ r _. upload_range r)
-        | false ↦ tt
+        | false ↦ other_range word rest
       ]
     ]
 
@@ -58,10 +75,16 @@ cut_range line (Some parts) = by_range parts.0 (Some parts.1)
 pub in_range : (line : List ℕ) → AsksInRange (asked line)
 unfolding asked
 in_range line =
-    elim (ltb MAX_LINE (length line)) as (λ b. AsksInRange (cond b (Refuse TooLong) (asked_in line (cut line)))) [ true ↦ tt | false ↦ cut_range line (cut line) ]
+    elim (ltb 4194340 (length line)) as (λ b. AsksInRange (cond b (Refuse TooLong) (asked_in line (cut line)))) [ true ↦ tt | false ↦ cut_range line (cut line) ]
 
 -- one line's reply is its run
-pub Answers-one : (old new : History) (line : List ℕ) (reply : Reply) → eqb (length line) 0 ≡ false → AskStep old (asked line) reply new → Answers old (line ∷ []) (reply_text reply) new
-Answers-one old new line reply is step =
-    let S : Bool → Type 0 = λ b. Session old (cond b [] (asked line ∷ [])) (reply ∷ []) new in
-    record { replies = reply ∷ []; session = subst S (sym is) (new, step, refl); texts = sym (append-nil (reply_text reply)) }
+pub Answers-one : (old new : History) (line : List ℕ) (moments : List ℤ) (reply : Reply) → eqb (length line) 0 ≡ false → AskStep old (asked line) moments reply new → Answers old (line ∷ []) moments (reply_text reply) new
+Answers-one old new line moments reply is step =
+    let S : Bool → Type 0 = λ b. Session old (cond b [] (asked line ∷ [])) moments (reply ∷ []) new in
+    record { replies = reply ∷ []; session = subst S (sym is) (moments, [], new, sym (append-nil moments), step, (refl, refl)); texts = sym (append-nil (reply_text reply)) }
+
+-- and its text was put
+pub puts_reply : {T E : Type 0} (old new : History) (line : List ℕ) (reply : Reply) (u v : Option (List ℤ)) (a b : Option (List ℕ)) (waited waits : List ℕ) (result : Result T E) → eqb (length line) 0 ≡ false → AnswersLine old line u v reply new
+    → Puts a b (waited ++ reply_text reply) result waits → AnswersAndPuts old (line ∷ []) new u v a b waited result waits
+puts_reply old new line reply u v a b waited waits result is step puts =
+    record { moments = step.0; texts = reply_text reply; gives = step.1; answers = Answers-one old new line step.0 reply is step.2; puts = puts }
