@@ -11,7 +11,6 @@ use Rattle.lei_office.specs.declared.reply.Reply.{Reply}
 use Rattle.lei_office.specs.declared.reply.Reply.TheVariants.{Words}
 use Rattle.lei_office.specs.History.{History}
 use Rattle.lei_office.specs.Legal.{AskStep, Session, IsNumbered}
-use Rattle.leireg.specs.declared.requests.TheConstants.{MAX_LINE}
 use Rattle.leireg.proofs.Numbers.{number_of-range}
 use Rattle.leireg.specs.Requests.{asked, asked_in, asked_by, or_path, cut, code_of, upload_of, accreditation_of, number_of, IsUpload}
 use Rattle.leireg.specs.Replies.{reply_text}
@@ -58,7 +57,7 @@ cut_range line (Some parts) = by_range parts.0 (Some parts.1)
 pub in_range : (line : List ℕ) → AsksInRange (asked line)
 unfolding asked
 in_range line =
-    elim (ltb MAX_LINE (length line)) as (λ b. AsksInRange (cond b (Refuse TooLong) (asked_in line (cut line)))) [ true ↦ tt | false ↦ cut_range line (cut line) ]
+    elim (ltb 4194340 (length line)) as (λ b. AsksInRange (cond b (Refuse TooLong) (asked_in line (cut line)))) [ true ↦ tt | false ↦ cut_range line (cut line) ]
 
 -- one line's reply is its run
 pub Answers-one : (old new : History) (line : List ℕ) (reply : Reply) → eqb (length line) 0 ≡ false → AskStep old (asked line) reply new → Answers old (line ∷ []) (reply_text reply) new

@@ -6,7 +6,6 @@ use Rattle.std.proofs.lemmas.Slice.Eq.{bytes_eq-Decides}
 use Rattle.std.proofs.lemmas.Str.{IsUtf8-from_ascii}
 use Rattle.std.specs.Str.{IsUtf8}
 use Rattle.std.specs.Str.Parse.{digits_value, ParsesUnsigned}
-use Rattle.lei_office.specs.declared.request.TheConstants.{MAX_NUMBER}
 use Rattle.leireg.specs.Requests.{number_of, plain_number}
 
 all_three : (a b c : Bool) → a ≡ true → b ≡ true → c ≡ true → (a && b && c) ≡ true
@@ -21,25 +20,25 @@ none_unless : (test : Bool) (n : ℕ) → (test ≡ true → ⊥) → cond test 
 none_unless true n never = absurd (never refl)
 none_unless false n never = refl
 
--- what stands for a number from 1 to MAX_NUMBER is that number's decimal text
-pub number_of-decimal : (bytes : List ℕ) (n : ℕ) → 1 ≤ n → n ≤ MAX_NUMBER → bytes ≡ decimal n → number_of bytes ≡ Some n
+-- what stands for a number from 1 to 1,000,000 is that number's decimal text
+pub number_of-decimal : (bytes : List ℕ) (n : ℕ) → 1 ≤ n → n ≤ 1000000 → bytes ≡ decimal n → number_of bytes ≡ Some n
 unfolding number_of
 number_of-decimal bytes n low high is =
     let value : digits_value 10 bytes ≡ n = ap (digits_value 10) is ∙ (decimal_is_IsNumeral n (omega arith)).1 in
     let at_least : leb 1 n ≡ true = grind (arith, nat_tests) in
-    let at_most : leb n MAX_NUMBER ≡ true = grind (arith, nat_tests) in
+    let at_most : leb n 1000000 ≡ true = grind (arith, nat_tests) in
     let plain = (bytes_eq-Decides (decimal n) bytes).1 (sym is) in
-    ap (plain_number bytes) value ∙ ap (λ test. cond test (Some n) None) (all_three (leb 1 n) (leb n MAX_NUMBER) (bytes_eq (decimal n) bytes) at_least at_most plain)
+    ap (plain_number bytes) value ∙ ap (λ test. cond test (Some n) None) (all_three (leb 1 n) (leb n 1000000) (bytes_eq (decimal n) bytes) at_least at_most plain)
 
 -- and nothing else stands for one
-pub number_of-none : (bytes : List ℕ) → ((n : ℕ) → 1 ≤ n → n ≤ MAX_NUMBER → bytes ≡ decimal n → ⊥) → number_of bytes ≡ None
+pub number_of-none : (bytes : List ℕ) → ((n : ℕ) → 1 ≤ n → n ≤ 1000000 → bytes ≡ decimal n → ⊥) → number_of bytes ≡ None
 unfolding number_of
 number_of-none bytes never =
     let n = digits_value 10 bytes in
-    none_unless (leb 1 n && leb n MAX_NUMBER && bytes_eq (decimal n) bytes) n (λ holds.
-    let parts = parts_of (leb 1 n) (leb n MAX_NUMBER) (bytes_eq (decimal n) bytes) holds in
+    none_unless (leb 1 n && leb n 1000000 && bytes_eq (decimal n) bytes) n (λ holds.
+    let parts = parts_of (leb 1 n) (leb n 1000000) (bytes_eq (decimal n) bytes) holds in
     let low : 1 ≤ n = grind (arith, nat_tests, parts.0) in
-    let high : n ≤ MAX_NUMBER = grind (arith, nat_tests, parts.1) in
+    let high : n ≤ 1000000 = grind (arith, nat_tests, parts.1) in
     never n low high (sym ((bytes_eq-Decides (decimal n) bytes).0 parts.2)))
 
 pub number_of-no_text : (bytes : List ℕ) → ¬ (IsUtf8 bytes) → number_of bytes ≡ None
@@ -54,7 +53,7 @@ number_of-not_parsed bytes parsed =
     cc)
 
 -- what was read is no number of a request: it is out of range, or isn't written so
-pub number_of-other : (bytes : List ℕ) (number : ℕ) → ParsesUnsigned {E = Unit {0}} 32 10 bytes (Ok number) → (1 ≤ number → number ≤ MAX_NUMBER → bytes ≡ decimal number → ⊥) → number_of bytes ≡ None
+pub number_of-other : (bytes : List ℕ) (number : ℕ) → ParsesUnsigned {E = Unit {0}} 32 10 bytes (Ok number) → (1 ≤ number → number ≤ 1000000 → bytes ≡ decimal number → ⊥) → number_of bytes ≡ None
 number_of-other bytes number parsed never =
     number_of-none bytes (λ n low high is.
     let found : Result ℕ (Unit {0}) = Ok number in
@@ -66,13 +65,13 @@ chosen : (test : Bool) (v n : ℕ) → cond test (Some v) None ≡ Some n → (t
 chosen true v n is = (refl, cc)
 chosen false v n is = cc
 
-pub number_of-range : (bytes : List ℕ) (n : ℕ) → number_of bytes ≡ Some n → (1 ≤ n) × (n ≤ MAX_NUMBER)
+pub number_of-range : (bytes : List ℕ) (n : ℕ) → number_of bytes ≡ Some n → (1 ≤ n) × (n ≤ 1000000)
 unfolding number_of
 number_of-range bytes n is =
     let v = digits_value 10 bytes in
-    let found = chosen (leb 1 v && leb v MAX_NUMBER && bytes_eq (decimal v) bytes) v n is in
-    let parts = parts_of (leb 1 v) (leb v MAX_NUMBER) (bytes_eq (decimal v) bytes) found.0 in
+    let found = chosen (leb 1 v && leb v 1000000 && bytes_eq (decimal v) bytes) v n is in
+    let parts = parts_of (leb 1 v) (leb v 1000000) (bytes_eq (decimal v) bytes) found.0 in
     let low : 1 ≤ v = grind (arith, nat_tests, parts.0) in
-    let high : v ≤ MAX_NUMBER = grind (arith, nat_tests, parts.1) in
+    let high : v ≤ 1000000 = grind (arith, nat_tests, parts.1) in
     let same = found.1 in
     (omega arith, omega arith)

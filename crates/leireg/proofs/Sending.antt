@@ -65,3 +65,12 @@ refused a b c pieces i d held waits within sent front =
     ap (λ xs. xs ++ rest) (append_assoc held done here) ∙ (append_assoc held (done ++ here) rest
     ∙ ap (λ xs. held ++ xs) (ap (λ xs. xs ++ rest) (sym (pieces_more pieces i d within)) ∙ pieces_rest pieces (i + 1))) in
     subst P whole (TakesFront-longer a c ((held ++ done) ++ here) rest (Sends-front a b c (held ++ done) waits here sent front))
+
+-- ---- where nothing waits
+
+pub sent_then : (a b c : Option (List ℕ)) (all piece : List ℕ) → Sends a b all [] → Grows b c piece → Sends a c (all ++ piece) []
+sent_then a b c all piece first more =
+    (first.0 ++ piece, Grows-join a b c first.0 piece first.1 more, ap (λ xs. xs ++ piece) (first.2 ∙ append-nil first.0) ∙ sym (append-nil (first.0 ++ piece)))
+
+pub sent_all : (a b : Option (List ℕ)) (all : List ℕ) → Sends a b all [] → Grows a b all
+sent_all a b all sent = let G : List ℕ → Type 0 = λ xs. Grows a b xs in subst G (sym (sent.2 ∙ append-nil sent.0)) sent.1

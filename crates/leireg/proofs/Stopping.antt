@@ -2,8 +2,8 @@
 use Rattle.std.proofs.Common.{◌≡◌, ◌≤◌, Result, Ok, Err, ◌<◌, IsErrAnd, inl, inr, refl, sym, ap, subst, arith, List, [], ◌∷◌, map, String, Global, string_bytes, length, slice_index_or}
 use Rattle.lei_outside.specs.declared.faults.SinkFault.{SinkFault}
 use Rattle.lei_outside.specs.declared.faults.SinkFault.TheVariants.{Failed, NoMemory}
-use Rattle.leireg.specs.declared.run.Stop.{Stop}
-use Rattle.leireg.specs.declared.run.Stop.TheVariants as stop
+use Rattle.leireg.specs.declared.status.Stop.{Stop}
+use Rattle.leireg.specs.declared.status.Stop.TheVariants as stop
 use Rattle.leireg.specs.Status.{stop_of, stop_status, end_status}
 use Rattle.leireg.proofs.Ending.{IsCause}
 

@@ -1,10 +1,13 @@
--- How a run over lines ends, by its status.
-use Rattle.std.specs.Prelude.{◌≡◌, ◌<◌, ◌≤◌, ℕ, List, [], ◌++◌, ◌⊎◌, length, Option}
+-- How a run ends, by its command and its status.
+use Rattle.std.specs.Prelude.{◌≡◌, ◌<◌, ◌≤◌, ℕ, List, [], ◌++◌, ◌⊎◌, length, Option, Some}
 use Rattle.std.specs.Str.Lines.{lines}
 use Rattle.lei_outside.specs.Told.{Grows, Loses, IsAtEnd}
+use Rattle.lei_code.specs.Fault.{fault_of}
 use Rattle.lei_office.specs.History.{History}
+use Rattle.leireg.specs.Codes.{check_line, digits_fault, digits_line, told_status, TellsLine}
 use Rattle.leireg.specs.Lines.{whole_part}
 use Rattle.leireg.specs.Runs.{Answers, AnswersFront}
+use Rattle.leireg.specs.Words.{Meant, to_answer_lines, to_check, to_make_digits}
 
 -- The lines were answered, from an office without entries, and these bytes are the texts of the replies.
 abbrev pub AreAnswered : List (List ℕ) → List ℕ → Type 0
@@ -36,3 +39,25 @@ pub record RunsLines (left left_now taken taken_now : Option (List ℕ)) (status
   pub loses : Loses left left_now read
   pub grows : Grows taken taken_now written
   pub ends : IsDone status left_now read written ⊎ (IsReadFault status read written ⊎ (IsStopped status left_now read written ⊎ IsTooLong status read written))
+
+-- What was meant was done, with this status. The source and the sink are seen by what they tell.
+abbrev pub Does : Meant → Option (List ℕ) → Option (List ℕ) → Option (List ℕ) → Option (List ℕ) → ℕ → Type 0
+Does to_answer_lines left left_now taken taken_now status = RunsLines left left_now taken taken_now status
+Does (to_check text) left left_now taken taken_now status = TellsLine (fault_of text) (check_line text) taken taken_now status
+Does (to_make_digits text) left left_now taken taken_now status = TellsLine (digits_fault text) (digits_line text) taken taken_now status
+
+-- All of these bytes were read, their lines answered and the replies written, with status 0.
+pub record IsComplete (bytes : List ℕ) (left_now taken taken_now : Option (List ℕ)) (status : ℕ) : Type 0 where
+  pub ok : status ≡ 0
+  pub ended : IsAtEnd left_now
+  pub written : List ℕ
+  pub grows : Grows taken taken_now written
+  pub answered : AreAnswered (lines bytes) written
+
+-- Where nothing fails and no memory is wanting, all is done: an input that is told and short enough is answered whole,
+-- and a text is told, with status 0 or 2.
+abbrev pub Completes : Meant → Option (List ℕ) → Option (List ℕ) → Option (List ℕ) → Option (List ℕ) → ℕ → Type 0
+Completes to_answer_lines left left_now taken taken_now status =
+    (bytes : List ℕ) → left ≡ Some bytes → length bytes < 4294967296 → IsComplete bytes left_now taken taken_now status
+Completes (to_check text) left left_now taken taken_now status = status ≡ told_status (fault_of text)
+Completes (to_make_digits text) left left_now taken taken_now status = status ≡ told_status (digits_fault text)

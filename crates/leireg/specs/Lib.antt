@@ -7,3 +7,5 @@ pub mod Lines
 pub mod Reading
 pub mod Ends
 pub mod Status
+pub mod Words
+pub mod Codes

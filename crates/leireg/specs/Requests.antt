@@ -3,13 +3,11 @@ use Rattle.std.specs.Prelude.{ℕ, ◌+◌, ◌==◌, List, take, drop, length, 
 use Rattle.std.specs.Str.{bytes_eq}
 use Rattle.std.specs.Str.Parse.{digits_value}
 use Rattle.lei_code.specs.Fault.{fault_of}
-use Rattle.lei_office.specs.declared.request.TheConstants.{MAX_NUMBER}
 use Rattle.lei_office.specs.declared.request.Request.{Request}
 use Rattle.lei_office.specs.declared.request.Request.TheVariants.{Accredit, Upload}
 use Rattle.lei_office.specs.declared.request.Asked.{Asked}
 use Rattle.lei_office.specs.declared.request.Asked.TheVariants.{Ask, Refuse}
 use Rattle.lei_office.specs.declared.reply.Refusal.TheVariants.{TooLong, NoRoute, Path}
-use Rattle.leireg.specs.declared.requests.TheConstants.{MAX_LINE}
 
 infixl 10 ◌>>=◌
 abbrev pub ◌>>=◌ : {A B : Type 0} → Option A → (A → Option B) → Option B
@@ -23,11 +21,11 @@ cut bytes = option_map (λ n. (take n bytes, drop (n + 1) bytes)) (position (λ 
 abbrev pub code_of : List ℕ → Option (List ℕ)
 code_of bytes = if is_none (fault_of bytes) then Some bytes else None
 
--- the number, where it lies from 1 to MAX_NUMBER and the bytes are just its decimal text
+-- the number, where it lies from 1 to 1,000,000 and the bytes are just its decimal text
 abbrev pub plain_number : List ℕ → ℕ → Option ℕ
-plain_number bytes n = if nat_le 1 n && nat_le n MAX_NUMBER && bytes_eq (decimal n) bytes then Some n else None
+plain_number bytes n = if nat_le 1 n && nat_le n 1000000 && bytes_eq (decimal n) bytes then Some n else None
 
--- the number from 1 to MAX_NUMBER that is written so in decimal, without sign or leading zero
+-- the number from 1 to 1,000,000 that is written so in decimal, without sign or leading zero
 unfoldable pub number_of : List ℕ → Option ℕ
 number_of bytes = plain_number bytes (digits_value 10 bytes)
 
@@ -57,10 +55,10 @@ abbrev pub asked_in : List ℕ → Option (List ℕ × List ℕ) → Asked
 asked_in line None = asked_by line None
 asked_in line (Some parts) = asked_by parts.0 (Some parts.1)
 
--- The first of these: the line is too long; its first word is unknown; its other words are not those of a request;
+-- The first of these: the line has more than 4,194,340 bytes; its first word is unknown; its other words are not those of a request;
 -- or what it asks.
 unfoldable pub asked : List ℕ → Asked
-asked line = if nat_lt MAX_LINE (length line) then Refuse TooLong else asked_in line (cut line)
+asked line = if nat_lt 4194340 (length line) then Refuse TooLong else asked_in line (cut line)
 
 -- an upload, whose body takes memory to be read
 abbrev pub IsUpload : Asked → Type 0

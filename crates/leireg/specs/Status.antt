@@ -2,22 +2,23 @@
 use Rattle.std.specs.Prelude.{ℕ, List, [], ◌∷◌, codes, get_or, Result, Ok, Err}
 use Rattle.lei_outside.specs.declared.faults.SinkFault.{SinkFault}
 use Rattle.lei_outside.specs.declared.faults.SinkFault.TheVariants.{Failed, NoMemory}
-use Rattle.leireg.specs.declared.run.Stop.{Stop}
-use Rattle.leireg.specs.declared.run.Stop.TheVariants as stop
+use Rattle.leireg.specs.declared.status.Stop.{Stop}
+use Rattle.leireg.specs.declared.status.Stop.TheVariants as stop
 
--- the status of a run that was stopped
+-- the status of a command that ends so
 abbrev pub stop_status : Stop → ℕ
+stop_status stop.Refused = 2
 stop_status stop.ReadFault = 3
 stop_status stop.WriteFault = 4
 stop_status stop.NoMemory = 6
 stop_status stop.InputTooLong = 8
 
--- what a fault of the sink stops a run as
+-- what a fault of the sink stops a command as
 abbrev pub stop_of : SinkFault → Stop
 stop_of Failed = stop.WriteFault
 stop_of NoMemory = stop.NoMemory
 
--- the status of a run over lines
+-- the status of a command
 abbrev pub end_status : Result (Unit {0}) Stop → ℕ
 end_status (Ok done) = 0
 end_status (Err stopped) = stop_status stopped

@@ -2,23 +2,26 @@
 #![tactic(auto)]
 
 mod answering;
+mod codes;
+mod command;
 #[cfg(test)]
 mod fakes;
+mod help;
 mod outbox;
 mod reader;
 pub mod requests;
 pub mod run;
+pub mod status;
 mod streams;
 mod window;
 mod writing;
 
-use run::{NO_MEMORY, OK, run, status_text};
+use help::help_text;
+use run::run;
+use status::{NO_MEMORY, OK, status_text};
 use std::process::ExitCode;
 use std::{env, io};
 use streams::{StdSink, StdSource};
-
-const HELP: &'static str =
-    "leireg lines: answers each line of the standard input, as in ACCREDIT OFFICE or UPLOAD OFFICE NUMBER BODY";
 
 fn main(rt: HostRuntime) -> io::Result<ExitCode> {
     let alloc = rt.alloc();
@@ -32,7 +35,7 @@ fn main(rt: HostRuntime) -> io::Result<ExitCode> {
         Err(_) => NO_MEMORY,
     };
     if status != OK {
-        eprintln!(rt; "{}\n{HELP}", status_text(status))?;
+        eprintln!(rt; "{}\n{}", status_text(status), help_text(status))?;
     }
     Ok(ExitCode::from(status))
 }

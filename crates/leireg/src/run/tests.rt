@@ -1,6 +1,7 @@
 // Whole runs. The replies come from the profile of lines and replies; the codes are public ones or made ones.
-use super::{INPUT_TOO_LONG, OK, READ_FAULT, USAGE, WRITE_FAULT, run, status_text};
+use super::run;
 use crate::requests::MAX_LINE;
+use crate::status::{INPUT_TOO_LONG, OK, READ_FAULT, REFUSED, USAGE, WRITE_FAULT};
 use lei_outside::{ByteSink, ByteSource, Bytes, Failed, List, Source, SureSink, SureSource};
 use std::alloc::Global;
 use std::test::Fail;
@@ -128,6 +129,12 @@ fn refuses_words_that_are_no_command(rt: HostRuntime) -> Result<(), Fail> {
         &["lines", "lines"],
         &["Lines"],
         &[""],
+        &["check"],
+        &["digits"],
+        &["check", "5493001KJTIIGC8Y1R12", ""],
+        &["digits", "000000000000000032", "02"],
+        &["Check", "5493001KJTIIGC8Y1R12"],
+        &["frob", "000000000000000032"],
     ] {
         let mut source = SureSource::new(Bytes::copy_of(alloc, b"frob\n")?, 8);
         let mut sink = SureSink::new(alloc, 8);
@@ -211,21 +218,65 @@ fn ends_at_the_greatest_input(rt: HostRuntime) -> Result<(), Fail> {
     Ok(())
 }
 
+// What the codes of the profile are told to be.
+const CODES: [(&str, &str, &str, u8); 12] = [
+    ("check", "5493001KJTIIGC8Y1R12", "valid\n", OK),
+    (
+        "check",
+        "5493001KJTIIGC8Y1R13",
+        "refused CHECK_DIGITS\n",
+        REFUSED,
+    ),
+    ("check", "5493", "refused LENGTH\n", REFUSED),
+    ("check", "", "refused LENGTH\n", REFUSED),
+    (
+        "check",
+        "5493001kJTIIGC8Y1R12",
+        "refused CHARACTER 8\n",
+        REFUSED,
+    ),
+    ("check", "00000000000000009701", "valid\n", OK),
+    ("check", "00000000000000003299", "valid\n", OK),
+    ("digits", "000000000000000032", "02\n", OK),
+    ("digits", "000000000000000097", "98\n", OK),
+    ("digits", "1", "refused LENGTH\n", REFUSED),
+    ("digits", "", "refused LENGTH\n", REFUSED),
+    (
+        "digits",
+        "5493001kJTIIGC8Y1R",
+        "refused CHARACTER 8\n",
+        REFUSED,
+    ),
+];
+
 #[test]
-fn names_each_status(rt: HostRuntime) {
-    let names = [
-        "OK",
-        "USAGE",
-        "REFUSED",
-        "READ_FAULT",
-        "WRITE_FAULT",
-        "KEEPER_FAULT",
-        "NO_MEMORY",
-        "STORE_DAMAGED",
-        "INPUT_TOO_LONG",
-        "DOOR_FAULT",
-    ];
-    for (status, name) in (0..).zip(names) {
-        assert_eq!(rt; status_text(status), name);
+fn tells_of_codes_and_makes_check_digits(rt: HostRuntime) -> Result<(), Fail> {
+    let alloc = rt.alloc();
+    for (command, text, want, end) in CODES {
+        let mut source = SureSource::new(Bytes::copy_of(alloc, b"frob\n")?, 8);
+        let mut sink = SureSink::new(alloc, 8);
+        let words = words(alloc, &[command, text])?;
+        let status = run(alloc, &words, &mut source, &mut sink);
+        assert_eq!(rt; status, end, "{command} {text}");
+        assert_eq!(rt; sink.taken(), want.as_bytes(), "{command} {text}");
+        assert_eq!(rt; source.left(), b"frob\n".as_slice(), "{command} {text}");
     }
+    Ok(())
+}
+
+#[test]
+fn ends_where_a_line_of_a_code_cannot_be_written(rt: HostRuntime) -> Result<(), Fail> {
+    let alloc = rt.alloc();
+    for call in 1..=3 {
+        let mut source = SureSource::new(Bytes::copy_of(alloc, b"")?, 8);
+        let mut sink = ByteSink::new(alloc, 10, only(alloc, call)?);
+        let words = words(alloc, &["check", "5493001KJTIIGC8Y1R13"])?;
+        let status = run(alloc, &words, &mut source, &mut sink);
+        assert_eq!(rt; status, WRITE_FAULT, "write {call}");
+        assert!(rt;
+            b"refused CHECK_DIGITS\n".starts_with(sink.taken()),
+            "write {call}"
+        );
+    }
+    Ok(())
 }
