@@ -1,12 +1,26 @@
 -- A history is the list of what was taken, in order. Who is accredited, which upload is which, and what was
--- answered to it are filters of that list.
-use Rattle.std.specs.Prelude.{ℕ, ◌-◌, ◌+◌, List, length, Bool, ◌&&◌, ◌==◌, nat_lt, nat_le, if◌then◌else◌, filter, find, slice_get, Option, Some, None, option_map, is_some}
+-- answered to it are filters of that list. The moments of its entries never fall.
+use Rattle.std.specs.Prelude.{ℕ, ◌-◌, ◌+◌, ℤ, List, length, Bool, ◌&&◌, ◌==◌, nat_lt, nat_le, if◌then◌else◌, filter, find, slice_get, Option, Some, None, option_map, is_some}
+use Rattle.std.specs.Int.{int_max}
 use Rattle.std.specs.Str.{bytes_eq}
 use Rattle.lei_outside.specs.declared.entry.KeptEntry.{KeptEntry}
 use Rattle.lei_office.specs.declared.ledger.TheConstants.{ACCREDIT, UPLOAD}
 
 abbrev pub History : Type 0
 History = List KeptEntry
+
+-- the entry that was taken last
+abbrev pub last_entry : History → Option KeptEntry
+last_entry history = slice_get history (length history - 1)
+
+-- the later of the moment and the entry's, where there is an entry
+abbrev pub later : Option KeptEntry → ℤ → ℤ
+later None moment = moment
+later (Some e) moment = int_max e.moment moment
+
+-- the moment of the next entry: the later of the clock's moment and the last entry's
+abbrev pub stamp : History → ℤ → ℤ
+stamp history moment = later (last_entry history) moment
 
 abbrev pub is_accreditation_of : List ℕ → KeptEntry → Bool
 is_accreditation_of office e = (e.kind == ACCREDIT) && bytes_eq e.office office

@@ -1,9 +1,9 @@
 -- Which histories can come about, and runs of requests over them.
-use Rattle.std.specs.Prelude.{◌≡◌, ◌⊎◌, ◌≤◌, ℕ, List, [], ◌∷◌, ◌++◌, ◌==◌, if◌then◌else◌, Option, Some, None}
+use Rattle.std.specs.Prelude.{◌≡◌, ◌⊎◌, ◌≤◌, ℕ, ℤ, ◌≤ℤ◌, List, [], ◌∷◌, ◌++◌, ◌==◌, if◌then◌else◌, Option, Some, None}
 use Rattle.lei_code.specs.Code.{IsValid}
+use Rattle.lei_shapes.specs.Moment.{IsMoment}
 use Rattle.lei_outside.specs.declared.entry.KeptEntry.{KeptEntry}
 use Rattle.lei_office.specs.declared.ledger.TheConstants.{ACCREDIT, UPLOAD}
-use Rattle.lei_office.specs.declared.request.TheConstants.{MAX_NUMBER}
 use Rattle.lei_office.specs.declared.request.Asked.{Asked}
 use Rattle.lei_office.specs.declared.request.Asked.TheVariants.{Ask, Refuse}
 use Rattle.lei_office.specs.declared.request.Request.{Request}
@@ -11,13 +11,16 @@ use Rattle.lei_office.specs.declared.request.Request.TheVariants.{Accredit, Uplo
 use Rattle.lei_office.specs.declared.reply.Refusal.TheVariants.{NoMemory}
 use Rattle.lei_office.specs.declared.reply.Reply.{Reply}
 use Rattle.lei_office.specs.declared.reply.Reply.TheVariants.{Words}
-use Rattle.lei_office.specs.History.{History}
-use Rattle.lei_office.specs.Replies.{adds, outcome, Step}
+use Rattle.lei_office.specs.History.{History, upload_at}
+use Rattle.lei_office.specs.Replies.{adds, next, outcome, reply, Step}
 
--- the number of an upload lies from 1 to MAX_NUMBER
+-- the number of an upload lies from 1 to 1,000,000
+abbrev pub IsUploadNumber : ℕ → Type 0
+IsUploadNumber number = (1 ≤ number) × (number ≤ 1_000_000)
+
 abbrev pub IsNumbered : Request → Type 0
 IsNumbered (Accredit office) = Unit {0}
-IsNumbered (Upload call) = (1 ≤ call.number) × (call.number ≤ MAX_NUMBER)
+IsNumbered (Upload call) = IsUploadNumber call.number
 
 abbrev pub office_of : Request → List ℕ
 office_of (Accredit office) = office
@@ -32,9 +35,9 @@ abbrev pub request_of : KeptEntry → Option Request
 request_of e = if e.kind == ACCREDIT then Some (Accredit e.office)
     else (if e.kind == UPLOAD then Some (Upload (record { office = e.office; number = e.number; body = e.body })) else None)
 
--- the entry is what its own request adds to the history before it
+-- the entry is what its own request adds to the history before it, at its own moment
 abbrev pub IsNext : History → KeptEntry → Type 0
-IsNext before e = (request : Request) × (request_of e ≡ Some request) × IsRequest request × (outcome before request ≡ adds e)
+IsNext before e = (request : Request) × (request_of e ≡ Some request) × IsRequest request × IsMoment e.moment × (outcome before request e.moment ≡ adds e)
 
 -- each entry of the rest is next after those before it
 abbrev pub LegalAfter : History → History → Type 0
@@ -45,17 +48,34 @@ LegalAfter before (e ∷ rest) = IsNext before e × LegalAfter (before ++ e ∷ 
 unfoldable pub Legal : History → Type 0
 Legal history = LegalAfter [] history
 
+-- the moment of no entry is later than that of the next one
+abbrev pub MomentsNeverFall : History → Type 0
+MomentsNeverFall history = (before after : History) (first second : KeptEntry) → history ≡ before ++ first ∷ second ∷ after → first.moment ≤ℤ second.moment
+
+-- each office's uploads are numbered 1, 2, 3 and so on
+abbrev pub UploadsAreNumbered : History → Type 0
+UploadsAreNumbered history = (office : List ℕ) (place : ℕ) (e : KeptEntry) → upload_at history office place ≡ Some e → e.number ≡ place
+
 -- ---- runs
 
--- A refusal of the reader is its own reply. A request makes a step, or want of memory is answered in place of one
--- that couldn't be read for it.
-abbrev pub AskStep : History → Asked → Reply → History → Type 0
-AskStep old (Refuse refusal) answered new = (answered ≡ Words refusal) × (new ≡ old)
-AskStep old (Ask request) answered new = Step old request answered new ⊎ ((answered ≡ Words NoMemory) × (new ≡ old))
+-- A refusal of the reader is its own reply, and takes no moment. A request takes one, and makes a step; or want of
+-- memory is answered in place of one that couldn't be read for it, which takes none.
+abbrev pub AskStep : History → Asked → List ℤ → Reply → History → Type 0
+AskStep old (Refuse refusal) moments answered new = (moments ≡ []) × (answered ≡ Words refusal) × (new ≡ old)
+AskStep old (Ask request) moments answered new =
+    ((m : ℤ) × (moments ≡ m ∷ []) × Step old request m answered new) ⊎ ((moments ≡ []) × (answered ≡ Words NoMemory) × (new ≡ old))
 
--- these replies answer what was asked, in order, from one history to the other
-abbrev pub Session : History → List Asked → List Reply → History → Type 0
-Session old [] [] new = new ≡ old
-Session old [] (answered ∷ replies) new = ⊥
-Session old (asked ∷ asks) [] new = ⊥
-Session old (asked ∷ asks) (answered ∷ replies) new = (between : History) × AskStep old asked answered between × Session between asks replies new
+-- these replies answer what was asked, in order, at these moments, from one history to the other
+abbrev pub Session : History → List Asked → List ℤ → List Reply → History → Type 0
+Session old [] moments [] new = (moments ≡ []) × (new ≡ old)
+Session old [] moments (answered ∷ replies) new = ⊥
+Session old (asked ∷ asks) moments [] new = ⊥
+Session old (asked ∷ asks) moments (answered ∷ replies) new =
+    (taken : List ℤ) × (rest : List ℤ) × (between : History) × (moments ≡ taken ++ rest) × AskStep old asked taken answered between × Session between asks rest replies new
+
+-- The replies where memory is never wanting. Where the moments run out, nothing more is answered.
+abbrev pub replies_to : History → List Asked → List ℤ → List Reply
+replies_to history [] moments = []
+replies_to history (Refuse refusal ∷ asks) moments = Words refusal ∷ replies_to history asks moments
+replies_to history (Ask request ∷ asks) [] = []
+replies_to history (Ask request ∷ asks) (m ∷ moments) = reply history request m ∷ replies_to (next history request m) asks moments

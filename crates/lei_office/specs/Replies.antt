@@ -1,12 +1,11 @@
 -- What is answered to a request, and what is added for it: both are read off one outcome.
-use Rattle.std.specs.Prelude.{◌≡◌, ◌⊎◌, ℕ, pos, ◌+◌, List, [], ◌∷◌, ◌++◌, length, Bool, true, false, nat_lt, if◌then◌else◌, IsTrue, Option, Some, None, Result, Ok, Err}
+use Rattle.std.specs.Prelude.{◌≡◌, ◌⊎◌, ℕ, ℤ, ◌+◌, List, [], ◌∷◌, ◌++◌, length, Bool, true, false, nat_lt, if◌then◌else◌, IsTrue, Option, Some, None, Result, Ok, Err}
 use Rattle.lei_outside.specs.declared.entry.KeptEntry.{KeptEntry}
 use Rattle.lei_outside.specs.declared.faults.NoMemory.{NoMemory as NoMemoryError}
 use Rattle.upload_format.specs.Bodies.{upload}
 use Rattle.upload_format.specs.declared.fault.Malformed.{Malformed}
 use Rattle.upload_format.specs.declared.item.RawItem.{RawItem}
 use Rattle.lei_office.specs.declared.ledger.TheConstants.{ACCREDIT, UPLOAD, RULES}
-use Rattle.lei_office.specs.declared.request.TheConstants.{MAX_BODY}
 use Rattle.lei_office.specs.declared.request.Call.{Call}
 use Rattle.lei_office.specs.declared.request.Request.{Request}
 use Rattle.lei_office.specs.declared.request.Request.TheVariants as requests
@@ -17,7 +16,7 @@ use Rattle.lei_office.specs.declared.reply.Refusal.TheVariants as refusals
 use Rattle.lei_office.specs.declared.reply.Reply.{Reply}
 use Rattle.lei_office.specs.declared.reply.Reply.TheVariants.{Text, Words}
 use Rattle.lei_office.specs.declared.verdict.Verdict.{Verdict}
-use Rattle.lei_office.specs.History.{History, accredited, Place, unknown_office, repeat_of, taken, ahead, fresh, place}
+use Rattle.lei_office.specs.History.{History, accredited, Place, unknown_office, repeat_of, taken, ahead, fresh, place, stamp}
 use Rattle.lei_office.specs.Answers.{accreditation_text, upload_text}
 use Rattle.lei_office.specs.Register.{after, take_items}
 
@@ -34,57 +33,63 @@ kept_reply text = Text 200 Json text
 abbrev pub told : KeptEntry → Reply
 told e = kept_reply e.answer
 
--- ---- what a request adds
+-- ---- what a request adds, at the moment of the new entry
 
-abbrev pub accreditation : History → List ℕ → KeptEntry
-accreditation history office =
+abbrev pub accreditation : History → List ℕ → ℤ → KeptEntry
+accreditation history office moment =
     let number = length history + 1 in
-    record { seq = number; kind = ACCREDIT; office = office; number = 0; moment = pos 0; rules = RULES; body = []; answer = accreditation_text number office }
+    record { seq = number; kind = ACCREDIT; office = office; number = 0; moment = moment; rules = RULES; body = []; answer = accreditation_text number office }
 
-abbrev pub upload_entry : History → Call → List Verdict → KeptEntry
-upload_entry history call verdicts =
+abbrev pub upload_entry : History → Call → ℤ → List Verdict → KeptEntry
+upload_entry history call moment verdicts =
     let number = length history + 1 in
     record {
       seq = number;
       kind = UPLOAD;
       office = call.office;
       number = call.number;
-      moment = pos 0;
+      moment = moment;
       rules = RULES;
       body = call.body;
       answer = upload_text number call.office call.number verdicts;
     }
 
 -- the items are judged on the table after the history
-abbrev pub taken_upload : History → Call → List RawItem → KeptEntry
-taken_upload history call items = upload_entry history call (take_items (after history) items).1
+abbrev pub taken_upload : History → Call → ℤ → List RawItem → KeptEntry
+taken_upload history call moment items = upload_entry history call moment (take_items (after history) items).1
 
 -- ---- what a request comes to
 
 -- an office that is accredited gets the answer from then
-abbrev pub accredit_outcome : History → List ℕ → Option (List ℕ) → Outcome
-accredit_outcome history office None = adds (accreditation history office)
-accredit_outcome history office (Some text) = stays (kept_reply text)
+abbrev pub accredit_outcome : History → List ℕ → ℤ → Option (List ℕ) → Outcome
+accredit_outcome history office moment None = adds (accreditation history office moment)
+accredit_outcome history office moment (Some text) = stays (kept_reply text)
 
 -- a body that is no upload takes no number
-abbrev pub body_outcome : History → Call → Result (List RawItem) Malformed → Outcome
-body_outcome history call (Ok items) = adds (taken_upload history call items)
-body_outcome history call (Err fault) = stays (Words (refusals.Malformed fault))
+abbrev pub body_outcome : History → Call → ℤ → Result (List RawItem) Malformed → Outcome
+body_outcome history call moment (Ok items) = adds (taken_upload history call moment items)
+body_outcome history call moment (Err fault) = stays (Words (refusals.Malformed fault))
 
 -- a repeat gets the answer that was kept, at any later place
-abbrev pub place_outcome : History → Call → Place → Outcome
-place_outcome history call unknown_office = stays (Words IssuerUnknown)
-place_outcome history call (repeat_of answer) = stays (kept_reply answer)
-place_outcome history call taken = stays (Words NumberTaken)
-place_outcome history call (ahead next) = stays (Words (NumberAhead next))
-place_outcome history call fresh = body_outcome history call (upload call.body)
+abbrev pub place_outcome : History → Call → ℤ → Place → Outcome
+place_outcome history call moment unknown_office = stays (Words IssuerUnknown)
+place_outcome history call moment (repeat_of answer) = stays (kept_reply answer)
+place_outcome history call moment taken = stays (Words NumberTaken)
+place_outcome history call moment (ahead next) = stays (Words (NumberAhead next))
+place_outcome history call moment fresh = body_outcome history call moment (upload call.body)
 
-unfoldable pub upload_outcome : History → Call → Outcome
-upload_outcome history call = if nat_lt MAX_BODY (length call.body) then stays (Words TooLong) else place_outcome history call (place history call.office call.number call.body)
+-- a body has at most 4 MiB
+unfoldable pub upload_outcome : History → Call → ℤ → Outcome
+upload_outcome history call moment = if nat_lt 4_194_304 (length call.body) then stays (Words TooLong) else place_outcome history call moment (place history call.office call.number call.body)
 
-abbrev pub outcome : History → Request → Outcome
-outcome history (requests.Accredit office) = accredit_outcome history office (accredited history office)
-outcome history (requests.Upload call) = upload_outcome history call
+-- where an entry that is added has this moment
+abbrev pub outcome_at : History → Request → ℤ → Outcome
+outcome_at history (requests.Accredit office) moment = accredit_outcome history office moment (accredited history office)
+outcome_at history (requests.Upload call) moment = upload_outcome history call moment
+
+-- where the request comes at this moment of the clock
+abbrev pub outcome : History → Request → ℤ → Outcome
+outcome history request moment = outcome_at history request (stamp history moment)
 
 -- ---- the reply and the next history
 
@@ -96,11 +101,11 @@ abbrev pub next_of : History → Outcome → History
 next_of history (stays reply) = history
 next_of history (adds e) = history ++ e ∷ []
 
-abbrev pub reply : History → Request → Reply
-reply history request = reply_of (outcome history request)
+abbrev pub reply : History → Request → ℤ → Reply
+reply history request moment = reply_of (outcome history request moment)
 
-abbrev pub next : History → Request → History
-next history request = next_of history (outcome history request)
+abbrev pub next : History → Request → ℤ → History
+next history request moment = next_of history (outcome history request moment)
 
 -- ---- one step, which want of memory may stop
 
@@ -125,8 +130,8 @@ abbrev pub StepOf : Outcome → History → Reply → History → Type 0
 StepOf outcome old answered new = ((answered ≡ reply_of outcome) × (new ≡ next_of old outcome))
     ⊎ ((answered ≡ Words NoMemory) × (new ≡ old) × IsTrue (takes_memory (reply_of outcome)))
 
-abbrev pub Step : History → Request → Reply → History → Type 0
-Step old request answered new = StepOf (outcome old request) old answered new
+abbrev pub Step : History → Request → ℤ → Reply → History → Type 0
+Step old request moment answered new = StepOf (outcome old request moment) old answered new
 
 -- what a part of an office answers: the reply and the history after it, or want of memory where the reply takes it
 abbrev pub Comes : Outcome → History → Result Reply NoMemoryError → History → Type 0

@@ -1,8 +1,10 @@
 ghost use Rattle.std.specs.Prelude.{◌≡◌, ◌≤◌, length, option_map};
-ghost use Rattle.lei_office.specs.History.{accredited, last, upload_at, is_accreditation_of, is_upload_of, place};
+ghost use Rattle.lei_office.specs.History.{accredited, last, upload_at, is_accreditation_of, is_upload_of, place, stamp};
+ghost use Rattle.lei_shapes.specs.Moment.{IsMoment};
 ghost use Rattle.lei_office.specs.Places.{IsPlace};
 
 use lei_outside::KeptEntry;
+use lei_shapes::Moment;
 
 /// The kind of an entry that accredits an office.
 pub const ACCREDIT: u8 = 1;
@@ -33,6 +35,18 @@ pub fn accredited<'a>(entries: &'a [KeptEntry], office: &[u8]) -> Option<&'a [u8
         .iter()
         .find(|entry| is_accreditation_of(entry, office))?;
     Some(entry.answer.as_slice())
+}
+
+// The moment of the next entry: the later of the clock's moment and the last entry's.
+pub fn stamp(entries: &[KeptEntry], moment: Moment) -> i64
+    ensures stamp { result ≡ stamp entries.now moment }
+    ensures moment { IsMoment moment }
+{
+    let seconds = moment.seconds();
+    match entries.last() {
+        Some(entry) => entry.moment.max(seconds),
+        None => seconds,
+    }
 }
 
 // The number of the office's last upload, 0 for none.

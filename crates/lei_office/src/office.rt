@@ -8,7 +8,7 @@ ghost use Rattle.lei_office.specs.Legal.{IsNumbered, Legal};
 ghost use Rattle.lei_office.specs.Register.{after};
 
 use crate::judge::judge;
-use crate::ledger::{ACCREDIT, Place, RULES, UPLOAD, accredited, place_of};
+use crate::ledger::{ACCREDIT, Place, RULES, UPLOAD, accredited, place_of, stamp};
 use crate::record::Record;
 use crate::reply::{Kind, Refusal, Reply};
 use crate::request::{Call, MAX_BODY, Request};
@@ -17,8 +17,10 @@ use crate::texts::{accreditation_text, upload_text};
 use crate::verdict::Verdict;
 use lei_code::Lei;
 use lei_outside::{Bytes, KeptEntry, NoMemory};
+use lei_shapes::Moment;
 use std::alloc::Global;
 use std::marker::Model;
+use std::thread::Threads;
 use upload_format::{UploadFault, read_upload};
 
 /// The register of one caller at a time. Contracts see it as its history, the list of the entries that it took.
@@ -54,15 +56,19 @@ impl Office {
         })
     }
 
-    /// Answers a request, by one step of the history. A repeat of an upload gets the answer that was kept.
-    pub fn answer(&mut self, request: &Request) -> Reply
+    /// Answers a request that came at this moment, by one step of the history. An entry that is added has the
+    /// moment, or that of the last entry where it is later. A repeat of an upload gets the answer that was kept.
+    pub fn answer<R: Threads + Sync>(&mut self, _rt: &R, request: &Request, moment: Moment) -> Reply
         requires { IsNumbered request.now }
-        ensures step { Step self.old request.now result self.new }
+        ensures step { Step self.old request.now moment result self.new }
         ensures legal { Legal self.new }
     {
+        let moment = stamp(self.entries.as_slice(), moment);
         let answered = match request {
-            Request::Accredit(office) => accredit(self.alloc, &mut self.entries, office),
-            Request::Upload(call) => upload(self.alloc, &mut self.entries, &mut self.rows, call),
+            Request::Accredit(office) => accredit(self.alloc, &mut self.entries, office, moment),
+            Request::Upload(call) => {
+                upload(self.alloc, &mut self.entries, &mut self.rows, call, moment)
+            }
         };
         match answered {
             Ok(reply) => reply,
@@ -82,22 +88,34 @@ fn kept_reply(alloc: Global, text: &[u8]) -> Result<Reply, NoMemory>
     })
 }
 
-fn accredit(alloc: Global, entries: &mut Vec<KeptEntry>, office: &Lei) -> Result<Reply, NoMemory>
-    ensures step { Comes (accredit_outcome entries.old.items office.now (accredited entries.old.items office.now))
+// The calls below get the moment of the entry that they may add.
+
+fn accredit(
+    alloc: Global,
+    entries: &mut Vec<KeptEntry>,
+    office: &Lei,
+    moment: i64,
+) -> Result<Reply, NoMemory>
+    ensures step { Comes (accredit_outcome entries.old.items office.now moment (accredited entries.old.items office.now))
         entries.old.items result entries.new.items }
     ensures code { IsValid office.now }
 {
     if let Some(text) = accredited(entries, office.as_bytes()) {
         return kept_reply(alloc, text);
     }
-    let entry = accreditation(alloc, entries, office)?;
+    let entry = accreditation(alloc, entries, office, moment)?;
     let reply = kept_reply(alloc, entry.answer.as_slice())?;
     entries.push(entry)?;
     Ok(reply)
 }
 
-fn accreditation(alloc: Global, entries: &[KeptEntry], office: &Lei) -> Result<KeptEntry, NoMemory>
-    ensures { IfOk result (λ entry. entry ≡ accreditation entries.now office.now) }
+fn accreditation(
+    alloc: Global,
+    entries: &[KeptEntry],
+    office: &Lei,
+    moment: i64,
+) -> Result<KeptEntry, NoMemory>
+    ensures { IfOk result (λ entry. entry ≡ accreditation entries.now office.now moment) }
 {
     let seq = next_seq(entries)?;
     Ok(KeptEntry {
@@ -105,7 +123,7 @@ fn accreditation(alloc: Global, entries: &[KeptEntry], office: &Lei) -> Result<K
         kind: ACCREDIT,
         office: Bytes::copy_of(alloc, office.as_bytes())?,
         number: 0,
-        moment: 0,
+        moment,
         rules: RULES,
         body: Bytes::copy_of(alloc, &[])?,
         answer: accreditation_text(alloc, seq, office)?,
@@ -118,9 +136,10 @@ fn upload(
     entries: &mut Vec<KeptEntry>,
     rows: &mut Vec<Record>,
     call: &Call,
+    moment: i64,
 ) -> Result<Reply, NoMemory>
     requires { rows.old.items ≡ after entries.old.items }
-    ensures step { Comes (upload_outcome entries.old.items call.now) entries.old.items result entries.new.items }
+    ensures step { Comes (upload_outcome entries.old.items call.now moment) entries.old.items result entries.new.items }
     ensures table { rows.new.items ≡ after entries.new.items }
     ensures code { IsValid call.now.office }
 {
@@ -133,7 +152,7 @@ fn upload(
         Place::Repeat(answer) => kept_reply(alloc, answer),
         Place::Taken => Ok(Reply::Words(Refusal::NumberTaken)),
         Place::Ahead(next) => Ok(Reply::Words(Refusal::NumberAhead(next))),
-        Place::Fresh => take_upload(alloc, entries, rows, call),
+        Place::Fresh => take_upload(alloc, entries, rows, call, moment),
     }
 }
 
@@ -142,9 +161,10 @@ fn take_upload(
     entries: &mut Vec<KeptEntry>,
     rows: &mut Vec<Record>,
     call: &Call,
+    moment: i64,
 ) -> Result<Reply, NoMemory>
     requires { rows.old.items ≡ after entries.old.items }
-    ensures step { Comes (body_outcome entries.old.items call.now (items_of call.now.body))
+    ensures step { Comes (body_outcome entries.old.items call.now moment (items_of call.now.body))
         entries.old.items result entries.new.items }
     ensures table { rows.new.items ≡ after entries.new.items }
 {
@@ -154,7 +174,7 @@ fn take_upload(
         Err(UploadFault::NoMemory) => return Err(NoMemory),
     };
     let judged = judge(alloc, upload.items.as_slice())?;
-    let entry = taken_upload(alloc, entries, call, &judged.verdicts)?;
+    let entry = taken_upload(alloc, entries, call, moment, &judged.verdicts)?;
     let reply = kept_reply(alloc, entry.answer.as_slice())?;
     rows.reserve(judged.writes.len())?;
     entries.push(entry)?;
@@ -166,9 +186,10 @@ fn taken_upload(
     alloc: Global,
     entries: &[KeptEntry],
     call: &Call,
+    moment: i64,
     verdicts: &[Verdict],
 ) -> Result<KeptEntry, NoMemory>
-    ensures { IfOk result (λ entry. entry ≡ upload_entry entries.now call.now verdicts.now) }
+    ensures { IfOk result (λ entry. entry ≡ upload_entry entries.now call.now moment verdicts.now) }
 {
     let seq = next_seq(entries)?;
     Ok(KeptEntry {
@@ -176,7 +197,7 @@ fn taken_upload(
         kind: UPLOAD,
         office: Bytes::copy_of(alloc, call.office.as_bytes())?,
         number: call.number,
-        moment: 0,
+        moment,
         rules: RULES,
         body: Bytes::copy_of(alloc, call.body.as_slice())?,
         answer: upload_text(alloc, seq, &call.office, call.number, verdicts)?,

@@ -1,3 +1,6 @@
+ghost use Rattle.std.specs.Prelude.{◌↔◌, IsTrue};
+ghost use Rattle.lei_office.specs.Legal.{IsUploadNumber};
+
 use crate::reply::Refusal;
 use lei_code::Lei;
 use lei_outside::Bytes;
@@ -7,6 +10,13 @@ pub const MAX_NUMBER: u32 = 1_000_000;
 
 /// The greatest length of an upload's body, in bytes. This project's profile.
 pub const MAX_BODY: usize = 4_194_304;
+
+/// Whether an upload may have this number.
+pub fn is_upload_number(number: u32) -> bool
+    ensures { IsTrue result ↔ IsUploadNumber number }
+{
+    number >= 1 && number <= MAX_NUMBER
+}
 
 /// A numbered upload of an issuing office.
 #[derive(Debug, PartialEq, Eq, Drop)]

@@ -1,3 +1,4 @@
 pub mod Told
 pub mod Count
 pub mod Memory
+pub mod Clock

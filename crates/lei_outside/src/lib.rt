@@ -2,17 +2,21 @@
 #![tactic(auto)]
 
 mod calls;
+mod clock;
 mod entry;
 mod faults;
 mod list;
+mod memory_clock;
 mod memory_sink;
 mod memory_source;
 mod sink;
 mod source;
 
+pub use clock::Clock;
 pub use entry::KeptEntry;
 pub use faults::{Failed, NoMemory, SinkFault};
 pub use list::{Bytes, List, Text};
+pub use memory_clock::ListClock;
 pub use memory_sink::{ByteSink, SureSink};
 pub use memory_source::{ByteSource, SureSource};
 pub use sink::{Sink, write_all};

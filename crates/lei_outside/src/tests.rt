@@ -179,3 +179,28 @@ fn faults_are_printed_in_words(rt: HostRuntime) -> Result<(), Fail> {
     assert_eq!(rt; SinkFault::from(AllocError), SinkFault::NoMemory);
     Ok(())
 }
+
+#[test]
+fn a_clock_gives_its_moments_and_then_the_last(rt: HostRuntime) -> Result<(), Fail> {
+    let alloc = rt.alloc();
+    let moments = List::from(vec![in alloc; 1_700_000_000, -62_135_596_800, 253_370_764_799]?);
+    let mut clock = ListClock::new(moments);
+    for (at, want) in [
+        1_700_000_000i64,
+        -62_135_596_800,
+        253_370_764_799,
+        253_370_764_799,
+        253_370_764_799,
+    ]
+    .iter()
+    .enumerate()
+    {
+        assert_eq!(rt; clock.now(), *want, "call {at}");
+    }
+    assert_eq!(rt; clock.calls(), 5);
+    let mut none = ListClock::new(List::from(Vec::new(alloc)));
+    assert_eq!(rt; none.now(), 0);
+    assert_eq!(rt; none.now(), 0);
+    assert_eq!(rt; none.calls(), 2);
+    Ok(())
+}

@@ -50,6 +50,14 @@ impl Moment {
         }
     }
 
+    /// The number of seconds from 1970-01-01T00:00:00Z on, which is negative before it.
+    pub fn seconds(self) -> i64
+        ensures value { result ≡ self }
+        ensures moment { IsMoment result }
+    {
+        self.seconds
+    }
+
     /// The moment of a text that `jiff` reads as a timestamp, rounded down to a whole second.
     pub fn read(text: &str) -> Option<Moment>
         ensures reads { IsMomentRead text.now result }

@@ -37,6 +37,7 @@ const MOMENTS: [(i64, &str, i32); 20] = [
 fn moments_have_their_text_and_day(rt: HostRuntime) -> Result<(), Fail> {
     for (seconds, text, day) in MOMENTS {
         let moment = Moment::of(seconds).ok_or("a moment")?;
+        assert_eq!(rt; moment.seconds(), seconds);
         assert_eq!(rt; moment.text().as_slice(), text.as_bytes(), "at {seconds}");
         assert_eq!(rt; moment.day(), day, "at {seconds}");
         assert_eq!(rt; Moment::read(text), Some(moment), "at {seconds}");

@@ -1,12 +1,14 @@
 // What an office answers. The answers come from the profile of requests; the codes are public ones or made ones.
 use super::Office;
 use crate::reply::{Refusal, Reply};
-use crate::request::{Call, MAX_BODY, MAX_NUMBER, Request};
+use crate::request::{Call, MAX_BODY, Request, is_upload_number};
 use lei_code::Lei;
 use lei_outside::Bytes;
+use lei_shapes::Moment;
 use std::alloc::Global;
 use std::process::Abort;
 use std::test::Fail;
+use std::thread::Threads;
 
 const FIRST: &str = "506700GE1G29325QX363";
 
@@ -36,19 +38,27 @@ fn told(alloc: Global, reply: &Reply) -> Result<String, Fail> {
     }
 }
 
-fn accredit(alloc: Global, office: &mut Office, lei: &str) -> Result<String, Fail> {
+fn accredit<R: Threads + Sync>(
+    rt: &R,
+    alloc: Global,
+    office: &mut Office,
+    lei: &str,
+    seconds: i64,
+) -> Result<String, Fail> {
     let request = Request::Accredit(Lei::read(lei.as_bytes())?);
-    told(alloc, &office.answer(&request))
+    let moment = Moment::of(seconds).ok_or("a moment")?;
+    told(alloc, &office.answer(rt, &request, moment))
 }
 
-fn upload(
+fn upload<R: Threads + Sync>(
+    rt: &R,
     alloc: Global,
     office: &mut Office,
     lei: &str,
     number: u32,
     body: &[u8],
 ) -> Result<String, Fail> {
-    if number == 0 || number > MAX_NUMBER {
+    if !is_upload_number(number) {
         return Err(Fail::from("a number that uploads may have"));
     }
     let request = Request::Upload(Call {
@@ -56,7 +66,8 @@ fn upload(
         number,
         body: Bytes::copy_of(alloc, body)?,
     });
-    told(alloc, &office.answer(&request))
+    let moment = Moment::of(1_736_499_600).ok_or("a moment")?;
+    told(alloc, &office.answer(rt, &request, moment))
 }
 
 // The text as often as asked for, between two others.
@@ -76,16 +87,16 @@ fn repeated(
 }
 
 // Puts the requests to a new office, in order.
-fn answers(rt: &impl Abort, alloc: Global, cases: &[Case]) -> Result<(), Fail> {
+fn answers<R: Abort + Threads + Sync>(rt: &R, alloc: Global, cases: &[Case]) -> Result<(), Fail> {
     let mut office = Office::new(alloc)?;
     for case in cases {
         match case {
             Case::Accredit(lei, want) => {
-                let reply = accredit(alloc, &mut office, lei)?;
+                let reply = accredit(rt, alloc, &mut office, lei, 0)?;
                 assert_eq!(rt; reply.as_str(), *want, "{lei}");
             }
             Case::Upload(lei, number, body, want) => {
-                let reply = upload(alloc, &mut office, lei, *number, body.as_bytes())?;
+                let reply = upload(rt, alloc, &mut office, lei, *number, body.as_bytes())?;
                 assert_eq!(rt; reply.as_str(), *want, "{lei} {number} {body}");
             }
         }
@@ -227,12 +238,12 @@ fn verdicts_stand_in_the_order_of_the_items(rt: HostRuntime) -> Result<(), Fail>
 fn items_are_counted(rt: HostRuntime) -> Result<(), Fail> {
     let alloc = rt.alloc();
     let mut office = Office::new(alloc)?;
-    accredit(alloc, &mut office, FIRST)?;
+    accredit(&rt, alloc, &mut office, FIRST, 0)?;
     let body = repeated(alloc, r#"{"records":["#, "{},", 5_000, "{}]}")?;
-    let reply = upload(alloc, &mut office, FIRST, 1, body.as_bytes())?;
+    let reply = upload(&rt, alloc, &mut office, FIRST, 1, body.as_bytes())?;
     assert_eq!(rt; reply.as_str(), "400 MALFORMED TOO_MANY_ITEMS");
     let body = repeated(alloc, r#"{"records":["#, "{},", 4_999, "{}]}")?;
-    let reply = upload(alloc, &mut office, FIRST, 1, body.as_bytes())?;
+    let reply = upload(&rt, alloc, &mut office, FIRST, 1, body.as_bytes())?;
     let want = repeated(
         alloc,
         r#"200 {"entry":2,"issuer":"506700GE1G29325QX363","items":["#,
@@ -260,11 +271,40 @@ fn bodies_are_measured_before_all_else(rt: HostRuntime) -> Result<(), Fail> {
         ),
         (more.as_str(), "413 TOO_LONG", "413 TOO_LONG"),
     ] {
-        let reply = upload(alloc, &mut office, SECOND, 1, body.as_bytes())?;
+        let reply = upload(&rt, alloc, &mut office, SECOND, 1, body.as_bytes())?;
         assert_eq!(rt; reply.as_str(), before);
-        accredit(alloc, &mut office, FIRST)?;
-        let reply = upload(alloc, &mut office, FIRST, 1, body.as_bytes())?;
+        accredit(&rt, alloc, &mut office, FIRST, 0)?;
+        let reply = upload(&rt, alloc, &mut office, FIRST, 1, body.as_bytes())?;
         assert_eq!(rt; reply.as_str(), after);
+    }
+    Ok(())
+}
+
+#[test]
+fn a_moment_that_goes_back_is_the_last_one_again(rt: HostRuntime) -> Result<(), Fail> {
+    let alloc = rt.alloc();
+    let mut office = Office::new(alloc)?;
+    for (lei, seconds) in [
+        (FIRST, 1_700_000_000i64),
+        (SECOND, 1_699_999_999),
+        ("00000000000000000195", 1_700_000_000),
+        ("00000000000000000292", -5),
+        ("5493001KJTIIGC8Y1R12", 253_370_764_799),
+    ] {
+        accredit(&rt, alloc, &mut office, lei, seconds)?;
+    }
+    for (at, want) in [
+        1_700_000_000i64,
+        1_700_000_000,
+        1_700_000_000,
+        1_700_000_000,
+        253_370_764_799,
+    ]
+    .iter()
+    .enumerate()
+    {
+        let moment = office.entries.get(at).map(|entry| entry.moment);
+        assert_eq!(rt; moment, Some(*want), "entry {at}");
     }
     Ok(())
 }
