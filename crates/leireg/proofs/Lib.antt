@@ -1,5 +1,6 @@
 pub mod Numbers
 pub mod Sending
+pub mod Giving
 pub mod Running
 pub mod Filling
 pub mod Asking
@@ -7,3 +8,4 @@ pub mod LineLemmas
 pub mod Reading
 pub mod Ending
 pub mod Stopping
+pub mod Completing

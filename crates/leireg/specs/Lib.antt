@@ -7,5 +7,6 @@ pub mod Lines
 pub mod Reading
 pub mod Ends
 pub mod Status
+pub mod Moments
 pub mod Words
 pub mod Codes

@@ -1,46 +1,66 @@
 //! Lines that are answered.
 ghost use Rattle.std.specs.Prelude.{◌≡◌, ◌≤◌, ◌<◌, ◌+◌, [], ◌∷◌, length, take, drop, IfSome, IfNone, IsErrOf};
 ghost use Rattle.lei_outside.specs.Count.{Rose};
-ghost use Rattle.lei_office.specs.Legal.{AskStep};
+ghost use Rattle.lei_outside.specs.Clock.{Gave, IsClockMoment};
 ghost use Rattle.leireg.specs.Lines.{HasNoEnd, Ends, line_of};
-ghost use Rattle.leireg.specs.Requests.{asked};
-ghost use Rattle.leireg.specs.Runs.{AnswersAndPuts, AnswersWhole};
+ghost use Rattle.leireg.specs.Runs.{AnswersLine, AnswersAndPuts, AnswersWhole};
 
 use crate::outbox::Outbox;
 use crate::requests::line_request;
 use crate::writing::put_reply;
 use lei_office::{Asked, Office, Refusal, Reply};
-use lei_outside::{NoMemory, Sink, SinkFault};
+use lei_outside::{Clock, NoMemory, Sink, SinkFault};
+use lei_shapes::Moment;
 use memchr::memchr;
 use std::alloc::Global;
+use std::thread::Threads;
 
-// The reply to a line that isn't empty.
-fn reply_to(alloc: Global, office: &mut Office, line: &[u8]) -> Reply
-    ensures { AskStep office.old (asked line.now) result office.new }
+// The moment that the clock gives.
+fn moment_of<C: Clock>(clock: &mut C) -> Moment
+    ensures range { IsClockMoment result }
+    ensures given { Gave (C.given clock.old) (C.given clock.new) (result ∷ []) }
+{
+    match Moment::of(clock.now()) {
+        Some(moment) => moment,
+        None => unreachable!(),
+    }
+}
+
+// The reply to a line that isn't empty. The clock is asked after the line was read, and only where it asks something.
+fn reply_to<R: Threads + Sync, C: Clock>(
+    rt: &R,
+    alloc: Global,
+    office: &mut Office,
+    line: &[u8],
+    clock: &mut C,
+) -> Reply
+    ensures { AnswersLine office.old line.now (C.given clock.old) (C.given clock.new) result office.new }
 {
     match line_request(alloc, line) {
-        Ok(Asked::Ask(request)) => office.answer(&request),
+        Ok(Asked::Ask(request)) => office.answer(rt, &request, moment_of(clock)),
         Ok(Asked::Refuse(refusal)) => Reply::Words(refusal),
         Err(NoMemory) => Reply::Words(Refusal::NoMemory),
     }
 }
 
 /// Answers a line, and puts its reply. An empty line asks nothing.
-pub fn answer_line<W: Sink>(
+pub fn answer_line<R: Threads + Sync, W: Sink, C: Clock>(
+    rt: &R,
     alloc: Global,
     office: &mut Office,
     line: &[u8],
+    clock: &mut C,
     outbox: &mut Outbox,
     out: &mut W,
 ) -> Result<(), SinkFault>
-    ensures answered { AnswersAndPuts office.old (line.now ∷ []) office.new (W.taken out.old) (W.taken out.new) outbox.old result outbox.new }
+    ensures answered { AnswersAndPuts office.old (line.now ∷ []) office.new (C.given clock.old) (C.given clock.new) (W.taken out.old) (W.taken out.new) outbox.old result outbox.new }
     ensures count { W.faults out.old ≤ W.faults out.new }
     ensures failed { IsErrOf result SinkFault.Failed → Rose (W.faults out.old) (W.faults out.new) }
 {
     if line.is_empty() {
         return Ok(());
     }
-    let reply = reply_to(alloc, office, line);
+    let reply = reply_to(rt, alloc, office, line, clock);
     put_reply(outbox, out, &reply)
 }
 
@@ -71,23 +91,25 @@ pub fn next_end(rest: &[u8], seen: usize) -> Option<usize>
 
 /// Answers each whole line of a block, of which the first `seen` bytes have no line's end, and says how many bytes
 /// these lines take.
-pub fn answer_lines<W: Sink>(
+pub fn answer_lines<R: Threads + Sync, W: Sink, C: Clock>(
+    rt: &R,
     alloc: Global,
     office: &mut Office,
     block: &[u8],
     mut seen: usize,
+    clock: &mut C,
     outbox: &mut Outbox,
     out: &mut W,
 ) -> Result<usize, SinkFault>
     requires within { seen ≤ length block.now }
     requires seen { HasNoEnd (take seen block.now) }
-    ensures answered { AnswersWhole office.old block.now office.new (W.taken out.old) (W.taken out.new) outbox.old result outbox.new }
+    ensures answered { AnswersWhole office.old block.now office.new (C.given clock.old) (C.given clock.new) (W.taken out.old) (W.taken out.new) outbox.old result outbox.new }
     ensures count { W.faults out.old ≤ W.faults out.new }
     ensures failed { IsErrOf result SinkFault.Failed → Rose (W.faults out.old) (W.faults out.new) }
 {
     let mut rest = block;
     while let Some(end) = next_end(rest, seen) {
-        answer_line(alloc, office, line_of(&rest[..end]), outbox, out)?;
+        answer_line(rt, alloc, office, line_of(&rest[..end]), clock, outbox, out)?;
         (_, rest) = rest.split_at(end + 1);
         seen = 0;
     }

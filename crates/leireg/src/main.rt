@@ -2,6 +2,7 @@
 #![tactic(auto)]
 
 mod answering;
+mod clock;
 mod codes;
 mod command;
 #[cfg(test)]
@@ -16,6 +17,7 @@ mod streams;
 mod window;
 mod writing;
 
+use clock::SystemClock;
 use help::help_text;
 use run::run;
 use status::{NO_MEMORY, OK, status_text};
@@ -30,7 +32,8 @@ fn main(rt: HostRuntime) -> io::Result<ExitCode> {
         Ok(words) => {
             let mut input = StdSource::new(rt.stdin());
             let mut out = StdSink::new(rt.stdout());
-            run(alloc, &words, &mut input, &mut out)
+            let mut clock = SystemClock::new(&rt);
+            run(&rt, alloc, &words, &mut input, &mut out, &mut clock)
         }
         Err(_) => NO_MEMORY,
     };

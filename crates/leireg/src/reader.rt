@@ -13,8 +13,9 @@ use crate::requests::MAX_LINE;
 use crate::window::Window;
 use crate::writing::put_reply;
 use lei_office::{Office, Refusal, Reply};
-use lei_outside::{NoMemory, Sink, SinkFault};
+use lei_outside::{Clock, NoMemory, Sink, SinkFault};
 use std::alloc::Global;
+use std::thread::Threads;
 
 /// The office, the bytes of the input that no line has used up, and the replies that wait to be written.
 #[derive(Drop)]
@@ -45,10 +46,16 @@ impl Reader {
 
     /// Answers the lines that end in the window, of which the first `seen` bytes were held before, and holds what
     /// follows them.
-    pub fn take_in<W: Sink>(&mut self, seen: usize, out: &mut W) -> Result<(), SinkFault>
+    pub fn take_in<R: Threads + Sync, W: Sink, C: Clock>(
+        &mut self,
+        rt: &R,
+        seen: usize,
+        clock: &mut C,
+        out: &mut W,
+    ) -> Result<(), SinkFault>
         requires within { seen ≤ length self.old.window }
         requires seen { HasNoEnd (take seen self.old.window) }
-        ensures answered { (part : List ℕ) → Holds self.old.skips (take seen self.old.window) part → TakesIn part (drop seen self.old.window) self.old.office self.new.office (W.taken out.old) (W.taken out.new) self.old.outbox result self.new.outbox self.new.skips self.new.window }
+        ensures answered { (part : List ℕ) → Holds self.old.skips (take seen self.old.window) part → TakesIn part (drop seen self.old.window) self.old.office self.new.office (C.given clock.old) (C.given clock.new) (W.taken out.old) (W.taken out.new) self.old.outbox result self.new.outbox self.new.skips self.new.window }
         ensures count { W.faults out.old ≤ W.faults out.new }
         ensures failed { IsErrOf result SinkFault.Failed → Rose (W.faults out.old) (W.faults out.new) }
     {
@@ -58,24 +65,32 @@ impl Reader {
             }
             self.skips = false;
             put_too_long(&mut self.outbox, out)?;
-            return self.answer_whole(0, out);
+            return self.answer_whole(rt, 0, clock, out);
         }
-        self.answer_whole(seen, out)
+        self.answer_whole(rt, seen, clock, out)
     }
 
-    fn answer_whole<W: Sink>(&mut self, seen: usize, out: &mut W) -> Result<(), SinkFault>
+    fn answer_whole<R: Threads + Sync, W: Sink, C: Clock>(
+        &mut self,
+        rt: &R,
+        seen: usize,
+        clock: &mut C,
+        out: &mut W,
+    ) -> Result<(), SinkFault>
         requires within { seen ≤ length self.old.window }
         requires seen { HasNoEnd (take seen self.old.window) }
-        ensures answered { TakesIn [] self.old.window self.old.office self.new.office (W.taken out.old) (W.taken out.new) self.old.outbox result self.new.outbox self.new.skips self.new.window }
+        ensures answered { TakesIn [] self.old.window self.old.office self.new.office (C.given clock.old) (C.given clock.new) (W.taken out.old) (W.taken out.new) self.old.outbox result self.new.outbox self.new.skips self.new.window }
         ensures count { W.faults out.old ≤ W.faults out.new }
         ensures failed { IsErrOf result SinkFault.Failed → Rose (W.faults out.old) (W.faults out.new) }
     {
         let block = self.window.bytes();
         let used = answer_lines(
+            rt,
             self.alloc,
             &mut self.office,
             block,
             seen,
+            clock,
             &mut self.outbox,
             out,
         )?;
@@ -88,8 +103,13 @@ impl Reader {
     }
 
     /// Answers the line that has no end where the input ends.
-    pub fn answer_last<W: Sink>(&mut self, out: &mut W) -> Result<(), SinkFault>
-        ensures answered { (part : List ℕ) → Holds self.old.skips self.old.window part → AnswersAndPuts self.old.office (part ∷ []) self.new.office (W.taken out.old) (W.taken out.new) self.old.outbox result self.new.outbox }
+    pub fn answer_last<R: Threads + Sync, W: Sink, C: Clock>(
+        &mut self,
+        rt: &R,
+        clock: &mut C,
+        out: &mut W,
+    ) -> Result<(), SinkFault>
+        ensures answered { (part : List ℕ) → Holds self.old.skips self.old.window part → AnswersAndPuts self.old.office (part ∷ []) self.new.office (C.given clock.old) (C.given clock.new) (W.taken out.old) (W.taken out.new) self.old.outbox result self.new.outbox }
         ensures count { W.faults out.old ≤ W.faults out.new }
         ensures failed { IsErrOf result SinkFault.Failed → Rose (W.faults out.old) (W.faults out.new) }
     {
@@ -97,7 +117,15 @@ impl Reader {
             return put_too_long(&mut self.outbox, out);
         }
         let line = self.window.bytes();
-        answer_line(self.alloc, &mut self.office, line, &mut self.outbox, out)
+        answer_line(
+            rt,
+            self.alloc,
+            &mut self.office,
+            line,
+            clock,
+            &mut self.outbox,
+            out,
+        )
     }
 }
 

@@ -2,9 +2,12 @@
 use super::run;
 use crate::requests::MAX_LINE;
 use crate::status::{INPUT_TOO_LONG, OK, READ_FAULT, REFUSED, USAGE, WRITE_FAULT};
-use lei_outside::{ByteSink, ByteSource, Bytes, Failed, List, Source, SureSink, SureSource};
+use lei_outside::{
+    ByteSink, ByteSource, Bytes, Failed, List, ListClock, Source, SureSink, SureSource,
+};
 use std::alloc::Global;
 use std::test::Fail;
+use std::thread::Threads;
 
 const SESSION: &str = r#"ACCREDIT 506700GE1G29325QX363
 UPLOAD 506700GE1G29325QX363 1 {"records":[{"Entity.LegalName":"Alpha","LEI":"00000000000000000195"}]}
@@ -30,18 +33,30 @@ fn words(alloc: Global, texts: &[&str]) -> Result<Vec<String>, Fail> {
     Ok(words)
 }
 
-// The status of a run over these bytes, so many a read, and what it writes.
-fn answers(alloc: Global, input: &[u8], most: usize) -> Result<(u8, SureSink), Fail> {
+// A clock that gives 1970-01-01T00:00:00Z always.
+fn still(alloc: Global) -> ListClock {
+    ListClock::new(List::from(Vec::new(alloc)))
+}
+
+// The status of a run over these bytes, so many a read, what it writes, and how often it asks the clock.
+fn answers<R: Threads + Sync>(
+    rt: &R,
+    alloc: Global,
+    input: &[u8],
+    most: usize,
+) -> Result<(u8, SureSink, u64), Fail> {
     let mut source = SureSource::new(Bytes::copy_of(alloc, input)?, most.max(1));
     let mut sink = SureSink::new(alloc, usize::MAX);
-    let status = run(alloc, &words(alloc, &["lines"])?, &mut source, &mut sink);
-    Ok((status, sink))
+    let mut clock = still(alloc);
+    let words = words(alloc, &["lines"])?;
+    let status = run(rt, alloc, &words, &mut source, &mut sink, &mut clock);
+    Ok((status, sink, clock.calls()))
 }
 
 #[test]
 fn answers_a_session_however_its_bytes_are_cut(rt: HostRuntime) -> Result<(), Fail> {
     for most in [1, 2, 7, 65_536] {
-        let (status, sink) = answers(rt.alloc(), SESSION.as_bytes(), most)?;
+        let (status, sink, _) = answers(&rt, rt.alloc(), SESSION.as_bytes(), most)?;
         assert_eq!(rt; status, OK, "{most} bytes a read");
         assert_eq!(rt; sink.taken(), REPLIES.as_bytes(), "{most} bytes a read");
     }
@@ -53,7 +68,14 @@ fn writes_byte_by_byte(rt: HostRuntime) -> Result<(), Fail> {
     let alloc = rt.alloc();
     let mut source = SureSource::new(Bytes::copy_of(alloc, SESSION.as_bytes())?, 65_536);
     let mut sink = SureSink::new(alloc, 1);
-    let status = run(alloc, &words(alloc, &["lines"])?, &mut source, &mut sink);
+    let status = run(
+        &rt,
+        alloc,
+        &words(alloc, &["lines"])?,
+        &mut source,
+        &mut sink,
+        &mut still(alloc),
+    );
     assert_eq!(rt; status, OK);
     assert_eq!(rt; sink.taken(), REPLIES.as_bytes());
     Ok(())
@@ -91,7 +113,7 @@ fn cuts_lines_at_their_ends(rt: HostRuntime) -> Result<(), Fail> {
     ];
     for (input, want) in cases {
         for most in [1, 65_536] {
-            let (status, sink) = answers(rt.alloc(), input.as_bytes(), most)?;
+            let (status, sink, _) = answers(&rt, rt.alloc(), input.as_bytes(), most)?;
             assert_eq!(rt; status, OK, "{input:?}");
             assert_eq!(rt; sink.taken(), want.as_bytes(), "{input:?}");
         }
@@ -113,7 +135,7 @@ fn skips_the_rest_of_a_long_line(rt: HostRuntime) -> Result<(), Fail> {
     ] {
         let mut input = vec![in alloc; b'x'; length]?;
         input.extend_from_slice(end.as_bytes())?;
-        let (status, sink) = answers(alloc, &input, 65_536)?;
+        let (status, sink, _) = answers(&rt, rt.alloc(), &input, 65_536)?;
         assert_eq!(rt; status, OK, "{length} {end:?}");
         assert_eq!(rt; sink.taken(), want.as_bytes(), "{length} {end:?}");
     }
@@ -138,7 +160,14 @@ fn refuses_words_that_are_no_command(rt: HostRuntime) -> Result<(), Fail> {
     ] {
         let mut source = SureSource::new(Bytes::copy_of(alloc, b"frob\n")?, 8);
         let mut sink = SureSink::new(alloc, 8);
-        let status = run(alloc, &words(alloc, texts)?, &mut source, &mut sink);
+        let status = run(
+            &rt,
+            alloc,
+            &words(alloc, texts)?,
+            &mut source,
+            &mut sink,
+            &mut still(alloc),
+        );
         assert_eq!(rt; status, USAGE, "{texts:?}");
         assert_eq!(rt; source.left(), b"frob\n".as_slice(), "{texts:?}");
         assert!(rt; sink.taken().is_empty(), "{texts:?}");
@@ -160,9 +189,16 @@ fn ends_where_a_read_fails(rt: HostRuntime) -> Result<(), Fail> {
         let bytes = Bytes::copy_of(alloc, SESSION.as_bytes())?;
         let mut source = ByteSource::new(bytes, 40, only(alloc, call)?);
         let mut sink = SureSink::new(alloc, usize::MAX);
-        let status = run(alloc, &words(alloc, &["lines"])?, &mut source, &mut sink);
+        let status = run(
+            &rt,
+            alloc,
+            &words(alloc, &["lines"])?,
+            &mut source,
+            &mut sink,
+            &mut still(alloc),
+        );
         assert_eq!(rt; status, READ_FAULT, "read {call}");
-        let read = SESSION.len() - source.left().len();
+        let read = SESSION.len().saturating_sub(source.left().len());
         let lines = SESSION.as_bytes()[..read]
             .iter()
             .filter(|byte| **byte == b'\n')
@@ -180,7 +216,14 @@ fn ends_where_a_write_fails(rt: HostRuntime) -> Result<(), Fail> {
     for call in 1..=6 {
         let mut source = SureSource::new(Bytes::copy_of(alloc, SESSION.as_bytes())?, 65_536);
         let mut sink = ByteSink::new(alloc, 50, only(alloc, call)?);
-        let status = run(alloc, &words(alloc, &["lines"])?, &mut source, &mut sink);
+        let status = run(
+            &rt,
+            alloc,
+            &words(alloc, &["lines"])?,
+            &mut source,
+            &mut sink,
+            &mut still(alloc),
+        );
         assert_eq!(rt; status, WRITE_FAULT, "write {call}");
         assert_eq!(rt; sink.faults(), 1, "write {call}");
         assert!(rt;
@@ -212,9 +255,45 @@ impl Source for Endless {
 fn ends_at_the_greatest_input(rt: HostRuntime) -> Result<(), Fail> {
     let alloc = rt.alloc();
     let mut sink = SureSink::new(alloc, usize::MAX);
-    let status = run(alloc, &words(alloc, &["lines"])?, &mut Endless, &mut sink);
+    let status = run(
+        &rt,
+        alloc,
+        &words(alloc, &["lines"])?,
+        &mut Endless,
+        &mut sink,
+        &mut still(alloc),
+    );
     assert_eq!(rt; status, INPUT_TOO_LONG);
     assert!(rt; sink.taken().is_empty());
+    Ok(())
+}
+
+#[test]
+fn asks_the_clock_once_for_each_request(rt: HostRuntime) -> Result<(), Fail> {
+    let (_, _, calls) = answers(&rt, rt.alloc(), SESSION.as_bytes(), 65_536)?;
+    assert_eq!(rt; calls, 6);
+    let refused = "\n\r\nfrob\nUPLOAD x 1 {}\nACCREDIT 506700GE1G29325QX364\n\n";
+    let (_, _, calls) = answers(&rt, rt.alloc(), refused.as_bytes(), 65_536)?;
+    assert_eq!(rt; calls, 0);
+    Ok(())
+}
+
+#[test]
+fn answers_alike_where_the_clock_goes_back(rt: HostRuntime) -> Result<(), Fail> {
+    let alloc = rt.alloc();
+    let moments = vec![in alloc;
+        1_736_553_600,
+        1_736_553_600,
+        1_736_380_800,
+        -62_135_596_800,
+    ]?;
+    let mut clock = ListClock::new(List::from(moments));
+    let mut source = SureSource::new(Bytes::copy_of(alloc, SESSION.as_bytes())?, 65_536);
+    let mut sink = SureSink::new(alloc, usize::MAX);
+    let words = words(alloc, &["lines"])?;
+    let status = run(&rt, alloc, &words, &mut source, &mut sink, &mut clock);
+    assert_eq!(rt; status, OK);
+    assert_eq!(rt; sink.taken(), REPLIES.as_bytes());
     Ok(())
 }
 
@@ -255,11 +334,13 @@ fn tells_of_codes_and_makes_check_digits(rt: HostRuntime) -> Result<(), Fail> {
     for (command, text, want, end) in CODES {
         let mut source = SureSource::new(Bytes::copy_of(alloc, b"frob\n")?, 8);
         let mut sink = SureSink::new(alloc, 8);
+        let mut clock = still(alloc);
         let words = words(alloc, &[command, text])?;
-        let status = run(alloc, &words, &mut source, &mut sink);
+        let status = run(&rt, alloc, &words, &mut source, &mut sink, &mut clock);
         assert_eq!(rt; status, end, "{command} {text}");
         assert_eq!(rt; sink.taken(), want.as_bytes(), "{command} {text}");
         assert_eq!(rt; source.left(), b"frob\n".as_slice(), "{command} {text}");
+        assert_eq!(rt; clock.calls(), 0, "{command} {text}");
     }
     Ok(())
 }
@@ -270,8 +351,9 @@ fn ends_where_a_line_of_a_code_cannot_be_written(rt: HostRuntime) -> Result<(), 
     for call in 1..=3 {
         let mut source = SureSource::new(Bytes::copy_of(alloc, b"")?, 8);
         let mut sink = ByteSink::new(alloc, 10, only(alloc, call)?);
+        let mut clock = still(alloc);
         let words = words(alloc, &["check", "5493001KJTIIGC8Y1R13"])?;
-        let status = run(alloc, &words, &mut source, &mut sink);
+        let status = run(&rt, alloc, &words, &mut source, &mut sink, &mut clock);
         assert_eq!(rt; status, WRITE_FAULT, "write {call}");
         assert!(rt;
             b"refused CHECK_DIGITS\n".starts_with(sink.taken()),

@@ -4,10 +4,11 @@ use Rattle.leireg.proofs.answering.answer_lines.Given as goal
 
 abbrev pub invariant-loop-end : goal.invariant-loop-end
 invariant-loop-end g l =
+    let given = g.C.Clock.given in
     let taken = g.W.Sink.taken in
     let faults = g.W.Sink.faults in
     record {
-      walked : Walked l.block l.fn.office l.rest l.seen l.office (taken l.fn.out) (taken l.out) l.fn.outbox l.outbox;
+      walked : Walked l.block l.fn.office l.rest l.seen l.office (given l.fn.clock) (given l.clock) (taken l.fn.out) (taken l.out) l.fn.outbox l.outbox;
       count : faults l.fn.out ≤ faults l.out;
     }
 

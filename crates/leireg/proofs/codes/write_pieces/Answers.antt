@@ -1,4 +1,4 @@
-use Rattle.std.proofs.Common.{ℕ, ◌++◌, [], List, take, flat_map, sym, subst, arith}
+use Rattle.std.proofs.Common.{ℕ, [], List, take, flat_map, sym, subst, arith}
 use Rattle.std.proofs.lemmas.Result.{MatchResult-from_err}
 use Rattle.leireg.specs.Outbox.{Sends}
 use Rattle.leireg.proofs.Sending.{Sends-nothing, pieces_more, refused, sent_then}
