@@ -1,11 +1,10 @@
+use crate::check::Check;
+use crate::record::Record;
 use lei_outside::{List, Text};
 use std::marker::Model;
 
-/// The greatest number of items in an upload. This project's profile.
-pub const MAX_ITEMS: usize = 5000;
-
 /// The fields of an item as they were sent: pairs of a name and a text, both UTF-8, in byte order of the names,
-/// of which none stands twice. Names that no item knows and empty texts are kept: whoever judges the item decides
+/// of which none stands twice. Names that no item knows and empty texts are kept: the checks of the item decide
 /// on them.
 #[derive(Debug, Drop)]
 pub struct Fields {
@@ -14,7 +13,7 @@ pub struct Fields {
 
 impl Model for Fields {
     ghost use Rattle.std.specs.Prelude.{List as Listed, ℕ};
-    ghost use Rattle.upload_format.specs.Names.{AreRising};
+    ghost use Rattle.lei_records.specs.Names.{AreRising};
 
     ghost Value = { Listed (Listed ℕ × Listed ℕ) };
 
@@ -25,7 +24,15 @@ impl Model for Fields {
 
 impl Fields {
     ghost use Rattle.std.specs.Prelude.{◌≡◌};
-    ghost use Rattle.upload_format.specs.Names.{AreRising};
+    ghost use Rattle.lei_records.specs.Names.{AreRising};
+
+    /// The fields with these pairs, which move. The condition is that their names rise in byte order.
+    pub fn of(pairs: Vec<(Text, Text)>) -> Self
+        requires { AreRising pairs.items }
+        ensures { result ≡ pairs.items }
+    {
+        Fields { pairs }
+    }
 
     /// The pairs of a name and a text, in byte order of the names.
     pub fn as_slice(&self) -> &[(Text, Text)]
@@ -33,14 +40,6 @@ impl Fields {
         ensures rising { AreRising self.now }
     {
         &self.pairs
-    }
-
-    // The fields with these pairs, which move.
-    pub(crate) fn of(pairs: Vec<(Text, Text)>) -> Self
-        requires { AreRising pairs.items }
-        ensures { result ≡ pairs.items }
-    {
-        Fields { pairs }
     }
 }
 
@@ -74,10 +73,21 @@ pub enum RawItem {
     Record(Fields),
 }
 
-/// The items of a body, from 1 to [`MAX_ITEMS`], in the order in which they are judged, which is the order in
-/// which they were sent.
+/// The items of a body, in the order in which they are judged, which is the order in which they were sent.
 #[derive(Debug, PartialEq, Eq, Drop)]
 pub struct Upload {
-    /// The items. A value that [`read_upload`](crate::read_upload) gave has at least one.
     pub items: List<RawItem>,
+}
+
+/// An item whose fields passed their checks.
+#[derive(Debug, PartialEq, Eq, Drop)]
+pub enum Item {
+    Record(Record),
+}
+
+/// An item after the checks of its fields: what it is, or the first check that fails.
+#[derive(Debug, PartialEq, Eq, Drop)]
+pub enum Readied {
+    Good(Item),
+    Bad(Check),
 }
