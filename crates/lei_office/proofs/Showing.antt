@@ -1,5 +1,5 @@
 -- The object of a record grows by a field at a time, and has no float.
-use Rattle.std.proofs.Common.{◌≡◌, ℕ, ◌+◌, ◌-◌, ◌<◌, ◌≤◌, ◌∷◌, List, length, drop, get_or, fold, [], codes, eqb, ◌==◌, Bool, true, false, cond, ◌||◌, Less, Equal, Greater, inl, inr, refl, sym, ap, ◌∙◌, arith}
+use Rattle.std.proofs.Common.{◌≡◌, ℕ, ◌+◌, ◌-◌, ◌<◌, ◌≤◌, ◌∷◌, List, length, drop, get_or, fold, [], codes, ◌==◌, Bool, true, false, cond, ◌||◌, Less, Equal, Greater, inl, inr, refl, sym, ap, ◌∙◌, arith}
 use Rattle.std.specs.Cmp.Lexicographic.{slice_cmp}
 use Rattle.std.specs.List.{zip}
 use Rattle.std.specs.Ordering.{nat_cmp, match_ordering}
