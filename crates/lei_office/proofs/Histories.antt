@@ -9,18 +9,18 @@ use Rattle.lei_outside.specs.declared.faults.NoMemory.{NoMemory}
 use Rattle.lei_outside.specs.declared.entry.KeptEntry.{KeptEntry}
 use Rattle.upload_format.specs.Bodies.{upload}
 use Rattle.upload_format.specs.declared.fault.Malformed.{Malformed}
-use Rattle.upload_format.specs.declared.item.RawItem.{RawItem}
-use Rattle.lei_office.specs.declared.record.Record.{Record}
+use Rattle.lei_records.specs.Rows.{Row}
+use Rattle.lei_records.specs.declared.item.RawItem.{RawItem}
 use Rattle.lei_office.specs.declared.request.Call.{Call}
 use Rattle.lei_office.specs.declared.request.Request.{Request}
-use Rattle.lei_office.specs.declared.request.Request.TheVariants.{Accredit, Upload}
+use Rattle.lei_office.specs.declared.request.Request.TheVariants.{Accredit, Show, Upload}
 use Rattle.lei_office.specs.declared.reply.Refusal.TheVariants.{TooLong}
 use Rattle.lei_office.specs.declared.reply.Reply.{Reply}
 use Rattle.lei_office.specs.declared.reply.Reply.TheVariants.{Words}
 use Rattle.lei_office.specs.declared.verdict.Verdict.{Verdict}
 use Rattle.lei_office.specs.History.{History, accredited, Place, unknown_office, repeat_of, taken, ahead, fresh, place, last_entry, later, stamp}
-use Rattle.lei_office.specs.Register.{put, take_items, after, after_entry, items_in}
-use Rattle.lei_office.specs.Replies.{stays, adds, outcome, outcome_at, accredit_outcome, upload_outcome, place_outcome, body_outcome, accreditation, upload_entry, taken_upload, next_of, next, Comes}
+use Rattle.lei_office.specs.Register.{held, put, take_items, after, after_entry, items_in}
+use Rattle.lei_office.specs.Replies.{stays, adds, outcome, outcome_at, show_outcome, accredit_outcome, upload_outcome, place_outcome, body_outcome, accreditation, upload_entry, taken_upload, next_of, next, Comes}
 use Rattle.lei_office.specs.Legal.{IsRequest, request_of, IsNext, LegalAfter, Legal}
 
 -- ---- the table
@@ -30,7 +30,7 @@ unfolding after
 after-push history e = fold-append after_entry [] history (e ∷ [])
 
 -- the entry of an upload puts what its items write
-pub after-upload : (history : History) (call : Call) (moment : ℤ) (items : List RawItem) (verdicts : List Verdict) (writes : List Record) → upload call.body ≡ Ok items
+pub after-upload : (history : History) (call : Call) (moment : ℤ) (items : List RawItem) (verdicts : List Verdict) (writes : List Row) → upload call.body ≡ Ok items
     → (take_items (after history) items).0 ≡ fold put (after history) writes → after (history ++ upload_entry history call moment verdicts ∷ []) ≡ fold put (after history) writes
 after-upload history call moment items verdicts writes read written =
     after-push history (upload_entry history call moment verdicts) ∙ (ap (λ r. (take_items (after history) (items_in r)).0) read ∙ written)
@@ -82,9 +82,14 @@ pub upload_adds : (history : History) (call : Call) (moment : ℤ) (e : KeptEntr
 unfolding upload_outcome
 upload_adds history call moment e is = short_adds (ltb 4_194_304 (length call.body)) history call moment (place history call.office call.number call.body) e is
 
+show_adds_none : (found : Option Row) (e : KeptEntry) → show_outcome found ≡ adds e → ⊥
+show_adds_none None e is = cc
+show_adds_none (Some row) e is = cc
+
 pub request_adds : (history : History) (request : Request) (moment : ℤ) (e : KeptEntry) → outcome_at history request moment ≡ adds e → IsAdded request moment e
 request_adds history (Accredit office) moment e is = accredit_adds history office moment (accredited history office) e is
 request_adds history (Upload call) moment e is = (upload_adds history call moment e is).1
+request_adds history (Show lei) moment e is = absurd (show_adds_none (held (after history) lei) e is)
 
 -- ---- moments
 

@@ -4,4 +4,4 @@ pub mod Answering
 pub mod Histories
 pub mod Orders
 pub mod Sessions
-pub mod RecordLemmas
+pub mod Showing

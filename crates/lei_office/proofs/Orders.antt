@@ -1,5 +1,5 @@
 -- The order of a legal history: its moments, and the numbers of each office's uploads.
-use Rattle.std.proofs.Common.{◌≡◌, ◌≢◌, ◌⊎◌, ℕ, ◌+◌, ◌-◌, ◌<◌, ◌≤◌, ◌==◌, eqb, ltb, leb, ℤ, ◌≤ℤ◌, int_lt, List, [], ◌∷◌, ◌++◌, length, filter, slice_get, bytes_eq, Bool, true, false, cond, ◌&&◌, is_some, Option, Some, None, inl, inr, refl, sym, ap, ◌∙◌, subst, append_assoc, append-nil, arith, length-append, T, not, get_or}
+use Rattle.std.proofs.Common.{◌≡◌, ◌⊎◌, ℕ, ◌+◌, ◌-◌, ◌==◌, ltb, leb, ℤ, ◌≤ℤ◌, int_lt, List, [], ◌∷◌, ◌++◌, length, slice_get, bytes_eq, Bool, true, false, cond, ◌&&◌, is_some, Option, Some, None, inl, inr, refl, sym, ap, ◌∙◌, subst, append_assoc, append-nil, arith, length-append, T, not, get_or}
 use Rattle.std.specs.Int.Signed.{≤ℤ_refl, lt_z_no}
 use Rattle.std.proofs.Math.Seq.{get_or-append_seam}
 use Rattle.std.proofs.lemmas.Bool.{eqb-true, ltb-false}
@@ -12,7 +12,7 @@ use Rattle.std.specs.Int.{int_max}
 use Rattle.lei_outside.specs.declared.entry.KeptEntry.{KeptEntry}
 use Rattle.lei_office.specs.declared.request.Call.{Call}
 use Rattle.lei_office.specs.declared.request.Request.TheVariants.{Upload}
-use Rattle.lei_office.specs.History.{History, accredited, ahead, fresh, is_upload_of, last, last_entry, later, place, place_of_taken, repeat_of, stamp, taken, unknown_office, upload_at, uploads}
+use Rattle.lei_office.specs.History.{History, accredited, ahead, fresh, is_upload_of, last, later, place, place_of_taken, repeat_of, stamp, taken, unknown_office, upload_at, uploads}
 use Rattle.lei_office.specs.Replies.{outcome}
 use Rattle.lei_office.specs.Legal.{IsNext, LegalAfter, Legal, MomentsNeverFall, UploadsAreNumbered, request_of}
 use Rattle.lei_office.proofs.Histories.{last_entry-push, request_adds, upload_adds}

@@ -4,7 +4,7 @@ use Rattle.serde_json.specs.Data.{Data, number, unsigned, string, array, object,
 use Rattle.serde_json.specs.Written.{compact_text}
 use Rattle.lei_office.specs.declared.verdict.Verdict.{Verdict}
 use Rattle.lei_office.specs.declared.verdict.Verdict.TheVariants.{Accepted, Rejected}
-use Rattle.lei_office.specs.Records.{check_text}
+use Rattle.lei_office.specs.Checks.{check_text}
 
 -- what is answered when the office is accredited by the entry of this number
 abbrev pub accreditation_answer : ℕ → List ℕ → Data

@@ -1,6 +1,6 @@
 -- What judging an upload's items says of every table.
 use Rattle.std.specs.Prelude.{◌≡◌, List, fold}
-use Rattle.upload_format.specs.declared.item.RawItem.{RawItem}
+use Rattle.lei_records.specs.declared.item.RawItem.{RawItem}
 use Rattle.lei_office.specs.declared.judge.Judged.{Judged}
 use Rattle.lei_office.specs.Register.{Table, put, take_items}
 

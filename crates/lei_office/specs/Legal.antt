@@ -7,7 +7,7 @@ use Rattle.lei_office.specs.declared.ledger.TheConstants.{ACCREDIT, UPLOAD}
 use Rattle.lei_office.specs.declared.request.Asked.{Asked}
 use Rattle.lei_office.specs.declared.request.Asked.TheVariants.{Ask, Refuse}
 use Rattle.lei_office.specs.declared.request.Request.{Request}
-use Rattle.lei_office.specs.declared.request.Request.TheVariants.{Accredit, Upload}
+use Rattle.lei_office.specs.declared.request.Request.TheVariants.{Accredit, Show, Upload}
 use Rattle.lei_office.specs.declared.reply.Refusal.TheVariants.{NoMemory}
 use Rattle.lei_office.specs.declared.reply.Reply.{Reply}
 use Rattle.lei_office.specs.declared.reply.Reply.TheVariants.{Words}
@@ -21,14 +21,17 @@ IsUploadNumber number = (1 ≤ number) × (number ≤ 1_000_000)
 abbrev pub IsNumbered : Request → Type 0
 IsNumbered (Accredit office) = Unit {0}
 IsNumbered (Upload call) = IsUploadNumber call.number
+IsNumbered (Show lei) = Unit {0}
 
-abbrev pub office_of : Request → List ℕ
-office_of (Accredit office) = office
-office_of (Upload call) = call.office
+-- whom the request names: the office that sends it, or the entity that it asks for
+abbrev pub code_of : Request → List ℕ
+code_of (Accredit office) = office
+code_of (Upload call) = call.office
+code_of (Show lei) = lei
 
--- a request as readers make it: its office is a code, and its number lies in its range
+-- a request as readers make it: whom it names is a code, and its number lies in its range
 abbrev pub IsRequest : Request → Type 0
-IsRequest request = IsValid (office_of request) × IsNumbered request
+IsRequest request = IsValid (code_of request) × IsNumbered request
 
 -- the request that an entry was taken for
 abbrev pub request_of : KeptEntry → Option Request

@@ -1,5 +1,5 @@
-pub mod Fields
-pub mod Records
+pub mod Checks
+pub mod Shown
 pub mod History
 pub mod Answers
 pub mod Register

@@ -1,38 +1,43 @@
--- The register: a table of records, and what an upload does to it.
-use Rattle.std.specs.Prelude.{ℕ, Bool, List, [], ◌∷◌, fold, ◌==◌, if◌then◌else◌, Result, Ok, Err}
+-- The register: a table of records by their rows, and what an upload does to it.
+use Rattle.std.specs.Prelude.{ℕ, Bool, List, [], ◌∷◌, fold, find, ◌==◌, if◌then◌else◌, Option, Result, Ok, Err}
 use Rattle.std.specs.Str.{bytes_eq}
 use Rattle.lei_outside.specs.declared.entry.KeptEntry.{KeptEntry}
 use Rattle.upload_format.specs.Bodies.{upload}
 use Rattle.upload_format.specs.declared.fault.Malformed.{Malformed}
-use Rattle.upload_format.specs.declared.item.RawItem.{RawItem}
+use Rattle.lei_records.specs.Items.{ready}
+use Rattle.lei_records.specs.Rows.{Row, text_at}
+use Rattle.lei_records.specs.declared.item.Item.{Item}
+use Rattle.lei_records.specs.declared.item.RawItem.{RawItem}
+use Rattle.lei_records.specs.declared.item.Readied.{Readied}
 use Rattle.lei_office.specs.declared.ledger.TheConstants.{UPLOAD}
-use Rattle.lei_office.specs.declared.record.Record.{Record}
-use Rattle.lei_office.specs.declared.record.Readied.{Readied}
-use Rattle.lei_office.specs.declared.record.Readied.TheVariants.{Good, Bad}
 use Rattle.lei_office.specs.declared.verdict.Verdict.{Verdict}
 use Rattle.lei_office.specs.declared.verdict.Verdict.TheVariants.{Accepted, Rejected}
 use Rattle.lei_office.specs.History.{History}
-use Rattle.lei_office.specs.Records.{ready}
 
 abbrev pub Table : Type 0
-Table = List Record
+Table = List Row
 
-abbrev pub is_of : List ℕ → Record → Bool
-is_of lei row = bytes_eq row.lei lei
+-- the row's code, at its first place, is this one
+abbrev pub is_of : List ℕ → Row → Bool
+is_of lei row = bytes_eq (text_at row 1) lei
 
--- the table with this record: in the place of the row with its code, or behind all rows
-abbrev pub put : Table → Record → Table
+-- the row of this code
+abbrev pub held : Table → List ℕ → Option Row
+held table lei = find (is_of lei) table
+
+-- the table with this row: in the place of the row of its code, or behind all rows
+abbrev pub put : Table → Row → Table
 put [] new = new ∷ []
-put (row ∷ rows) new = if is_of new.lei row then new ∷ rows else row ∷ put rows new
+put (row ∷ rows) new = if is_of (text_at new 1) row then new ∷ rows else row ∷ put rows new
 
 -- the table after an item
 abbrev pub put_if_good : Table → Readied → Table
-put_if_good table (Good new) = put table new
-put_if_good table (Bad check) = table
+put_if_good table (Readied.Good (Item.Record new)) = put table new
+put_if_good table (Readied.Bad check) = table
 
 abbrev pub verdict_of : Readied → Verdict
-verdict_of (Good new) = Accepted
-verdict_of (Bad check) = Rejected check
+verdict_of (Readied.Good item) = Accepted
+verdict_of (Readied.Bad check) = Rejected check
 
 -- What an upload's items do, from left to right: each is judged on the table that the accepted ones before it
 -- left. The table afterwards, and the verdicts in order.

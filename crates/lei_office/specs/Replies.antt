@@ -4,34 +4,36 @@ use Rattle.lei_outside.specs.declared.entry.KeptEntry.{KeptEntry}
 use Rattle.lei_outside.specs.declared.faults.NoMemory.{NoMemory as NoMemoryError}
 use Rattle.upload_format.specs.Bodies.{upload}
 use Rattle.upload_format.specs.declared.fault.Malformed.{Malformed}
-use Rattle.upload_format.specs.declared.item.RawItem.{RawItem}
+use Rattle.lei_records.specs.Rows.{Row}
+use Rattle.lei_records.specs.declared.item.RawItem.{RawItem}
 use Rattle.lei_office.specs.declared.ledger.TheConstants.{ACCREDIT, UPLOAD, RULES}
 use Rattle.lei_office.specs.declared.request.Call.{Call}
 use Rattle.lei_office.specs.declared.request.Request.{Request}
 use Rattle.lei_office.specs.declared.request.Request.TheVariants as requests
 use Rattle.lei_office.specs.declared.reply.Kind.TheVariants.{Json}
 use Rattle.lei_office.specs.declared.reply.Refusal.{Refusal}
-use Rattle.lei_office.specs.declared.reply.Refusal.TheVariants.{TooLong, NoRoute, Path, IssuerUnknown, NumberTaken, NumberAhead, NoMemory}
+use Rattle.lei_office.specs.declared.reply.Refusal.TheVariants.{TooLong, NoRoute, Path, IssuerUnknown, NumberTaken, NumberAhead, LeiUnknown, NoMemory}
 use Rattle.lei_office.specs.declared.reply.Refusal.TheVariants as refusals
 use Rattle.lei_office.specs.declared.reply.Reply.{Reply}
 use Rattle.lei_office.specs.declared.reply.Reply.TheVariants.{Text, Words}
 use Rattle.lei_office.specs.declared.verdict.Verdict.{Verdict}
 use Rattle.lei_office.specs.History.{History, accredited, Place, unknown_office, repeat_of, taken, ahead, fresh, place, stamp}
 use Rattle.lei_office.specs.Answers.{accreditation_text, upload_text}
-use Rattle.lei_office.specs.Register.{after, take_items}
+use Rattle.lei_office.specs.Register.{after, held, take_items}
+use Rattle.lei_office.specs.Shown.{record_text}
 
 -- A request leaves the history, and has this reply; or it adds this entry, and has the entry's reply.
 pub data Outcome : Type 0 where
   stays : Reply → Outcome
   adds : KeptEntry → Outcome
 
--- a text that was kept, as it is answered
-abbrev pub kept_reply : List ℕ → Reply
-kept_reply text = Text 200 Json text
+-- a text of JSON, as it is answered
+abbrev pub json_reply : List ℕ → Reply
+json_reply text = Text 200 Json text
 
 -- the reply that an entry's answer makes
 abbrev pub told : KeptEntry → Reply
-told e = kept_reply e.answer
+told e = json_reply e.answer
 
 -- ---- what a request adds, at the moment of the new entry
 
@@ -63,7 +65,7 @@ taken_upload history call moment items = upload_entry history call moment (take_
 -- an office that is accredited gets the answer from then
 abbrev pub accredit_outcome : History → List ℕ → ℤ → Option (List ℕ) → Outcome
 accredit_outcome history office moment None = adds (accreditation history office moment)
-accredit_outcome history office moment (Some text) = stays (kept_reply text)
+accredit_outcome history office moment (Some text) = stays (json_reply text)
 
 -- a body that is no upload takes no number
 abbrev pub body_outcome : History → Call → ℤ → Result (List RawItem) Malformed → Outcome
@@ -73,7 +75,7 @@ body_outcome history call moment (Err fault) = stays (Words (refusals.Malformed 
 -- a repeat gets the answer that was kept, at any later place
 abbrev pub place_outcome : History → Call → ℤ → Place → Outcome
 place_outcome history call moment unknown_office = stays (Words IssuerUnknown)
-place_outcome history call moment (repeat_of answer) = stays (kept_reply answer)
+place_outcome history call moment (repeat_of answer) = stays (json_reply answer)
 place_outcome history call moment taken = stays (Words NumberTaken)
 place_outcome history call moment (ahead next) = stays (Words (NumberAhead next))
 place_outcome history call moment fresh = body_outcome history call moment (upload call.body)
@@ -82,10 +84,16 @@ place_outcome history call moment fresh = body_outcome history call moment (uplo
 unfoldable pub upload_outcome : History → Call → ℤ → Outcome
 upload_outcome history call moment = if nat_lt 4_194_304 (length call.body) then stays (Words TooLong) else place_outcome history call moment (place history call.office call.number call.body)
 
+-- a record is shown as it is held
+abbrev pub show_outcome : Option Row → Outcome
+show_outcome None = stays (Words LeiUnknown)
+show_outcome (Some row) = stays (json_reply (record_text row))
+
 -- where an entry that is added has this moment
 abbrev pub outcome_at : History → Request → ℤ → Outcome
 outcome_at history (requests.Accredit office) moment = accredit_outcome history office moment (accredited history office)
 outcome_at history (requests.Upload call) moment = upload_outcome history call moment
+outcome_at history (requests.Show lei) moment = show_outcome (held (after history) lei)
 
 -- where the request comes at this moment of the clock
 abbrev pub outcome : History → Request → ℤ → Outcome
@@ -118,6 +126,7 @@ needs_memory IssuerUnknown = false
 needs_memory NumberTaken = false
 needs_memory (NumberAhead k) = false
 needs_memory (refusals.Malformed fault) = true
+needs_memory LeiUnknown = false
 needs_memory NoMemory = true
 
 abbrev pub takes_memory : Reply → Bool

@@ -3,7 +3,7 @@ use Rattle.std.specs.Prelude.{ℕ, List, [], ◌∷◌, ◌++◌, codes, decimal
 use Rattle.upload_format.specs.declared.fault.Malformed.{Malformed}
 use Rattle.upload_format.specs.declared.fault.Malformed.TheVariants.{NotJson, NotAnUpload, NoItems, TooManyItems}
 use Rattle.lei_office.specs.declared.reply.Refusal.{Refusal}
-use Rattle.lei_office.specs.declared.reply.Refusal.TheVariants.{TooLong, NoRoute, Path, IssuerUnknown, NumberTaken, NumberAhead, NoMemory}
+use Rattle.lei_office.specs.declared.reply.Refusal.TheVariants.{TooLong, NoRoute, Path, IssuerUnknown, NumberTaken, NumberAhead, LeiUnknown, NoMemory}
 use Rattle.lei_office.specs.declared.reply.Refusal.TheVariants as refusals
 use Rattle.lei_office.specs.declared.reply.Reply.{Reply}
 use Rattle.lei_office.specs.declared.reply.Reply.TheVariants.{Text, Words}
@@ -16,6 +16,7 @@ refusal_code IssuerUnknown = 404
 refusal_code NumberTaken = 409
 refusal_code (NumberAhead k) = 409
 refusal_code (refusals.Malformed fault) = 400
+refusal_code LeiUnknown = 404
 refusal_code NoMemory = 500
 
 abbrev pub malformed_name : Malformed → List ℕ
@@ -32,6 +33,7 @@ refusal_name IssuerUnknown = codes "ISSUER_UNKNOWN"
 refusal_name NumberTaken = codes "NUMBER_TAKEN"
 refusal_name (NumberAhead k) = codes "NUMBER_AHEAD"
 refusal_name (refusals.Malformed fault) = malformed_name fault
+refusal_name LeiUnknown = codes "LEI_UNKNOWN"
 refusal_name NoMemory = codes "NO_MEMORY"
 
 -- the number that some names are told with
@@ -43,6 +45,7 @@ refusal_number IssuerUnknown = None
 refusal_number NumberTaken = None
 refusal_number (NumberAhead k) = Some k
 refusal_number (refusals.Malformed fault) = None
+refusal_number LeiUnknown = None
 refusal_number NoMemory = None
 
 -- a space and the number

@@ -2,11 +2,10 @@
 ghost use Rattle.std.specs.Prelude.{IfOk};
 ghost use Rattle.lei_office.specs.Judging.{Judges};
 
-use crate::record::{Readied, Record, ready};
 use crate::verdict::Verdict;
 use lei_outside::NoMemory;
+use lei_records::{Item, RawItem, Readied, Record, ready};
 use std::alloc::Global;
-use upload_format::RawItem;
 
 // The verdict on each item, and the records that were accepted, both in order.
 #[derive(Drop)]
@@ -23,7 +22,7 @@ pub fn judge(alloc: Global, items: &[RawItem]) -> Result<Judged, NoMemory>
     let mut writes = Vec::new(alloc);
     for item in items {
         match ready(alloc, item)? {
-            Readied::Good(record) => {
+            Readied::Good(Item::Record(record)) => {
                 writes.push(record)?;
                 verdicts.push(Verdict::Accepted)?;
             }

@@ -2,24 +2,20 @@
 #![tactic(auto)]
 
 mod check;
-mod fields;
 mod judge;
 mod laws;
 mod ledger;
 mod office;
-mod record;
 mod reply;
 mod request;
+mod show;
 mod table;
 mod texts;
 mod verdict;
 
-pub use check::{Check, Detail};
-pub use fields::{FIELDS, Field, Shape};
 pub use laws::{moments_never_fall, sessions_are_exact, uploads_are_numbered};
 pub use ledger::{ACCREDIT, RULES, UPLOAD};
 pub use office::Office;
-pub use record::{Readied, Record, least_unknown_name, ready};
 pub use reply::{Kind, Refusal, Reply};
 pub use request::{Asked, Call, MAX_BODY, MAX_NUMBER, Request, is_upload_number};
 pub use verdict::Verdict;

@@ -2,21 +2,22 @@
 ghost use Rattle.std.specs.Prelude.{◌≡◌, ◌+◌, [], length, IfOk};
 ghost use Rattle.lei_code.specs.Code.{IsValid};
 ghost use Rattle.upload_format.specs.Bodies.{upload as items_of};
-ghost use Rattle.lei_office.specs.History.{accredited};
-ghost use Rattle.lei_office.specs.Replies.{Comes, Step, kept_reply, accreditation, accredit_outcome, upload_entry, body_outcome, upload_outcome};
-ghost use Rattle.lei_office.specs.Legal.{IsNumbered, Legal};
-ghost use Rattle.lei_office.specs.Register.{after};
+ghost use Rattle.lei_office.specs.History.{History, accredited};
+ghost use Rattle.lei_office.specs.Replies.{Comes, Step, json_reply, outcome_at, show_outcome, accreditation, accredit_outcome, upload_entry, body_outcome, upload_outcome};
+ghost use Rattle.lei_office.specs.Legal.{IsNumbered, IsRequest, Legal};
+ghost use Rattle.lei_office.specs.Register.{after, held};
 
 use crate::judge::judge;
 use crate::ledger::{ACCREDIT, Place, RULES, UPLOAD, accredited, place_of, stamp};
-use crate::record::Record;
 use crate::reply::{Kind, Refusal, Reply};
 use crate::request::{Call, MAX_BODY, Request};
-use crate::table::put_all;
+use crate::show::record_text;
+use crate::table::{held, put_all};
 use crate::texts::{accreditation_text, upload_text};
 use crate::verdict::Verdict;
 use lei_code::Lei;
 use lei_outside::{Bytes, KeptEntry, NoMemory};
+use lei_records::Record;
 use lei_shapes::Moment;
 use std::alloc::Global;
 use std::marker::Model;
@@ -35,7 +36,7 @@ impl Model for Office {
     ghost use Rattle.std.specs.Prelude.{◌≡◌};
     ghost use Rattle.lei_office.specs.History.{History};
     ghost use Rattle.lei_office.specs.Legal.{Legal};
-    ghost use Rattle.lei_office.specs.Register.{after};
+    ghost use Rattle.lei_office.specs.Register.{after, held};
 
     ghost Value = { History };
 
@@ -64,31 +65,63 @@ impl Office {
         ensures legal { Legal self.new }
     {
         let moment = stamp(self.entries.as_slice(), moment);
-        let answered = match request {
-            Request::Accredit(office) => accredit(self.alloc, &mut self.entries, office, moment),
-            Request::Upload(call) => {
-                upload(self.alloc, &mut self.entries, &mut self.rows, call, moment)
-            }
-        };
-        match answered {
+        let entries = &mut self.entries;
+        match reply_to(self.alloc, entries, &mut self.rows, request, moment) {
             Ok(reply) => reply,
             Err(NoMemory) => Reply::Words(Refusal::NoMemory),
         }
     }
 }
 
-// A text that was kept, as it is answered.
-fn kept_reply(alloc: Global, text: &[u8]) -> Result<Reply, NoMemory>
-    ensures { IfOk result (λ reply. reply ≡ kept_reply text.now) }
+// The calls below get the moment of the entry that they may add.
+
+fn reply_to(
+    alloc: Global,
+    entries: &mut Vec<KeptEntry>,
+    rows: &mut Vec<Record>,
+    request: &Request,
+    moment: i64,
+) -> Result<Reply, NoMemory>
+    requires numbered { IsNumbered request.now }
+    requires table { rows.old.items ≡ after entries.old.items }
+    ensures step { Comes (outcome_at entries.old.items request.now moment) entries.old.items result entries.new.items }
+    ensures table { rows.new.items ≡ after entries.new.items }
+    ensures request { IsRequest request.now }
 {
-    Ok(Reply::Text {
-        code: 200,
-        kind: Kind::Json,
-        text: Bytes::copy_of(alloc, text)?,
-    })
+    match request {
+        Request::Accredit(office) => accredit(alloc, entries, office, moment),
+        Request::Upload(call) => upload(alloc, entries, rows, call, moment),
+        Request::Show(lei) => show(alloc, rows, lei),
+    }
 }
 
-// The calls below get the moment of the entry that they may add.
+// A text that is kept, as it is answered.
+fn kept_reply(alloc: Global, text: &[u8]) -> Result<Reply, NoMemory>
+    ensures { IfOk result (λ reply. reply ≡ json_reply text.now) }
+{
+    Ok(json_reply(Bytes::copy_of(alloc, text)?))
+}
+
+fn json_reply(text: Bytes) -> Reply
+    ensures { result ≡ json_reply text }
+{
+    Reply::Text {
+        code: 200,
+        kind: Kind::Json,
+        text,
+    }
+}
+
+// Shows the record of this code, and changes nothing.
+fn show(alloc: Global, rows: &[Record], lei: &Lei) -> Result<Reply, NoMemory>
+    ensures step { (history : History) → Comes (show_outcome (held rows.now lei.now)) history result history }
+    ensures code { IsValid lei.now }
+{
+    match held(rows, lei.as_bytes()) {
+        Some(record) => Ok(json_reply(record_text(alloc, record)?)),
+        None => Ok(Reply::Words(Refusal::LeiUnknown)),
+    }
+}
 
 fn accredit(
     alloc: Global,

@@ -26,6 +26,8 @@ pub enum Refusal {
     /// The number that the office's next upload has.
     NumberAhead(u32),
     Malformed(Malformed),
+    /// No record of this code is held.
+    LeiUnknown,
     NoMemory,
 }
 
@@ -38,7 +40,7 @@ impl Refusal {
     {
         match self {
             Refusal::Path | Refusal::Malformed(_) => 400,
-            Refusal::NoRoute | Refusal::IssuerUnknown => 404,
+            Refusal::NoRoute | Refusal::IssuerUnknown | Refusal::LeiUnknown => 404,
             Refusal::NumberTaken | Refusal::NumberAhead(_) => 409,
             Refusal::TooLong => 413,
             Refusal::NoMemory => 500,
@@ -60,6 +62,7 @@ impl Refusal {
             Refusal::Malformed(Malformed::NotAnUpload) => "MALFORMED NOT_AN_UPLOAD",
             Refusal::Malformed(Malformed::NoItems) => "MALFORMED NO_ITEMS",
             Refusal::Malformed(Malformed::TooManyItems) => "MALFORMED TOO_MANY_ITEMS",
+            Refusal::LeiUnknown => "LEI_UNKNOWN",
             Refusal::NoMemory => "NO_MEMORY",
         }
     }

@@ -34,6 +34,8 @@ pub enum Request {
     Accredit(Lei),
     /// To take an upload.
     Upload(Call),
+    /// To show the record of this code.
+    Show(Lei),
 }
 
 /// What a reader makes of a request's bytes: what is asked, or the refusal that is its reply.

@@ -1,7 +1,8 @@
 ghost use Rattle.std.specs.Prelude.{◌≡◌, IfOk, string_bytes};
 
-use crate::check::Check;
+use crate::check::check_text;
 use lei_outside::NoMemory;
+use lei_records::Check;
 use std::alloc::Global;
 
 /// What became of an item of an upload.
@@ -20,7 +21,7 @@ impl Verdict {
     {
         match self {
             Verdict::Accepted => Ok(String::from_str(alloc, "ACCEPTED")?),
-            Verdict::Rejected(check) => check.text(alloc),
+            Verdict::Rejected(check) => check_text(alloc, check),
         }
     }
 }

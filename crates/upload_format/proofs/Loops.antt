@@ -11,8 +11,8 @@ use Rattle.std.specs.Map.{keys_of}
 use Rattle.serde_json.specs.Find.{as_str}
 use Rattle.serde_json.specs.View.{view, items_view, members_view}
 use Rattle.serde_json.specs.declared.value.Value.{Value}
-use Rattle.upload_format.specs.declared.item.RawItem.{RawItem}
-use Rattle.upload_format.specs.Names.{AreRising, names}
+use Rattle.lei_records.specs.declared.item.RawItem.{RawItem}
+use Rattle.lei_records.specs.Names.{AreRising, names}
 use Rattle.upload_format.specs.Bodies.{fields_of, record_of, records_of, member_names, found}
 
 -- what was found, and then what the rest gives

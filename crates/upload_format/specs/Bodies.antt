@@ -9,8 +9,8 @@ use Rattle.upload_format.specs.declared.fault.Malformed.{Malformed}
 use Rattle.upload_format.specs.declared.fault.Malformed.TheVariants.{NotJson, NotAnUpload, NoItems, TooManyItems}
 use Rattle.upload_format.specs.declared.fault.UploadFault.{UploadFault}
 use Rattle.upload_format.specs.declared.fault.UploadFault.TheVariants as faults
-use Rattle.upload_format.specs.declared.item.RawItem.{RawItem}
-use Rattle.upload_format.specs.declared.item.RawItem.TheVariants.{Record}
+use Rattle.lei_records.specs.declared.item.RawItem.{RawItem}
+use Rattle.lei_records.specs.declared.item.RawItem.TheVariants.{Record}
 
 -- The value of the bytes: they are UTF-8, and JSON. A name that an object repeats has its last value.
 unfoldable pub value_of : List ℕ → Option Data

@@ -2,11 +2,9 @@
 #![tactic(auto)]
 
 mod fault;
-mod item;
 mod reading;
 #[cfg(test)]
 mod tests;
 
 pub use fault::{Malformed, UploadFault};
-pub use item::{Fields, MAX_ITEMS, RawItem, Upload};
-pub use reading::read_upload;
+pub use reading::{MAX_ITEMS, read_upload};

@@ -3,16 +3,19 @@ ghost use Rattle.std.specs.List.{list_all};
 ghost use Rattle.serde_json.specs.Find.{as_str, get_member};
 ghost use Rattle.serde_json.specs.View.{view, members_view, items_view};
 ghost use Rattle.upload_format.specs.Bodies.{Gives, found, fields_of, record_of, records_of, items_of, is_list_name, member_names, parsed, value_of, upload};
-ghost use Rattle.upload_format.specs.Names.{AreRising};
 
 use crate::fault::{Malformed, UploadFault};
-use crate::item::{Fields, MAX_ITEMS, RawItem, Upload};
 use lei_outside::{List, Text};
+use lei_records::{Fields, RawItem, Upload};
 use serde_json::{Map, Value};
 use std::alloc::Global;
 
+/// The greatest number of items in an upload. This project's profile.
+pub const MAX_ITEMS: usize = 5000;
+
 /// Reads the body of an upload, an RFC 8259 text with a list `records` of objects of texts. A repeated name in an
-/// object has its last value. Names, texts and the list move out of the JSON value and aren't copied.
+/// object has its last value. There are from 1 to [`MAX_ITEMS`] items, in the order in which they were sent. Names,
+/// texts and the list move out of the JSON value and aren't copied.
 #[tactic(auto, unfolding(crate::specs::Bodies::upload))]
 pub fn read_upload(alloc: Global, body: &[u8]) -> Result<Upload, UploadFault>
     ensures { Gives (λ read. read.items) result (upload body.now) }

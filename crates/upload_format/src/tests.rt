@@ -1,5 +1,6 @@
 // What bodies are read as. The answers come from RFC 8259 and from the profile of uploads.
-use crate::{MAX_ITEMS, Malformed, RawItem, UploadFault, read_upload};
+use crate::{MAX_ITEMS, Malformed, UploadFault, read_upload};
+use lei_records::RawItem;
 use std::alloc::{AllocError, Global};
 use std::test::Fail;
 

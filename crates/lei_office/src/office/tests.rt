@@ -14,16 +14,47 @@ const FIRST: &str = "506700GE1G29325QX363";
 
 const SECOND: &str = "HWUPKR0MPOU8FGXBT394";
 
-const ALPHA: &str = r#"{"records":[{"Entity.LegalName":"Alpha","LEI":"00000000000000000195"}]}"#;
+// Each front with a record of this code behind it, which fails no check, with this number at its authority, in its
+// compact form with its names in byte order; and then the back.
+macro_rules! with_records {
+    ($($front:literal, $lei:literal, $id:literal);* => $back:literal) => {
+        concat!(
+            $(
+                $front,
+                r#"{"Entity.EntityCategory":"GENERAL","Entity.EntityStatus":"ACTIVE","#,
+                r#""Entity.HeadquartersAddress.City":"Paris","#,
+                r#""Entity.HeadquartersAddress.Country":"FR","#,
+                r#""Entity.HeadquartersAddress.FirstAddressLine":"1 Main Street","#,
+                r#""Entity.LegalAddress.City":"Paris","Entity.LegalAddress.Country":"FR","#,
+                r#""Entity.LegalAddress.FirstAddressLine":"1 Main Street","#,
+                r#""Entity.LegalForm.EntityLegalFormCode":"AB12","Entity.LegalJurisdiction":"FR","#,
+                r#""Entity.LegalName":"Alpha","#,
+                r#""Entity.RegistrationAuthority.RegistrationAuthorityEntityID":""#,
+                $id,
+                r#"","Entity.RegistrationAuthority.RegistrationAuthorityID":"RA000001","LEI":""#,
+                $lei,
+                r#"","Registration.InitialRegistrationDate":"2025-01-10T09:00:00Z","#,
+                r#""Registration.LastUpdateDate":"2025-01-10T09:00:00Z","#,
+                r#""Registration.ManagingLOU":"506700GE1G29325QX363","#,
+                r#""Registration.NextRenewalDate":"2026-01-10T09:00:00Z","#,
+                r#""Registration.RegistrationStatus":"ISSUED","#,
+                r#""Registration.ValidationSources":"FULLY_CORROBORATED"}"#,
+            )*
+            $back
+        )
+    };
+}
 
-const WRONG_DIGITS: &str =
-    r#"{"records":[{"Entity.LegalName":"Alpha","LEI":"00000000000000000196"}]}"#;
+const ALPHA: &str = with_records!(r#"{"records":["#, "00000000000000000195", "1001" => "]}");
+
+const WRONG_DIGITS: &str = with_records!(r#"{"records":["#, "00000000000000000196", "1001" => "]}");
 
 // A request, and the reply in words.
 #[derive(Clone, Copy)]
 enum Case {
     Accredit(&'static str, &'static str),
     Upload(&'static str, u32, &'static str, &'static str),
+    Show(&'static str, &'static str),
 }
 
 // The reply's code, a space, and its text or the refusal in words.
@@ -70,6 +101,17 @@ fn upload<R: Threads + Sync>(
     told(alloc, &office.answer(rt, &request, moment))
 }
 
+fn show<R: Threads + Sync>(
+    rt: &R,
+    alloc: Global,
+    office: &mut Office,
+    lei: &str,
+) -> Result<String, Fail> {
+    let request = Request::Show(Lei::read(lei.as_bytes())?);
+    let moment = Moment::of(0).ok_or("a moment")?;
+    told(alloc, &office.answer(rt, &request, moment))
+}
+
 // The text as often as asked for, between two others.
 fn repeated(
     alloc: Global,
@@ -98,6 +140,10 @@ fn answers<R: Abort + Threads + Sync>(rt: &R, alloc: Global, cases: &[Case]) -> 
             Case::Upload(lei, number, body, want) => {
                 let reply = upload(rt, alloc, &mut office, lei, *number, body.as_bytes())?;
                 assert_eq!(rt; reply.as_str(), *want, "{lei} {number} {body}");
+            }
+            Case::Show(lei, want) => {
+                let reply = show(rt, alloc, &mut office, lei)?;
+                assert_eq!(rt; reply.as_str(), *want, "{lei}");
             }
         }
     }
@@ -128,7 +174,7 @@ fn one_office_and_its_numbers(rt: HostRuntime) -> Result<(), Fail> {
             Case::Upload(
                 FIRST,
                 1,
-                r#"{"records":[{"Entity.LegalName":"Alpha","LEI":"00000000000000000195"}]} "#,
+                with_records!(r#"{"records":["#, "00000000000000000195", "1001" => "]} "),
                 "409 NUMBER_TAKEN",
             ),
             // Later repeats get what was kept, and make no entry: the next one has the number 4.
@@ -216,18 +262,20 @@ fn verdicts_stand_in_the_order_of_the_items(rt: HostRuntime) -> Result<(), Fail>
             Case::Upload(
                 FIRST,
                 1,
-                concat!(
-                    r#"{"records":[{"LEI":"00000000000000000195","Entity.LegalName":"Alpha"},"#,
-                    r#"{"LEI":"00000000000000000196","Entity.LegalName":"Alpha"},"#,
-                    r#"{"LEI":"1","Entity.LegalName":"Alpha"},{"LEI":"1"},"#,
-                    r#"{"LEI":"1","a\"\\\nb\u00e9/":""},"#,
-                    r#"{"LEI":"00000000000000000195","Entity.LegalName":"Beta"},"#,
-                    r#"{"LEI":"00000000000000000292","Entity.LegalName":"Alpha"}]}"#
+                with_records!(
+                    r#"{"records":["#, "00000000000000000195", "1001";
+                    ",", "00000000000000000196", "1001";
+                    ",", "1", "1001";
+                    r#",{"LEI":"1"},{"LEI":"1","a\"\\\nb\u00e9/":""},{"Entity.LegalName":"Alpha","LEI":"00000000000000000195"},"#,
+                    "00000000000000000195", "1002";
+                    ",", "00000000000000000292", "1003" => "]}"
                 ),
                 concat!(
                     r#"200 {"entry":2,"issuer":"506700GE1G29325QX363","items":["ACCEPTED","#,
                     r#""C04 CHECK_DIGITS LEI","C03 FIELD_SHAPE LEI","C02 FIELD_MISSING Entity.LegalName","#,
-                    r#""C01 FIELD_UNKNOWN a\"\\\nbé/","ACCEPTED","ACCEPTED"],"number":1}"#
+                    r#""C01 FIELD_UNKNOWN a\"\\\nbé/","#,
+                    r#""C02 FIELD_MISSING Entity.LegalAddress.FirstAddressLine","ACCEPTED","ACCEPTED"],"#,
+                    r#""number":1}"#
                 ),
             ),
         ],
@@ -307,4 +355,50 @@ fn a_moment_that_goes_back_is_the_last_one_again(rt: HostRuntime) -> Result<(), 
         assert_eq!(rt; moment, Some(*want), "entry {at}");
     }
     Ok(())
+}
+
+#[test]
+fn a_record_is_shown_as_it_is_held(rt: HostRuntime) -> Result<(), Fail> {
+    answers(
+        &rt,
+        rt.alloc(),
+        &[
+            Case::Accredit(FIRST, r#"200 {"entry":1,"issuer":"506700GE1G29325QX363"}"#),
+            Case::Show("00000000000000000195", "404 LEI_UNKNOWN"),
+            Case::Upload(
+                FIRST,
+                1,
+                ALPHA,
+                r#"200 {"entry":2,"issuer":"506700GE1G29325QX363","items":["ACCEPTED"],"number":1}"#,
+            ),
+            Case::Show(
+                "00000000000000000195",
+                with_records!("200 ", "00000000000000000195", "1001" => ""),
+            ),
+            Case::Show(FIRST, "404 LEI_UNKNOWN"),
+            Case::Upload(
+                FIRST,
+                2,
+                WRONG_DIGITS,
+                r#"200 {"entry":3,"issuer":"506700GE1G29325QX363","items":["C04 CHECK_DIGITS LEI"],"number":2}"#,
+            ),
+            Case::Upload(
+                FIRST,
+                3,
+                with_records!(
+                    r#"{"records":["#, "00000000000000000292", "1002";
+                    ",", "00000000000000000195", "1003" => "]}"
+                ),
+                r#"200 {"entry":4,"issuer":"506700GE1G29325QX363","items":["ACCEPTED","ACCEPTED"],"number":3}"#,
+            ),
+            Case::Show(
+                "00000000000000000195",
+                with_records!("200 ", "00000000000000000195", "1003" => ""),
+            ),
+            Case::Show(
+                "00000000000000000292",
+                with_records!("200 ", "00000000000000000292", "1002" => ""),
+            ),
+        ],
+    )
 }

@@ -1,0 +1,7 @@
+use Rattle.std.proofs.Common.{sym, ◌∙◌}
+use Rattle.lei_office.proofs.Histories.{after-accredit}
+use Rattle.lei_office.proofs.office.reply_to.Goals as goal
+
+pub returns-in-Accredit-clause-table : goal.returns-in-Accredit-clause-table
+returns-in-Accredit-clause-table c =
+    c.requires.table ∙ sym (after-accredit c.args.entries.now.items c.in-Accredit.office _ c.accredit.result c.accredit.new.entries.items c.accredit.ensures.step)
