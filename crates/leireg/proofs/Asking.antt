@@ -3,7 +3,7 @@ use Rattle.std.proofs.Common.{◌≡◌, ℕ, ℤ, List, [], ◌∷◌, ◌++◌
 use Rattle.std.proofs.lemmas.List.{append-nil}
 use Rattle.std.specs.Option.{option_and_then, option_map}
 use Rattle.lei_office.specs.declared.request.Request.{Request}
-use Rattle.lei_office.specs.declared.request.Request.TheVariants.{Accredit}
+use Rattle.lei_office.specs.declared.request.Request.TheVariants.{Accredit, Show}
 use Rattle.lei_office.specs.declared.request.Asked.{Asked}
 use Rattle.lei_office.specs.declared.request.Asked.TheVariants.{Ask, Refuse}
 use Rattle.lei_office.specs.declared.reply.Refusal.TheVariants.{TooLong, NoRoute, NoMemory}
@@ -12,7 +12,7 @@ use Rattle.lei_office.specs.declared.reply.Reply.TheVariants.{Words}
 use Rattle.lei_office.specs.History.{History}
 use Rattle.lei_office.specs.Legal.{AskStep, Session, IsNumbered}
 use Rattle.leireg.proofs.Numbers.{number_of-range}
-use Rattle.leireg.specs.Requests.{asked, asked_in, asked_by, or_path, cut, code_of, upload_of, accreditation_of, number_of, IsUpload}
+use Rattle.leireg.specs.Requests.{asked, asked_in, asked_by, or_path, cut, code_of, upload_of, accreditation_of, show_of, number_of, IsUpload}
 use Rattle.leireg.specs.Replies.{reply_text}
 use Rattle.leireg.specs.Outbox.{Puts}
 use Rattle.leireg.specs.Runs.{Answers, AnswersLine, AnswersAndPuts}
@@ -44,14 +44,27 @@ accreditation_range : (code : Option (List ℕ)) → AsksInRange (or_path (optio
 accreditation_range None = tt
 accreditation_range (Some office) = tt
 
+show_range : (code : Option (List ℕ)) → AsksInRange (or_path (option_map Show code))
+show_range None = tt
+show_range (Some code) = tt
+
+-- where the word is none of the first ones
+other_range : (word : List ℕ) (rest : Option (List ℕ)) → AsksInRange (cond (bytes_eq word (codes "SHOW")) (or_path (option_and_then show_of rest)) (Refuse NoRoute))
+other_range word rest =
+    elim (bytes_eq word (codes "SHOW")) as (λ b. AsksInRange (cond b (or_path (option_and_then show_of rest)) (Refuse NoRoute))) [
+      | true ↦ bind_range rest show_of (λ r _. show_range (code_of r))
+      | false ↦ tt
+    ]
+
 by_range : (word : List ℕ) (rest : Option (List ℕ)) → AsksInRange (asked_by word rest)
 unfolding asked_by
 by_range word rest =
-    elim (bytes_eq word (codes "ACCREDIT")) as (λ b. AsksInRange (cond b (or_path (option_and_then accreditation_of rest)) (cond (bytes_eq word (codes "UPLOAD")) (or_path (option_and_then upload_of rest)) (Refuse NoRoute)))) [
+    let other = cond (bytes_eq word (codes "SHOW")) (or_path (option_and_then show_of rest)) (Refuse NoRoute) in
+    elim (bytes_eq word (codes "ACCREDIT")) as (λ b. AsksInRange (cond b (or_path (option_and_then accreditation_of rest)) (cond (bytes_eq word (codes "UPLOAD")) (or_path (option_and_then upload_of rest)) other))) [
       | true ↦ bind_range rest accreditation_of (λ r _. accreditation_range (code_of r))
-      | false ↦ elim (bytes_eq word (codes "UPLOAD")) as (λ b. AsksInRange (cond b (or_path (option_and_then upload_of rest)) (Refuse NoRoute))) [
+      | false ↦ elim (bytes_eq word (codes "UPLOAD")) as (λ b. AsksInRange (cond b (or_path (option_and_then upload_of rest)) other)) [
         | true ↦ bind_range rest upload_of (λ r _. upload_range r)
-        | false ↦ tt
+        | false ↦ other_range word rest
       ]
     ]
 

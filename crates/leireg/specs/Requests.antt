@@ -4,7 +4,7 @@ use Rattle.std.specs.Str.{bytes_eq}
 use Rattle.std.specs.Str.Parse.{digits_value}
 use Rattle.lei_code.specs.Fault.{fault_of}
 use Rattle.lei_office.specs.declared.request.Request.{Request}
-use Rattle.lei_office.specs.declared.request.Request.TheVariants.{Accredit, Upload}
+use Rattle.lei_office.specs.declared.request.Request.TheVariants.{Accredit, Upload, Show}
 use Rattle.lei_office.specs.declared.request.Asked.{Asked}
 use Rattle.lei_office.specs.declared.request.Asked.TheVariants.{Ask, Refuse}
 use Rattle.lei_office.specs.declared.reply.Refusal.TheVariants.{TooLong, NoRoute, Path}
@@ -33,6 +33,10 @@ number_of bytes = plain_number bytes (digits_value 10 bytes)
 abbrev pub accreditation_of : List ℕ → Option Request
 accreditation_of rest = option_map Accredit (code_of rest)
 
+-- SHOW: the rest is a code
+abbrev pub show_of : List ℕ → Option Request
+show_of rest = option_map Show (code_of rest)
+
 -- UPLOAD: a code, a number, and all that follows the space behind it as the body
 unfoldable pub upload_of : List ℕ → Option Request
 upload_of rest = do
@@ -49,7 +53,8 @@ or_path (Some request) = Ask request
 -- what is asked by a first word, and the rest of the line behind its space if there is one
 unfoldable pub asked_by : List ℕ → Option (List ℕ) → Asked
 asked_by word rest = if bytes_eq word (codes "ACCREDIT") then or_path (rest >>= accreditation_of)
-    else (if bytes_eq word (codes "UPLOAD") then or_path (rest >>= upload_of) else Refuse NoRoute)
+    else (if bytes_eq word (codes "UPLOAD") then or_path (rest >>= upload_of)
+    else (if bytes_eq word (codes "SHOW") then or_path (rest >>= show_of) else Refuse NoRoute))
 
 abbrev pub asked_in : List ℕ → Option (List ℕ × List ℕ) → Asked
 asked_in line None = asked_by line None
@@ -65,3 +70,4 @@ abbrev pub IsUpload : Asked → Type 0
 IsUpload (Refuse refusal) = ⊥
 IsUpload (Ask (Accredit office)) = ⊥
 IsUpload (Ask (Upload call)) = Unit {0}
+IsUpload (Ask (Show lei)) = ⊥

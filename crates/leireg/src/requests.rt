@@ -1,7 +1,7 @@
 //! What a line asks.
 ghost use Rattle.std.specs.Prelude.{◌≡◌, None, Some, option_map, option_and_then, position, decimal, length, ◌==◌, ◌<◌, ◌↔◌, IfOk, IfSome, OnErr, IsTrue};
 ghost use Rattle.std.specs.Option.{option_copied};
-ghost use Rattle.leireg.specs.Requests.{cut, code_of, number_of, accreditation_of, upload_of, asked_by, asked, or_path, IsUpload};
+ghost use Rattle.leireg.specs.Requests.{cut, code_of, number_of, accreditation_of, show_of, upload_of, asked_by, asked, or_path, IsUpload};
 
 use lei_code::Lei;
 use lei_office::{Asked, Call, MAX_NUMBER, Refusal, Request};
@@ -93,6 +93,15 @@ fn accreditation_of(rest: &[u8]) -> Option<Request>
     }
 }
 
+fn show_of(rest: &[u8]) -> Option<Request>
+    ensures { result ≡ show_of rest.now }
+{
+    match code_of(rest) {
+        Some(code) => Some(Request::Show(code)),
+        None => None,
+    }
+}
+
 // What is asked where there is such a request, and the refusal where there is none.
 fn or_path(request: Option<Request>) -> Asked
     ensures { result ≡ or_path request }
@@ -130,6 +139,9 @@ fn asked_by(alloc: Global, word: &[u8], rest: Option<&[u8]>) -> Result<Asked, No
     if word == b"UPLOAD".as_slice() {
         return upload_asked(alloc, rest);
     }
+    if word == b"SHOW".as_slice() {
+        return Ok(show_asked(rest));
+    }
     Ok(Asked::Refuse(Refusal::NoRoute))
 }
 
@@ -138,6 +150,15 @@ fn accreditation_asked(rest: Option<&[u8]>) -> Asked
 {
     match rest {
         Some(rest) => or_path(accreditation_of(rest)),
+        None => Asked::Refuse(Refusal::Path),
+    }
+}
+
+fn show_asked(rest: Option<&[u8]>) -> Asked
+    ensures { result ≡ or_path (option_and_then show_of (option_copied rest.entry)) }
+{
+    match rest {
+        Some(rest) => or_path(show_of(rest)),
         None => Asked::Refuse(Refusal::Path),
     }
 }
