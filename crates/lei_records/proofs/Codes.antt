@@ -1,19 +1,15 @@
 -- A text of a code's shape is a code where its check digits are right.
-use Rattle.std.proofs.Common.{◌≡◌, ℕ, ◌+◌, ◌-◌, ◌*◌, ◌%◌, ◌<◌, ◌≤◌, inl, inr, Bool, true, false, not, ◌&&◌, ◌||◌, cond, List, take, drop, length, get_or, nat_eq, refl, sym, ap, subst, ◌∙◌, arith}
-use Rattle.std.specs.Char.{is_ascii_digit, is_ascii_uppercase}
+use Rattle.std.proofs.Common.{◌≡◌, ℕ, ◌+◌, ◌-◌, ◌%◌, ◌<◌, ◌≤◌, inl, inr, Bool, true, false, not, ◌&&◌, List, take, drop, length, get_or, refl, sym, ap, ◌∙◌, arith}
+use Rattle.std.specs.Char.{is_ascii_digit}
 use Rattle.std.specs.List.{list_all}
-use Rattle.std.specs.Prelude.{IsTrue, nat_le, ◌==◌, Result, Ok, Err, IsOk, is_err}
-use Rattle.std.proofs.lemmas.Bool.{cases_lt, eqb-true, false≢true}
+use Rattle.std.specs.Prelude.{IsTrue, ◌==◌, Result, Ok, Err, IsOk, is_err}
+use Rattle.std.proofs.lemmas.Bool.{and_parts, cases_lt, eqb-true, false≢true}
 use Rattle.std.proofs.lemmas.Bool.Decides.{nat_tests}
 use Rattle.std.proofs.lemmas.List.{get_or-take, get_or-drop, length-take, length-drop}
 use Rattle.std.proofs.lemmas.List.Folds.{list_all_at}
 use Rattle.lei_code.specs.Number.{number}
 use Rattle.lei_code.specs.Code.{character, may_stand, IsWellFormed, IsValid}
 use Rattle.lei_shapes.specs.Shape.{is_code, is_capital_or_digit}
-
-both_of : (a b : Bool) → a && b ≡ true → (a ≡ true) × (b ≡ true)
-both_of true b is = (refl, is)
-both_of false b is = cc
 
 -- what all pass, the one at an index passes
 passes_at : {X : Type 0} (p : X → Bool) (xs : List X) (i : ℕ) (d : X) → list_all p xs ≡ true → i < length xs → p (get_or xs i d) ≡ true
@@ -31,8 +27,8 @@ digit place c is = grind (arith, nat_tests)
 
 shape_parts : (text : List ℕ) → is_code text ≡ true → (length text ≡ 20) × (list_all is_capital_or_digit (take 18 text) ≡ true) × (list_all is_ascii_digit (drop 18 text) ≡ true)
 shape_parts text is =
-    let outer = both_of ((length text == 20) && list_all is_capital_or_digit (take 18 text)) (list_all is_ascii_digit (drop 18 text)) is in
-    let inner = both_of (length text == 20) (list_all is_capital_or_digit (take 18 text)) outer.0 in
+    let outer = and_parts ((length text == 20) && list_all is_capital_or_digit (take 18 text)) (list_all is_ascii_digit (drop 18 text)) is in
+    let inner = and_parts (length text == 20) (list_all is_capital_or_digit (take 18 text)) outer.0 in
     (eqb-true (length text) 20 inner.0, inner.1, outer.1)
 
 well_formed : (text : List ℕ) → is_code text ≡ true → IsWellFormed text

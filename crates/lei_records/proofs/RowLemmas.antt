@@ -1,5 +1,5 @@
 -- The checks of an item by its texts in order of place, and the row that it has where they pass.
-use Rattle.std.proofs.Common.{◌≡◌, ℕ, ℤ, ◌<◌, ◌%◌, zero, suc, List, [], ◌∷◌, Bool, true, false, not, ◌&&◌, cond, length, get_or, map, codes, Option, None, Some, unwrap_or, refl, sym, ap, subst, ◌∙◌, arith, lit<}
+use Rattle.std.proofs.Common.{◌≡◌, ℕ, ℤ, ◌<◌, ◌%◌, zero, suc, List, [], ◌∷◌, Bool, true, false, not, ◌&&◌, cond, length, get_or, map, Option, None, Some, unwrap_or, refl, sym, ap, subst, ◌∙◌, arith, lit<}
 use Rattle.std.specs.Prelude.{◌==◌, IsSome, IfSome, is_some, IfOk, Result, Ok, Err}
 use Rattle.std.proofs.lemmas.Bool.{false≢true}
 use Rattle.std.proofs.lemmas.Int.{ints}
@@ -23,7 +23,7 @@ use Rattle.lei_records.specs.declared.item.Readied.{Readied}
 use Rattle.lei_records.specs.declared.readying.Ask.{Ask}
 use Rattle.lei_records.specs.Fields.{fields, is_needed, may_stand}
 use Rattle.lei_records.specs.Items.{failed_check, field_check, first_field, has_other_remainder, is_archival, is_code_shape, miscoded_field, misshapen_field, missing_field, printed, readied, row_of, text_of, unknown_name}
-use Rattle.lei_records.specs.Rows.{Row, text_at}
+use Rattle.lei_records.specs.Rows.{Row}
 use Rattle.lei_records.specs.Sheets.{archival_at, asked, failed_at, first_at, printed_at, readied_by, texts_of}
 use Rattle.lei_records.specs.Spelled.{IsPrinted, IsRow, is_absent, present}
 use Rattle.lei_records.proofs.Codes.{IsValid-from_shape}
@@ -68,16 +68,14 @@ failed_at-texts_of pairs known = rw (known, first_at-texts_of Ask.Presence pairs
 
 -- ---- a row of texts that pass
 
+none_first : {X : Type 0} (b : Bool) (x : X) (rest : Option X) → cond b (Some x) rest ≡ None → (b ≡ false) × (rest ≡ None)
+none_first true x rest none = cc
+none_first false x rest none = (refl, none)
+
 none_found : {X : Type 0} (p : X → Bool) (xs : List X) (k : ℕ) (d : X) → find p xs ≡ None → k < length xs → p (get_or xs k d) ≡ false
 none_found p [] k d none within = absurd (omega arith)
-none_found p (x ∷ xs) zero d none within = (none_first (p x) x (find p xs) none).0 where
-  none_first : {X : Type 0} (b : Bool) (x : X) (rest : Option X) → cond b (Some x) rest ≡ None → (b ≡ false) × (rest ≡ None)
-  none_first true x rest none = cc
-  none_first false x rest none = (refl, none)
-none_found p (x ∷ xs) (suc k) d none within = none_found p xs k d (none_rest (p x) x (find p xs) none) (omega arith) where
-  none_rest : {X : Type 0} (b : Bool) (x : X) (rest : Option X) → cond b (Some x) rest ≡ None → rest ≡ None
-  none_rest true x rest none = cc
-  none_rest false x rest none = none
+none_found p (x ∷ xs) zero d none within = (none_first (p x) x (find p xs) none).0
+none_found p (x ∷ xs) (suc k) d none within = none_found p xs k d (none_first (p x) x (find p xs) none).1 (omega arith)
 
 unmapped : {X Y : Type 0} (f : X → Y) (o : Option X) → option_map f o ≡ None → o ≡ None
 unmapped f None is = refl
@@ -132,10 +130,6 @@ right : (shape check : Bool) → shape ≡ true → shape && not check ≡ false
 right true true fits passes = refl
 right true false fits passes = cc
 right false check fits passes = cc
-
-some_of : {X : Type 0} (o : Option X) → is_some o ≡ true → IsSome o
-some_of None is = cc
-some_of (Some x) is = is
 
 valid_code : (text : List ℕ) (may : Bool) → is_absent text ≡ false → not (is_absent text) && not (is_code text && may) ≡ false → has_other_remainder text ≡ false → IsValid text
 valid_code text may stands shape digits =

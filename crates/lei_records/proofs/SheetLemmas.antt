@@ -1,12 +1,12 @@
 -- The table of fields and the texts at its places, entry by entry.
-use Rattle.std.proofs.Common.{◌≡◌, ℕ, ◌+◌, ◌-◌, add-one, ◌++◌, append_assoc, append-nil, ◌<◌, ◌≤◌, zero, suc, List, [], ◌∷◌, Bool, true, false, not, ◌&&◌, ◌||◌, cond, length, get_or, set, drop, map, Bor, Option, None, Some, unwrap_or, Decides, refl, sym, ap, subst, ◌∙◌, arith}
+use Rattle.std.proofs.Common.{◌≡◌, ℕ, ◌+◌, ◌-◌, add-one, ◌++◌, append_assoc, append-nil, ◌<◌, ◌≤◌, zero, suc, List, [], ◌∷◌, Bool, true, false, not, ◌&&◌, ◌||◌, cond, length, get_or, set, drop, map, Bor, Option, None, Some, unwrap_or, refl, sym, ap, subst, ◌∙◌, arith}
 use Rattle.std.specs.List.{find, list_any, zip}
 use Rattle.std.specs.Option.{option_map}
 use Rattle.std.specs.Map.{lookup}
 use Rattle.std.specs.Str.{bytes_eq}
 use Rattle.std.proofs.Math.ListN.{drop_of_length-le}
 use Rattle.std.proofs.Math.Seq.{drop-cons}
-use Rattle.std.proofs.lemmas.Bool.{false≢true}
+use Rattle.std.proofs.lemmas.Bool.{and_parts, false≢true, false_from_ne_true, not-true, or_parts}
 use Rattle.std.proofs.lemmas.List.{length-map, map-set}
 use Rattle.std.proofs.lemmas.List.Folds.{list_any_at}
 use Rattle.std.proofs.lemmas.Slice.Eq.{bytes_eq-Decides}
@@ -15,7 +15,7 @@ use Rattle.lei_records.specs.declared.fields.Need.{Need}
 use Rattle.lei_records.specs.declared.readying.Ask.{Ask}
 use Rattle.lei_records.specs.Fields.{fields, field_names, read_field}
 use Rattle.lei_records.specs.Items.{is_field, printed, text_of, unknown_name}
-use Rattle.lei_records.specs.Rows.{Row, text_at}
+use Rattle.lei_records.specs.Rows.{Row}
 use Rattle.lei_records.specs.Sheets.{archival_at, asked, first_at, printed_at, read_texts, texts_of}
 
 -- the table as code lends it
@@ -37,22 +37,6 @@ list_any-map p f (x ∷ xs) = ap (λ b. p (f x) || b) (list_any-map p f xs)
 
 pub any_of_fields : (p : List ℕ × Shape × Need → Bool) (table : Lent) → map read_field table ≡ fields → list_any (λ field. p (read_field field)) table ≡ list_any p fields
 any_of_fields p table same = sym (list_any-map p read_field table) ∙ ap (list_any p) same
-
-fails : (b : Bool) (P : Type 0) → Decides b P → (P → ⊥) → b ≡ false
-fails true P decides never = absurd (never (decides.0 refl))
-fails false P decides never = refl
-
-none_of : (a b : Bool) → a || b ≡ false → (a ≡ false) × (b ≡ false)
-none_of true b is = cc
-none_of false b is = (refl, is)
-
-both_of : (a b : Bool) → a && b ≡ true → (a ≡ true) × (b ≡ true)
-both_of true b is = (refl, is)
-both_of false b is = cc
-
-unnot : (b : Bool) → not b ≡ true → b ≡ false
-unnot true is = cc
-unnot false is = refl
 
 length-field_names : length field_names ≡ 28
 unfolding fields
@@ -84,13 +68,13 @@ no_field_found table same i name bound rest =
 
 none_at : {X : Type 0} (p : X → Bool) (xs : List X) (k : ℕ) (d : X) → list_any p xs ≡ false → k < length xs → p (get_or xs k d) ≡ false
 none_at p [] k d none within = absurd (omega arith)
-none_at p (x ∷ xs) zero d none within = (none_of (p x) (list_any p xs) none).0
-none_at p (x ∷ xs) (suc k) d none within = none_at p xs k d (none_of (p x) (list_any p xs) none).1 (omega arith)
+none_at p (x ∷ xs) zero d none within = (or_parts (p x) (list_any p xs) none).0
+none_at p (x ∷ xs) (suc k) d none within = none_at p xs k d (or_parts (p x) (list_any p xs) none).1 (omega arith)
 
 -- two names that the test tells apart, the other way round
 apart_turned : (a b : List ℕ) → bytes_eq a b ≡ false → bytes_eq b a ≡ false
 apart_turned a b apart =
-    fails (bytes_eq b a) (b ≡ a) (bytes_eq-Decides b a) (λ same. false≢true (sym apart ∙ (bytes_eq-Decides a b).1 (sym same)))
+    false_from_ne_true (bytes_eq b a) (λ same. false≢true (sym apart ∙ (bytes_eq-Decides a b).1 (sym ((bytes_eq-Decides b a).0 same))))
 
 -- no name stands twice
 abbrev are_apart : List (List ℕ) → Bool
@@ -111,20 +95,20 @@ without others n = unwrap_or (others n) []
 untouched : (name text : List ℕ) (others : List ℕ → Option (List ℕ)) (ns : List (List ℕ)) → list_any (λ n. bytes_eq n name) ns ≡ false → map (with_pair name text others) ns ≡ map (without others) ns
 untouched name text others [] none = refl
 untouched name text others (n ∷ ns) none =
-    let parts = none_of (bytes_eq n name) (list_any (λ o. bytes_eq o name) ns) none in
+    let parts = or_parts (bytes_eq n name) (list_any (λ o. bytes_eq o name) ns) none in
     rw parts.0 (ap (λ ts. without others n ∷ ts) (untouched name text others ns parts.1))
 
 touched : (name text : List ℕ) (others : List ℕ → Option (List ℕ)) (ns : List (List ℕ)) (k : ℕ) → are_apart ns ≡ true → k < length ns → get_or ns k name ≡ name
     → map (with_pair name text others) ns ≡ set (map (without others) ns) k text
 touched name text others [] k apart within is = absurd (omega arith)
 touched name text others (n ∷ ns) zero apart within is =
-    let parts = both_of (not (list_any (λ o. bytes_eq o n) ns)) (are_apart ns) apart in
+    let parts = and_parts (not (list_any (λ o. bytes_eq o n) ns)) (are_apart ns) apart in
     let here : bytes_eq n name ≡ true = (bytes_eq-Decides n name).1 is in
     let P : List ℕ → Type 0 = λ m. list_any (λ o. bytes_eq o m) ns ≡ false in
-    rw here (ap (λ ts. text ∷ ts) (untouched name text others ns (subst P is (unnot _ parts.0))))
+    rw here (ap (λ ts. text ∷ ts) (untouched name text others ns (subst P is (not-true _ parts.0))))
 touched name text others (n ∷ ns) (suc k) apart within is =
-    let parts = both_of (not (list_any (λ o. bytes_eq o n) ns)) (are_apart ns) apart in
-    let at : bytes_eq (get_or ns k name) n ≡ false = none_at (λ o. bytes_eq o n) ns k name (unnot _ parts.0) (omega arith) in
+    let parts = and_parts (not (list_any (λ o. bytes_eq o n) ns)) (are_apart ns) apart in
+    let at : bytes_eq (get_or ns k name) n ≡ false = none_at (λ o. bytes_eq o n) ns k name (not-true _ parts.0) (omega arith) in
     let other : bytes_eq n name ≡ false = apart_turned name n (ap (λ m. bytes_eq m n) (sym is) ∙ at) in
     rw other (ap (λ ts. without others n ∷ ts) (touched name text others ns k parts.1 (omega arith) is))
 

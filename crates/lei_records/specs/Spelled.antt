@@ -1,6 +1,5 @@
 -- What a row spells by its texts, and which rows are those of records.
-use Rattle.std.specs.Prelude.{◌≡◌, ℕ, ℤ, List, length, Bool, ◌==◌, if◌then◌else◌, Option, None, Some, IsSome, IfSome, codes}
-use Rattle.std.specs.Str.{bytes_eq}
+use Rattle.std.specs.Prelude.{◌≡◌, ℕ, ℤ, List, length, Bool, ◌==◌, if◌then◌else◌, Option, None, Some, IsSome, IfSome}
 use Rattle.lei_code.specs.Code.{IsValid}
 use Rattle.lei_shapes.specs.Clock.{moment_text}
 use Rattle.lei_shapes.specs.Lists.{record_status_of, entity_status_of, category_of}

@@ -2,6 +2,8 @@
 #![tactic(auto)]
 
 mod fault;
+#[cfg(test)]
+mod item_tests;
 mod reading;
 #[cfg(test)]
 mod tests;

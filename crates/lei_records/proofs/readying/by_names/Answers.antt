@@ -1,7 +1,5 @@
-use Rattle.std.proofs.Common.{◌≡◌, None, sym, ap, ◌∙◌}
-use Rattle.std.specs.Prelude.{IfOk}
+use Rattle.std.proofs.Common.{sym, ap, ◌∙◌}
 use Rattle.std.specs.Option.{option_copied}
-use Rattle.lei_records.specs.Items.{unknown_name}
 use Rattle.lei_records.proofs.RowLemmas.{readied-by_place}
 use Rattle.lei_records.proofs.readying.by_names.Goals as goal
 

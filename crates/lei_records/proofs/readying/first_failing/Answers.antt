@@ -1,5 +1,4 @@
-use Rattle.std.proofs.Common.{◌≡◌, sym, ap, ◌∙◌}
-use Rattle.lei_records.specs.Sheets.{first_at, read_texts}
+use Rattle.std.proofs.Common.{sym, ap, ◌∙◌}
 use Rattle.lei_records.proofs.SheetLemmas.{first_in, first_in-all, first_in-yes, first_in-no, first_in-past, length-lent, within, past}
 use Rattle.lei_records.proofs.readying.first_failing.Goals as goal
 

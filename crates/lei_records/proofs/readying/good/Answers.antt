@@ -1,4 +1,4 @@
-use Rattle.std.proofs.Common.{subst, sym, map, length, ◌∙◌}
+use Rattle.std.proofs.Common.{subst, sym, ◌∙◌}
 use Rattle.std.proofs.lemmas.List.{length-map}
 use Rattle.lei_records.specs.Sheets.{read_texts}
 use Rattle.lei_records.specs.Spelled.{IsRow}

@@ -1,5 +1,5 @@
-use Rattle.std.proofs.Common.{◌≡◌, sym, ap, ◌∙◌}
-use Rattle.lei_records.proofs.SheetLemmas.{printed_in, printed_in-all, printed_in-more, printed_in-past, length-lent, within, past}
+use Rattle.std.proofs.Common.{◌∙◌}
+use Rattle.lei_records.proofs.SheetLemmas.{printed_in-all, printed_in-more, printed_in-past, length-lent, within, past}
 use Rattle.lei_records.proofs.readying.printed_texts.Goals as goal
 
 pub loop-index-preserved : goal.loop-index-preserved

@@ -1,4 +1,4 @@
-use Rattle.std.proofs.Common.{drop, length, refl, sym, ap, ◌∙◌}
+use Rattle.std.proofs.Common.{sym, ap, ◌∙◌}
 use Rattle.std.proofs.Math.Seq.{drop-length}
 use Rattle.lei_records.specs.Items.{unknown_name}
 use Rattle.lei_records.specs.Sheets.{texts_of}
