@@ -207,7 +207,9 @@ fn take_upload(
         Err(UploadFault::NoMemory) => return Err(NoMemory),
     };
     let judged = judge(alloc, upload.items.as_slice())?;
-    let entry = taken_upload(alloc, entries, call, moment, &judged.verdicts)?;
+    let before = entries.as_slice();
+    let verdicts = judged.verdicts.as_slice();
+    let entry = taken_upload(alloc, before, call, moment, verdicts)?;
     let reply = kept_reply(alloc, entry.answer.as_slice())?;
     rows.reserve(judged.writes.len())?;
     entries.push(entry)?;

@@ -2,6 +2,7 @@ pub mod Numbers
 pub mod Sending
 pub mod Giving
 pub mod Running
+pub mod Fronts
 pub mod Filling
 pub mod Asking
 pub mod LineLemmas

@@ -9,7 +9,7 @@ use Rattle.leireg.specs.Lines.{IsClosed, HasNoEnd}
 use Rattle.leireg.specs.Moments.{Gives}
 use Rattle.leireg.specs.Outbox.{Puts}
 use Rattle.leireg.specs.Requests.{asked}
-use Rattle.leireg.specs.Replies.{reply_texts}
+use Rattle.leireg.specs.Replies.{reply_text, reply_texts}
 
 -- what lines ask, in order. An empty line asks nothing.
 abbrev pub asks_of : List (List ℕ) → List Asked
@@ -33,6 +33,26 @@ pub record AnswersFront (all : List (List ℕ)) (moments : List ℤ) (written : 
   pub session : Session [] (asks_of answered) moments replies history
   pub front : ℕ
   pub texts : written ≡ take front (reply_texts replies)
+
+-- the texts of replies in order, of the last one a front
+abbrev pub AreTextsOf : List Reply → List ℕ → Type 0
+AreTextsOf [] written = written ≡ []
+AreTextsOf (reply ∷ []) written = (n : ℕ) × (written ≡ take n (reply_text reply))
+AreTextsOf (reply ∷ next ∷ replies) written = (rest : List ℕ) × (written ≡ reply_text reply ++ rest) × AreTextsOf (next ∷ replies) rest
+
+-- Some replies answer what a front of the lines asks, at a front of the moments, and these bytes are their texts, of
+-- the last one a front.
+pub record IsWrittenFront (all : List (List ℕ)) (moments : List ℤ) (written : List ℕ) : Type 0 where
+  pub answered : List (List ℕ)
+  pub left : List (List ℕ)
+  pub parts : all ≡ answered ++ left
+  pub used : List ℤ
+  pub unused : List ℤ
+  pub moment_parts : moments ≡ used ++ unused
+  pub replies : List Reply
+  pub history : History
+  pub session : Session [] (asks_of answered) used replies history
+  pub texts : AreTextsOf replies written
 
 -- A line that isn't empty has this reply, with the moments that the clock gave for it: one where the line was put to
 -- the office, and else none.

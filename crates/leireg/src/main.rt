@@ -8,6 +8,7 @@ mod command;
 #[cfg(test)]
 mod fakes;
 mod help;
+pub mod laws;
 mod outbox;
 mod reader;
 pub mod requests;

@@ -7,19 +7,27 @@ use std::test::Fail;
 
 const OFFICE: &[u8] = b"506700GE1G29325QX363";
 
-const NO_ROUTE: [&str; 9] = [
+const NO_ROUTE: [&str; 11] = [
     "",
     " ",
     "accredit 506700GE1G29325QX363",
     "Upload 506700GE1G29325QX363 1 {}",
     "UPLOADS 506700GE1G29325QX363 1 {}",
-    "SHOW 00000000000000000195",
+    "STATUS",
+    "show 00000000000000000195",
+    "SHOWS 00000000000000000195",
     " ACCREDIT 506700GE1G29325QX363",
     "ACCREDIT\t506700GE1G29325QX363",
     "UPLOAD\r",
 ];
 
-const PATH: [&str; 22] = [
+const PATH: [&str; 28] = [
+    "SHOW",
+    "SHOW ",
+    "SHOW 00000000000000000196",
+    "SHOW 00000000000000000195 ",
+    "SHOW 00000000000000000195 1",
+    "SHOW  00000000000000000195",
     "ACCREDIT",
     "ACCREDIT ",
     "ACCREDIT  506700GE1G29325QX363",
@@ -83,9 +91,11 @@ fn refuses_wrong_words(rt: HostRuntime) -> Result<(), Fail> {
 }
 
 #[test]
-fn reads_accreditations_and_uploads(rt: HostRuntime) -> Result<(), Fail> {
+fn reads_requests(rt: HostRuntime) -> Result<(), Fail> {
     let found = line_request(rt.alloc(), b"ACCREDIT 506700GE1G29325QX363")?;
     assert_eq!(rt; found, Asked::Ask(Request::Accredit(Lei::read(OFFICE)?)));
+    let found = line_request(rt.alloc(), b"SHOW 506700GE1G29325QX363")?;
+    assert_eq!(rt; found, Asked::Ask(Request::Show(Lei::read(OFFICE)?)));
     for (line, number, body) in UPLOADS {
         let found = line_request(rt.alloc(), line.as_bytes())?;
         assert_eq!(rt;

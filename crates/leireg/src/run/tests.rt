@@ -18,10 +18,10 @@ UPLOAD 506700GE1G29325QX363 4 {"records":[{"Entity.LegalName":"Alpha","LEI":"000
 "#;
 
 const REPLIES: &str = r#"200 {"entry":1,"issuer":"506700GE1G29325QX363"}
-200 {"entry":2,"issuer":"506700GE1G29325QX363","items":["ACCEPTED"],"number":1}
-200 {"entry":2,"issuer":"506700GE1G29325QX363","items":["ACCEPTED"],"number":1}
+200 {"entry":2,"issuer":"506700GE1G29325QX363","items":["C02 FIELD_MISSING Entity.LegalAddress.FirstAddressLine"],"number":1}
+200 {"entry":2,"issuer":"506700GE1G29325QX363","items":["C02 FIELD_MISSING Entity.LegalAddress.FirstAddressLine"],"number":1}
 409 NUMBER_TAKEN
-200 {"entry":3,"issuer":"506700GE1G29325QX363","items":["C04 CHECK_DIGITS LEI"],"number":2}
+200 {"entry":3,"issuer":"506700GE1G29325QX363","items":["C02 FIELD_MISSING Entity.LegalAddress.FirstAddressLine"],"number":2}
 409 NUMBER_AHEAD 3
 "#;
 
@@ -110,6 +110,8 @@ fn cuts_lines_at_their_ends(rt: HostRuntime) -> Result<(), Fail> {
             "UPLOAD 506700GE1G29325QX363 1000000 {}\n",
             "404 ISSUER_UNKNOWN\n",
         ),
+        ("SHOW\nSHOW 195\n", "400 PATH\n400 PATH\n"),
+        ("SHOW 00000000000000000195\n", "404 LEI_UNKNOWN\n"),
     ];
     for (input, want) in cases {
         for most in [1, 65_536] {
@@ -360,5 +362,66 @@ fn ends_where_a_line_of_a_code_cannot_be_written(rt: HostRuntime) -> Result<(), 
             "write {call}"
         );
     }
+    Ok(())
+}
+
+// The standard record of this country and status, as the upload of this number.
+fn standard(alloc: Global, number: u32, country: &str, status: &str) -> Result<String, Fail> {
+    Ok(format!(in alloc;
+        r#"UPLOAD 506700GE1G29325QX363 {number} {{"records":[{{"Entity.EntityCategory":"GENERAL","Entity.EntityStatus":"ACTIVE","Entity.HeadquartersAddress.City":"Paris","Entity.HeadquartersAddress.Country":"FR","Entity.HeadquartersAddress.FirstAddressLine":"1 Main Street","Entity.LegalAddress.City":"Paris","Entity.LegalAddress.Country":"{country}","Entity.LegalAddress.FirstAddressLine":"1 Main Street","Entity.LegalForm.EntityLegalFormCode":"AB12","Entity.LegalJurisdiction":"FR","Entity.LegalName":"Alpha","Entity.RegistrationAuthority.RegistrationAuthorityEntityID":"1001","Entity.RegistrationAuthority.RegistrationAuthorityID":"RA000001","LEI":"00000000000000000195","Registration.InitialRegistrationDate":"2025-01-10T09:00:00Z","Registration.LastUpdateDate":"2025-01-10T09:00:00Z","Registration.ManagingLOU":"506700GE1G29325QX363","Registration.NextRenewalDate":"2026-01-10T09:00:00Z","Registration.RegistrationStatus":"{status}","Registration.ValidationSources":"FULLY_CORROBORATED"}}]}}
+"#
+    )?)
+}
+
+const STANDARD_REPLIES: &str = r#"200 {"entry":1,"issuer":"506700GE1G29325QX363"}
+200 {"entry":2,"issuer":"506700GE1G29325QX363","items":["C03 FIELD_SHAPE Entity.LegalAddress.Country"],"number":1}
+200 {"entry":3,"issuer":"506700GE1G29325QX363","items":["C03 FIELD_SHAPE Registration.RegistrationStatus"],"number":2}
+200 {"entry":4,"issuer":"506700GE1G29325QX363","items":["C02 FIELD_MISSING Register.TransferTo"],"number":3}
+404 LEI_UNKNOWN
+200 {"entry":5,"issuer":"506700GE1G29325QX363","items":["ACCEPTED"],"number":4}
+200 {"Entity.EntityCategory":"GENERAL","Entity.EntityStatus":"ACTIVE","Entity.HeadquartersAddress.City":"Paris","Entity.HeadquartersAddress.Country":"FR","Entity.HeadquartersAddress.FirstAddressLine":"1 Main Street","Entity.LegalAddress.City":"Paris","Entity.LegalAddress.Country":"FR","Entity.LegalAddress.FirstAddressLine":"1 Main Street","Entity.LegalForm.EntityLegalFormCode":"AB12","Entity.LegalJurisdiction":"FR","Entity.LegalName":"Alpha","Entity.RegistrationAuthority.RegistrationAuthorityEntityID":"1001","Entity.RegistrationAuthority.RegistrationAuthorityID":"RA000001","LEI":"00000000000000000195","Registration.InitialRegistrationDate":"2025-01-10T09:00:00Z","Registration.LastUpdateDate":"2025-01-10T09:00:00Z","Registration.ManagingLOU":"506700GE1G29325QX363","Registration.NextRenewalDate":"2026-01-10T09:00:00Z","Registration.RegistrationStatus":"ISSUED","Registration.ValidationSources":"FULLY_CORROBORATED"}
+"#;
+
+#[test]
+fn judges_and_shows_a_record(rt: HostRuntime) -> Result<(), Fail> {
+    let alloc = rt.alloc();
+    let mut input = String::from_str(alloc, "ACCREDIT 506700GE1G29325QX363\n")?;
+    input.push_str(standard(alloc, 1, "fr", "ISSUED")?.as_str())?;
+    input.push_str(standard(alloc, 2, "FR", "MERGED")?.as_str())?;
+    input.push_str(standard(alloc, 3, "FR", "PENDING_ARCHIVAL")?.as_str())?;
+    input.push_str("SHOW 00000000000000000195\n")?;
+    input.push_str(standard(alloc, 4, "FR", "ISSUED")?.as_str())?;
+    input.push_str("SHOW 00000000000000000195\n")?;
+    let (status, sink, calls) = answers(&rt, alloc, input.as_bytes(), 65_536)?;
+    assert_eq!(rt; status, OK);
+    assert_eq!(rt; str::from_utf8(sink.taken())?, STANDARD_REPLIES);
+    assert_eq!(rt; calls, 7);
+    Ok(())
+}
+
+// The text so many times, with commas between.
+fn repeated(alloc: Global, text: &str, count: u32) -> Result<String, Fail> {
+    let mut all = String::from_str(alloc, text)?;
+    for _ in 1..count {
+        all.push_str(",")?;
+        all.push_str(text)?;
+    }
+    Ok(all)
+}
+
+#[test]
+fn judges_five_thousand_empty_records(rt: HostRuntime) -> Result<(), Fail> {
+    let alloc = rt.alloc();
+    let records = repeated(alloc, "{}", 5_000)?;
+    let items = repeated(alloc, r#""C02 FIELD_MISSING LEI""#, 5_000)?;
+    let input = format!(in alloc;
+        "ACCREDIT 506700GE1G29325QX363\nUPLOAD 506700GE1G29325QX363 1 {{\"records\":[{records}]}}\n"
+    )?;
+    let want = format!(in alloc;
+        "200 {{\"entry\":1,\"issuer\":\"506700GE1G29325QX363\"}}\n200 {{\"entry\":2,\"issuer\":\"506700GE1G29325QX363\",\"items\":[{items}],\"number\":1}}\n"
+    )?;
+    let (status, sink, _) = answers(&rt, alloc, input.as_bytes(), 65_536)?;
+    assert_eq!(rt; status, OK);
+    assert!(rt; sink.taken() == want.as_bytes());
     Ok(())
 }

@@ -12,8 +12,8 @@ returns-clause-table c =
     let writes = c.in_ok-judged.judged.writes.items in
     let read = ap upload (sym c.as_slice.ensures) ∙ c.in-Ok.ensures in
     let written = ap (λ items. (take_items (after history) items).0) (sym c.as_slice-2.ensures) ∙ c.in_ok-judged.ensures.table (after history) in
-    let taken = after-upload history c.args.call.now moment c.in-Ok.upload.items c.deref-2.result.now writes read written in
-    let added = c.in_ok-entry.ensures ∙ ap (λ h. upload_entry h c.args.call.now moment c.deref-2.result.now) c.deref.ensures.value in
+    let taken = after-upload history c.args.call.now moment c.in-Ok.upload.items c.as_slice-verdicts.result.now writes read written in
+    let added = c.in_ok-entry.ensures ∙ ap (λ h. upload_entry h c.args.call.now moment c.as_slice-verdicts.result.now) c.as_slice-before.ensures.value in
     c.put_all.ensures
     ∙ (ap (λ rows. fold put rows writes) (c.in_ok-reserve.ensures.items ∙ c.requires)
     ∙ (sym taken ∙ ap after (sym (c.in_ok-push.ensures.items ∙ ap (λ entry. history ++ entry ∷ []) added))))
