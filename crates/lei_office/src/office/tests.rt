@@ -2,6 +2,7 @@
 use super::Office;
 use crate::reply::{Refusal, Reply};
 use crate::request::{Call, MAX_BODY, Request, is_upload_number};
+use crate::{moments_never_fall, sessions_are_exact, uploads_are_numbered};
 use lei_code::Lei;
 use lei_outside::Bytes;
 use lei_shapes::Moment;
@@ -330,6 +331,9 @@ fn bodies_are_measured_before_all_else(rt: HostRuntime) -> Result<(), Fail> {
 
 #[test]
 fn a_moment_that_goes_back_is_the_last_one_again(rt: HostRuntime) -> Result<(), Fail> {
+    moments_never_fall();
+    uploads_are_numbered();
+    sessions_are_exact();
     let alloc = rt.alloc();
     let mut office = Office::new(alloc)?;
     for (lei, seconds) in [
