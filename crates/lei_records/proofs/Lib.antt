@@ -1,3 +1,4 @@
+pub mod CellLemmas
 pub mod SheetLemmas
 pub mod Codes
 pub mod RowLemmas

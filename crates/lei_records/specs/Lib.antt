@@ -4,4 +4,6 @@ pub mod Rows
 pub mod Spelled
 pub mod Items
 pub mod Parts
+pub mod Cells
+pub mod Tables
 pub mod Sheets

@@ -1,4 +1,4 @@
-ghost use Rattle.std.specs.Prelude.{◌≡◌, ◌≤◌, length, IfSome, IsSome, Some, option_and_then};
+ghost use Rattle.std.specs.Prelude.{◌≡◌, ◌≤◌, length, IfOk, IfSome, IsSome, Some, option_and_then};
 ghost use Rattle.lei_code.specs.Code.{IsValid};
 ghost use Rattle.lei_shapes.specs.Lists.{record_status_of, entity_status_of, category_of};
 ghost use Rattle.lei_shapes.specs.Moment.{read_moment};
@@ -6,8 +6,9 @@ ghost use Rattle.lei_records.specs.Rows.{text_at};
 ghost use Rattle.lei_records.specs.Spelled.{IsPrinted, IsRow, present};
 
 use lei_code::Lei;
-use lei_outside::Text;
+use lei_outside::{NoMemory, Text};
 use lei_shapes::{Category, EntityStatus, Moment, RecordStatus};
+use std::alloc::Global;
 use std::marker::Model;
 
 /// A record of the register: a legal entity and its registration. Clauses see its row: its 28 texts in order of
@@ -171,6 +172,38 @@ impl Record {
     {
         self.created
     }
+
+    /// The record in memory of its own.
+    pub fn copy(&self, alloc: Global) -> Result<Record, NoMemory>
+        ensures { IfOk result (λ copy. copy ≡ self.now) }
+    {
+        let texts = copied(alloc, &self.texts)?;
+        Ok(Record {
+            texts,
+            lei: self.lei,
+            status: self.status,
+            entity_status: self.entity_status,
+            category: self.category,
+            manager: self.manager,
+            successor: self.successor,
+            transfer_to: self.transfer_to,
+            initial: self.initial,
+            updated: self.updated,
+            renewal: self.renewal,
+            created: self.created,
+        })
+    }
+}
+
+// The same texts in memory of their own.
+fn copied(alloc: Global, texts: &[Text]) -> Result<Vec<Text>, NoMemory>
+    ensures { IfOk result (λ copies. copies.items ≡ texts.now) }
+{
+    let mut copies = Vec::with_capacity(alloc, texts.len())?;
+    for text in texts {
+        copies.push(Text::copy_of(alloc, text.as_str())?)?;
+    }
+    Ok(copies)
 }
 
 // The text at a place, places counted from 1.

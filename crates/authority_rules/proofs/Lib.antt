@@ -1,0 +1,3 @@
+pub mod MapLemmas
+pub mod HolderLemmas
+pub mod PutLemmas

@@ -1,0 +1,4 @@
+pub mod MapLemmas
+pub mod OverlayLemmas
+pub mod JudgingLemmas
+pub mod TakingLemmas

@@ -1,0 +1,54 @@
+-- Maps by codes and by texts after an insertion.
+use Rattle.std.specs.Prelude.{◌≡◌, ℕ, List, Bool, true, false, ◌&&◌, cond, Option, Some, None, option_and_then}
+use Rattle.std.specs.BTreeMap.{Updates, UpdatesBy, get}
+use Rattle.std.specs.Borrow.{Bor}
+use Rattle.std.specs.Cmp.Lexicographic.{slice_cmp}
+use Rattle.std.specs.Option.{option_copied}
+use Rattle.std.specs.Ordering.{nat_cmp}
+use Rattle.std.specs.Str.{bytes_eq}
+use Rattle.std.proofs.Common.{refl, ap, ◌∙◌}
+use Rattle.std.proofs.lemmas.Map.Text.{is_eq-slice_cmp, btree_map_updates_str}
+use Rattle.std.specs.Cmp.Lexicographic.{nat_list_eq_equiv}
+use Rattle.authority_rules.proofs.HolderLemmas.{bytes_same}
+use Rattle.lei_records.specs.Rows.{Row}
+use Rattle.register_judge.specs.Overlays.{Ids, Takers, Records, id_at, ids_at, taker_at, record_at}
+
+copied : (b : Bool) (row : Bor Row) (old : Option (Bor Row)) → option_copied (cond b (Some row) old) ≡ cond b (Some row.now) (option_copied old)
+copied true row old = refl
+copied false row old = refl
+
+turned : (a b : List ℕ) → bytes_eq a b ≡ bytes_eq b a
+turned a b = nat_list_eq_equiv.symm a b
+
+pub record_at-insert : (old new : Records) (lei own : List ℕ) (row : Bor Row) → lei ≡ own → Updates (slice_cmp nat_cmp) old new lei (Some row)
+    → (q : List ℕ) → record_at new q ≡ cond (bytes_eq q own) (Some row.now) (record_at old q)
+record_at-insert old new lei own row same updates q =
+    ap option_copied (updates.0 q)
+    ∙ (ap (λ b. option_copied (cond b (Some row) (get (slice_cmp nat_cmp) old q))) (is_eq-slice_cmp lei q ∙ (turned lei q ∙ ap (bytes_eq q) same))
+    ∙ copied (bytes_eq q own) row (get (slice_cmp nat_cmp) old q))
+
+-- the ids of an authority after one was taken out or put in
+pub ids_at-update : (old new : Takers) (authority : List ℕ) (ids : Option Ids)
+    → UpdatesBy (λ x y. slice_cmp nat_cmp x.now y.now) (λ k. slice_cmp nat_cmp authority k.now) old new ids
+    → (a : List ℕ) → ids_at new a ≡ cond (bytes_eq authority a) ids (ids_at old a)
+ids_at-update old new authority ids updates a = btree_map_updates_str authority old new ids updates a
+
+pub id_at-update : (old new : Ids) (id : List ℕ) (lei : Option (List ℕ))
+    → UpdatesBy (λ x y. slice_cmp nat_cmp x.now y.now) (λ k. slice_cmp nat_cmp id k.now) old new lei
+    → (i : List ℕ) → id_at new i ≡ cond (bytes_eq id i) lei (id_at old i)
+id_at-update old new id lei updates i = btree_map_updates_str id old new lei updates i
+
+-- a taker after one was noted under an authority whose ids were taken out
+pub taker_at-insert : (old removed new : Takers) (ids more : Ids) (authority id lei : List ℕ)
+    → ((i : List ℕ) → id_at ids i ≡ taker_at old authority i)
+    → ((a : List ℕ) → ids_at removed a ≡ cond (bytes_eq authority a) None (ids_at old a))
+    → ((i : List ℕ) → id_at more i ≡ cond (bytes_eq id i) (Some lei) (id_at ids i))
+    → ((a : List ℕ) → ids_at new a ≡ cond (bytes_eq authority a) (Some more) (ids_at removed a))
+    → (a i : List ℕ) → taker_at new a i ≡ cond (bytes_eq authority a && bytes_eq id i) (Some lei) (taker_at old a i)
+taker_at-insert old removed new ids more authority id lei was without with_id with_ids a i =
+    ap (option_and_then (λ ids. id_at ids i)) (with_ids a ∙ ap (cond (bytes_eq authority a) (Some more)) (without a))
+    ∙ elim (bytes_eq authority a) as (λ b. bytes_eq authority a ≡ b
+    → option_and_then (λ ids. id_at ids i) (cond b (Some more) (cond b None (ids_at old a))) ≡ cond (b && bytes_eq id i) (Some lei) (taker_at old a i)) [
+      | true ↦ λ t. with_id i ∙ ap (cond (bytes_eq id i) (Some lei)) (was i ∙ ap (λ x. taker_at old x i) (bytes_same authority a t))
+      | false ↦ λ t. refl
+    ] refl

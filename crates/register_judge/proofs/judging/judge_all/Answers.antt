@@ -1,0 +1,20 @@
+use Rattle.std.proofs.Common.{◌+◌, ℤ, refl, ap, subst, ◌∙◌}
+use Rattle.std.proofs.Math.Facts.{to_z-of_z}
+use Rattle.lei_records.specs.Tables.{record_count}
+use Rattle.register_judge.specs.Judging.{judge_items}
+use Rattle.register_judge.specs.Outcomes.{Judges}
+use Rattle.register_judge.specs.Taking.{take}
+use Rattle.register_judge.proofs.TakingLemmas.{judged-taken, judges-takes}
+use Rattle.register_judge.proofs.judging.judge_all.Goals as goal
+
+pub returns-clause-over_tables : goal.returns-clause-over_tables
+returns-clause-over_tables g c = λ table sound same.
+    let room = c.args.room in
+    let today = c.args.today in
+    let office = c.args.office.now in
+    let items = c.args.items.now in
+    let limit = record_count table + room in
+    let JudgedOn : ℤ → Type 0 = λ day. Judges c.judge_each.result (judge_items (g.V.View.cells c.args.view.now) room day office items) in
+    judges-takes c.judge_each.result _ (take table limit today office items)
+    (ap (λ cells. judge_items cells room today office items) same ∙ judged-taken table limit room today office items sound.keyed sound.holders refl)
+    (subst JudgedOn (to_z-of_z c.ranges.today) c.judge_each.ensures)

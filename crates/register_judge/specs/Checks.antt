@@ -1,0 +1,142 @@
+-- The checks of a record that is brought to a table, C05 to C15, C19 and C20. This project's profile.
+use Rattle.std.specs.Prelude.{ℕ, ℤ, List, [], ◌∷◌, ◌++◌, Bool, false, not, ◌&&◌, ◌||◌, int_lt, nat_le, if◌then◌else◌, Option, Some, None, is_some, is_none}
+use Rattle.std.specs.Option.{option_map_or}
+use Rattle.std.specs.Ordering.{int_eq}
+use Rattle.std.specs.Str.{bytes_eq}
+use Rattle.lei_shapes.specs.declared.lists.RecordStatus.{RecordStatus}
+use Rattle.lei_shapes.specs.Moment.{day_of}
+use Rattle.lei_records.specs.declared.check.Check.{Check}
+use Rattle.lei_records.specs.declared.check.Detail.{Detail}
+use Rattle.lei_records.specs.declared.view.RecCell.{RecCell}
+use Rattle.lei_records.specs.Cells.{lei_in, status_in, entity_status_in, initial_in, updated_in, renewal_in, created_in, manager_in, successor_in, is_live}
+use Rattle.lei_records.specs.Rows.{Row}
+use Rattle.lei_records.specs.Tables.{Table, record_of, record_count, other_holder}
+use Rattle.status_rules.specs.declared.transitions.Party.{Party}
+use Rattle.status_rules.specs.Statuses.{entity_fits, renewal_fits, is_issued, is_retired, is_duplicate}
+use Rattle.status_rules.specs.Transitions.{party}
+
+-- a check: its number, whether it fails, and what it tells then
+pub record Line : Type 0 where
+  pub code : ℕ
+  pub fails : Bool
+  pub detail : Detail
+
+abbrev pub fails_if : Bool → ℕ → Detail → Line
+fails_if fails code detail = record { code = code; fails = fails; detail = detail }
+
+-- the first check that fails
+abbrev pub first_failing : List Line → Option Check
+first_failing [] = None
+first_failing (line ∷ lines) =
+    if line.fails then Some (record { code = line.code; detail = line.detail }) else first_failing lines
+
+-- ---- the item alone, and the uploader
+
+-- C05: record and entity status are no allowed pair
+abbrev pub c05 : Row → Line
+c05 item = fails_if (not (entity_fits (status_in item) (entity_status_in item))) 5 Detail.None
+
+-- C06: LastUpdateDate or NextRenewalDate is before InitialRegistrationDate
+abbrev pub c06 : Row → Line
+c06 item = fails_if (int_lt (updated_in item) (initial_in item) || int_lt (renewal_in item) (initial_in item)) 6 Detail.None
+
+-- the moment's day is after today
+abbrev pub is_after : ℤ → ℤ → Bool
+is_after today seconds = int_lt today (day_of seconds)
+
+-- C07: the day of LastUpdateDate or of EntityCreationDate is after today
+abbrev pub c07 : ℤ → Row → Line
+c07 today item =
+    fails_if (is_after today (updated_in item) || option_map_or (is_after today) (created_in item) false) 7 Detail.None
+
+-- a successor stands on another status than RETIRED and DUPLICATE, or none stands on DUPLICATE
+abbrev pub misfits : RecordStatus → Bool → Bool
+misfits status stands = (stands && not (is_retired status || is_duplicate status)) || (not stands && is_duplicate status)
+
+-- C08: the successor, or that there is none, doesn't fit the status
+abbrev pub c08 : Row → Line
+c08 item = fails_if (misfits (status_in item) (is_some (successor_in item))) 8 Detail.None
+
+-- C09: the item's ManagingLOU isn't the uploader
+abbrev pub c09 : List ℕ → Row → Line
+c09 office item = fails_if (not (bytes_eq (manager_in item) office)) 9 Detail.None
+
+-- ---- the record that is held under the item's LEI, if there is one
+
+-- C10: no record is held and the status isn't ISSUED
+abbrev pub c10 : Option RecCell → Row → Line
+c10 None item = fails_if (not (is_issued (status_in item))) 10 Detail.None
+c10 (Some held) item = fails_if false 10 Detail.None
+
+-- C11: one is held and the pair of statuses isn't permitted; the held status is told
+abbrev pub c11 : Option RecCell → Row → Line
+c11 None item = fails_if false 11 Detail.None
+c11 (Some held) item =
+    fails_if (is_none (party (Some held.status) (status_in item))) 11 (Detail.Status held.status)
+
+-- the party to a change of the held record isn't the office
+abbrev pub is_another : RecCell → List ℕ → Option Party → Bool
+is_another held office None = false
+is_another held office (Some Party.New) = false
+is_another held office (Some Party.Manager) = not (bytes_eq held.manager office)
+is_another held office (Some Party.Receiver) = not (option_map_or (bytes_eq office) held.transfer_to false)
+
+-- C12: one is held, the pair is permitted to its manager (its receiver), and its ManagingLOU (its
+-- TransferTo) isn't the uploader
+abbrev pub c12 : Option RecCell → List ℕ → Row → Line
+c12 None office item = fails_if false 12 Detail.None
+c12 (Some held) office item =
+    fails_if (is_another held office (party (Some held.status) (status_in item))) 12 Detail.None
+
+-- C13: one is held with another InitialRegistrationDate
+abbrev pub c13 : Option RecCell → Row → Line
+c13 None item = fails_if false 13 Detail.None
+c13 (Some held) item = fails_if (not (int_eq held.initial (initial_in item))) 13 Detail.None
+
+-- C14: one is held with a later LastUpdateDate
+abbrev pub c14 : Option RecCell → Row → Line
+c14 None item = fails_if false 14 Detail.None
+c14 (Some held) item = fails_if (int_lt (updated_in item) held.updated) 14 Detail.None
+
+-- C15: the rule on renewal is broken
+abbrev pub c15 : ℤ → Row → Line
+c15 today item = fails_if (not (renewal_fits (status_in item) (day_of (renewal_in item)) today)) 15 Detail.None
+
+-- ---- the other records
+
+-- a code that stands in the way is told
+abbrev pub code_detail : Option (List ℕ) → Detail
+code_detail None = Detail.None
+code_detail (Some lei) = Detail.Code lei
+
+-- C19: the item is live and another live record has its authority key; that record's LEI is told
+abbrev pub c19 : Option (List ℕ) → Row → Line
+c19 other item = fails_if (is_live item && is_some other) 19 (code_detail other)
+
+-- C20: no record is held, and there are as many records as the limit
+abbrev pub c20 : Option RecCell → Bool → Line
+c20 held full = fails_if (is_none held && full) 20 Detail.None
+
+-- ---- the checks in order of their numbers
+
+abbrev pub own_checks : ℤ → List ℕ → Row → List Line
+own_checks today office item = c05 item ∷ c06 item ∷ c07 today item ∷ c08 item ∷ c09 office item ∷ []
+
+abbrev pub held_checks : Option RecCell → ℤ → List ℕ → Row → List Line
+held_checks held today office item =
+    c10 held item ∷ c11 held item ∷ c12 held office item ∷ c13 held item ∷ c14 held item ∷ c15 today item ∷ []
+
+-- the checks before C20, on a table
+abbrev pub earlier_checks : Table → ℤ → List ℕ → Row → List Line
+earlier_checks table today office item =
+    own_checks today office item ++ held_checks (record_of table (lei_in item)) today office item
+    ++ c19 (other_holder table item) item ∷ []
+
+-- the table holds as many records as the limit
+abbrev pub is_full : Table → ℕ → Bool
+is_full table limit = nat_le limit (record_count table)
+
+-- all checks of a record on a table, for an office and a day, where the table may hold so many records
+abbrev pub checks : Table → ℕ → ℤ → List ℕ → Row → List Line
+checks table limit today office item =
+    earlier_checks table today office item ++ c20 (record_of table (lei_in item)) (is_full table limit) ∷ []

@@ -1,0 +1,6 @@
+pub mod Checks
+pub mod Judging
+pub mod Outcomes
+pub mod Overlays
+pub mod Taking
+pub mod Progress

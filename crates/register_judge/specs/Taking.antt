@@ -1,0 +1,69 @@
+-- What an upload's items do to a table, from the first to the last.
+use Rattle.std.specs.Prelude.{ℕ, ◌+◌, ℤ, List, [], ◌∷◌, ◌++◌, Bool, false, ◌&&◌, if◌then◌else◌, Option, Some, None, is_none, ⊤}
+use Rattle.lei_records.specs.declared.check.Check.{Check}
+use Rattle.lei_records.specs.declared.item.Item.{Item}
+use Rattle.lei_records.specs.declared.item.Readied.{Readied}
+use Rattle.lei_records.specs.declared.view.RowKey.{RowKey}
+use Rattle.lei_records.specs.Cells.{lei_in}
+use Rattle.lei_records.specs.Spelled.{IsRow}
+use Rattle.lei_records.specs.Tables.{Table, record_of, put_all}
+use Rattle.register_judge.specs.declared.outcome.Verdict.{Verdict}
+use Rattle.register_judge.specs.Checks.{first_failing, earlier_checks, checks}
+
+-- a check that failed, or none
+abbrev pub verdict_of : Option Check → Verdict
+verdict_of None = Verdict.Accepted
+verdict_of (Some check) = Verdict.Rejected check
+
+-- the verdict on an item: the first of its checks that fails, or that it is accepted. C01 to C04
+-- were asked before: they need no table
+abbrev pub verdict : Table → ℕ → ℤ → List ℕ → Readied → Verdict
+verdict table limit today office (Readied.Bad check) = Verdict.Rejected check
+verdict table limit today office (Readied.Good (Item.Record item)) =
+    verdict_of (first_failing (checks table limit today office item))
+
+-- the key of an item's row
+abbrev pub row_key : Item → RowKey
+row_key (Item.Record item) = RowKey.Rec (lei_in item)
+
+-- what an item with this verdict writes: itself under its key where it is accepted
+abbrev pub writes_of : Verdict → Readied → List (RowKey × Option Item)
+writes_of Verdict.Accepted (Readied.Good item) = (row_key item, Some item) ∷ []
+writes_of verdict item = []
+
+-- an item that comes to C20 while no record of its LEI is held
+abbrev pub is_new : Table → ℤ → List ℕ → Readied → Bool
+is_new table today office (Readied.Bad check) = false
+is_new table today office (Readied.Good (Item.Record item)) =
+    is_none (record_of table (lei_in item)) && is_none (first_failing (earlier_checks table today office item))
+
+-- What came of items: the table behind them, a verdict for each, what the accepted ones wrote, and
+-- how many of them were new.
+pub record Taken : Type 0 where
+  pub table : Table
+  pub verdicts : List Verdict
+  pub writes : List (RowKey × Option Item)
+  pub new_records : ℕ
+
+-- one item's verdict and writes in front of those of the items behind it
+abbrev pub in_front : Verdict → List (RowKey × Option Item) → Bool → Taken → Taken
+in_front verdict writes new rest = record {
+  table = rest.table;
+  verdicts = verdict ∷ rest.verdicts;
+  writes = writes ++ rest.writes;
+  new_records = (if new then 1 else 0) + rest.new_records;
+}
+
+-- from left to right: each item is judged on the table so far, and an accepted item is put
+abbrev pub take : Table → ℕ → ℤ → List ℕ → List Readied → Taken
+take table limit today office [] = record { table = table; verdicts = []; writes = []; new_records = 0 }
+take table limit today office (item ∷ items) =
+    let given = verdict table limit today office item in
+    let writes = writes_of given item in
+    in_front given writes (is_new table today office item) (take (put_all writes table) limit today office items)
+
+-- each item that passed the checks of its fields has the row of a record
+abbrev pub HaveRows : List Readied → Type 0
+HaveRows [] = ⊤
+HaveRows (Readied.Bad check ∷ items) = HaveRows items
+HaveRows (Readied.Good (Item.Record item) ∷ items) = IsRow item × HaveRows items

@@ -1,0 +1,19 @@
+//! The verdicts on an upload's items: each item is judged on the table that the accepted ones before
+//! it left, by the checks C05 to C20. This project's profile.
+#![tactic(auto)]
+
+mod checks;
+mod judge;
+mod judging;
+mod laws;
+mod outcome;
+mod overlay;
+
+pub use checks::{
+    AUTHORITY_KEY_TAKEN, DATE_FUTURE, DATES_ORDER, INITIAL_DATE_CHANGED, MANAGER_NOT_UPLOADER,
+    NOT_ISSUED, NOT_MANAGER, REGISTER_FULL, RENEWAL_DATE, STATUS_ENTITY, SUCCESSOR_SHAPE,
+    TRANSITION, UPDATE_EARLIER,
+};
+pub use judging::judge_all;
+pub use laws::{items_keep_tables_sound, writes_make_the_table};
+pub use outcome::{JudgeStop, Outcome, Verdict};
