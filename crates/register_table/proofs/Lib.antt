@@ -1,0 +1,6 @@
+mod ListLemmas
+mod MapLemmas
+mod TableLemmas
+mod HolderLemmas
+mod UndoLemmas
+mod KeptLemmas
