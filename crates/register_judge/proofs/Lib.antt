@@ -2,3 +2,4 @@ pub mod MapLemmas
 pub mod OverlayLemmas
 pub mod JudgingLemmas
 pub mod TakingLemmas
+pub mod RisingLemmas

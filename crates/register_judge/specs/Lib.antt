@@ -4,3 +4,4 @@ pub mod Outcomes
 pub mod Overlays
 pub mod Taking
 pub mod Progress
+pub mod Rising

@@ -17,3 +17,6 @@ pub use checks::{
 pub use judging::judge_all;
 pub use laws::{items_keep_tables_sound, writes_make_the_table};
 pub use outcome::{JudgeStop, Outcome, Verdict};
+
+#[cfg(test)]
+mod tests;

@@ -1,0 +1,4 @@
+//! Items are judged, from their fields on.
+mod checks;
+mod items;
+mod rows;
