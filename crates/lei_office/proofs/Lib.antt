@@ -1,5 +1,5 @@
-pub mod Tables
-pub mod Judging
+pub mod Passing
+pub mod Registers
 pub mod Answering
 pub mod Histories
 pub mod Orders

@@ -10,20 +10,22 @@ use Rattle.std.proofs.lemmas.Option.{get_or_from_slice_get, slice_get-get_or, sl
 use Rattle.std.proofs.lemmas.Slice.Eq.{bytes_eq-Decides}
 use Rattle.std.specs.Int.{int_max}
 use Rattle.lei_outside.specs.declared.entry.KeptEntry.{KeptEntry}
+use Rattle.lei_office.specs.declared.limits.Limits.{Limits}
 use Rattle.lei_office.specs.declared.request.Call.{Call}
 use Rattle.lei_office.specs.declared.request.Request.TheVariants.{Upload}
 use Rattle.lei_office.specs.History.{History, accredited, ahead, fresh, is_upload_of, last, later, place, place_of_taken, repeat_of, stamp, taken, unknown_office, upload_at, uploads}
 use Rattle.lei_office.specs.Replies.{outcome}
 use Rattle.lei_office.specs.Legal.{IsNext, LegalAfter, Legal, MomentsNeverFall, UploadsAreNumbered, request_of}
+use Rattle.lei_office.specs.State.{OfficeState, office_of}
 use Rattle.lei_office.proofs.Histories.{last_entry-push, request_adds, upload_adds}
 
 -- ---- moments
 
 -- each entry is next after those before it
-next_at : (before front after : History) (e : KeptEntry) → LegalAfter before (front ++ e ∷ after) → IsNext (before ++ front) e
-next_at before [] after e legal = (let P : History → Type 0 = λ h. IsNext h e in subst P (sym (append-nil before)) legal.0)
-next_at before (first ∷ front) after e legal =
-    (let P : History → Type 0 = λ h. IsNext h e in subst P (append_assoc before (first ∷ []) front) (next_at (before ++ first ∷ []) front after e legal.1))
+next_at : (limits : Limits) (before front after : History) (e : KeptEntry) → LegalAfter limits before (front ++ e ∷ after) → IsNext (office_of limits (before ++ front)) e
+next_at limits before [] after e legal = (let P : History → Type 0 = λ h. IsNext (office_of limits h) e in subst P (sym (append-nil before)) legal.0)
+next_at limits before (first ∷ front) after e legal =
+    (let P : History → Type 0 = λ h. IsNext (office_of limits h) e in subst P (append_assoc before (first ∷ []) front) (next_at limits (before ++ first ∷ []) front after e legal.1))
 
 greater-is_above : (x y : ℤ) → x ≤ℤ int_max x y
 greater-is_above x y = by_test (int_lt y x) refl
@@ -32,12 +34,13 @@ greater-is_above x y = by_test (int_lt y x) refl
     by_test true is = ≤ℤ_refl x
     by_test false is = (let N : Bool → Type 0 = λ b. T (not b) in lt_z_no (subst N (sym is) tt))
 
-pub never_fall : (history : History) → Legal history → MomentsNeverFall history
+pub never_fall : (office : OfficeState) → Legal office → MomentsNeverFall office.history
 unfolding Legal
-never_fall history legal before after first second is =
-    let P : History → Type 0 = λ h. LegalAfter [] h in
-    let next = next_at [] (before ++ first ∷ []) after second (subst P (is ∙ sym (append_assoc before (first ∷ []) (second ∷ after))) legal) in
-    let stamped : second.moment ≡ int_max first.moment second.moment = (request_adds (before ++ first ∷ []) next.0 (stamp (before ++ first ∷ []) second.moment) second next.4).at_moment ∙ ap (λ o. later o second.moment) (last_entry-push before first) in
+never_fall office legal before after first second is =
+    let P : History → Type 0 = λ h. LegalAfter office.limits [] h in
+    let next = next_at office.limits [] (before ++ first ∷ []) after second (subst P (is ∙ sym (append_assoc before (first ∷ []) (second ∷ after))) legal) in
+    let stamped : second.moment ≡ int_max first.moment second.moment =
+    (request_adds (office_of office.limits (before ++ first ∷ [])) next.0 (stamp (before ++ first ∷ []) second.moment) second next.4).at_moment ∙ ap (λ o. later o second.moment) (last_entry-push before first) in
     let M : ℤ → Type 0 = λ m. first.moment ≤ℤ m in
     subst M (sym stamped) (greater-is_above first.moment second.moment)
 
@@ -87,17 +90,17 @@ both true true is = (refl, refl)
 both true false is = cc
 both false b is = cc
 
-next-is_numbered : (before : History) (e : KeptEntry) (office : List ℕ) → IsNext before e → is_upload_of office e ≡ true → e.number ≡ last before office + 1
-next-is_numbered before e office next is =
+next-is_numbered : (limits : Limits) (before : History) (e : KeptEntry) (office : List ℕ) → IsNext (office_of limits before) e → is_upload_of office e ≡ true → e.number ≡ last before office + 1
+next-is_numbered limits before e office next is =
     let parts = both (e.kind == 2) (bytes_eq e.office office) is in
     let of_office : e.office ≡ office = (bytes_eq-Decides e.office office).0 parts.1 in
     let call : Call = record { office = e.office; number = e.number; body = e.body } in
     let asked : next.0 ≡ Upload call = (let both : Some next.0 ≡ Some (Upload call) = sym next.1 ∙ upload_request e (eqb-true e.kind 2 parts.0) in cc) in
-    let added = upload_adds before call (stamp before e.moment) e (ap (λ request. outcome before request e.moment) (sym asked) ∙ next.4) in
+    let added = upload_adds (office_of limits before) call (stamp before e.moment) e (ap (λ request. outcome (office_of limits before) request e.moment) (sym asked) ∙ next.4) in
     fresh-is_next before e.office e.number e.body added.0 ∙ ap (λ o. last before o + 1) of_office
 
-numbered-push : (before : History) (e : KeptEntry) → IsNext before e → UploadsAreNumbered before → UploadsAreNumbered (before ++ e ∷ [])
-numbered-push before e next known office place f found = elim (eqb_tells place 0) [
+numbered-push : (limits : Limits) (before : History) (e : KeptEntry) → IsNext (office_of limits before) e → UploadsAreNumbered before → UploadsAreNumbered (before ++ e ∷ [])
+numbered-push limits before e next known office place f found = elim (eqb_tells place 0) [
   | inl none ↦ absurd (let bad : None ≡ Some f = ap (λ b. cond b None (slice_get (uploads (before ++ e ∷ []) office) (place - 1))) (sym none.0) ∙ found in cc)
   | inr some ↦
       let at : slice_get (uploads (before ++ e ∷ []) office) (place - 1) ≡ Some f = ap (λ b. cond b None (slice_get (uploads (before ++ e ∷ []) office) (place - 1))) (sym some.0) ∙ found in
@@ -105,15 +108,15 @@ numbered-push before e next known office place f found = elim (eqb_tells place 0
       elim (of_pushed (uploads before office) (is_upload_of office e) e f (place - 1) (ap (λ us. slice_get us (place - 1)) (sym parts) ∙ at)) [
         | inl older ↦ known office place f (ap (λ b. cond b None (slice_get (uploads before office) (place - 1))) some.0 ∙ older)
         | inr newest ↦
-            let number = next-is_numbered before e office next newest.0 in
+            let number = next-is_numbered limits before e office next newest.0 in
             ap (λ g. g.number) newest.2 ∙ (number ∙ omega (arith, newest.1, some.1))
       ]
 ]
 
-numbered_after : (before rest : History) → LegalAfter before rest → UploadsAreNumbered before → UploadsAreNumbered (before ++ rest)
-numbered_after before [] legal known = (let P : History → Type 0 = λ h. UploadsAreNumbered h in subst P (sym (append-nil before)) known)
-numbered_after before (e ∷ rest) legal known =
-    (let P : History → Type 0 = λ h. UploadsAreNumbered h in subst P (append_assoc before (e ∷ []) rest) (numbered_after (before ++ e ∷ []) rest legal.1 (numbered-push before e legal.0 known)))
+numbered_after : (limits : Limits) (before rest : History) → LegalAfter limits before rest → UploadsAreNumbered before → UploadsAreNumbered (before ++ rest)
+numbered_after limits before [] legal known = (let P : History → Type 0 = λ h. UploadsAreNumbered h in subst P (sym (append-nil before)) known)
+numbered_after limits before (e ∷ rest) legal known =
+    (let P : History → Type 0 = λ h. UploadsAreNumbered h in subst P (append_assoc before (e ∷ []) rest) (numbered_after limits (before ++ e ∷ []) rest legal.1 (numbered-push limits before e legal.0 known)))
 
 numbered_none : UploadsAreNumbered []
 numbered_none office place e found = elim (eqb_tells place 0) [
@@ -121,6 +124,6 @@ numbered_none office place e found = elim (eqb_tells place 0) [
   | inr some ↦ absurd (let bad : None ≡ Some e = sym (slice_get_past (uploads [] office) (place - 1) (omega arith)) ∙ (ap (λ b. cond b None (slice_get (uploads [] office) (place - 1))) (sym some.0) ∙ found) in cc)
 ]
 
-pub numbered : (history : History) → Legal history → UploadsAreNumbered history
+pub numbered : (office : OfficeState) → Legal office → UploadsAreNumbered office.history
 unfolding Legal
-numbered history legal = numbered_after [] history legal numbered_none
+numbered office legal = numbered_after office.limits [] office.history legal numbered_none

@@ -2,8 +2,7 @@
 use Rattle.std.specs.Prelude.{ℕ, List, [], ◌∷◌, codes, map}
 use Rattle.serde_json.specs.Data.{Data, number, unsigned, string, array, object, Items, no_items, item, member, no_members}
 use Rattle.serde_json.specs.Written.{compact_text}
-use Rattle.lei_office.specs.declared.verdict.Verdict.{Verdict}
-use Rattle.lei_office.specs.declared.verdict.Verdict.TheVariants.{Accepted, Rejected}
+use Rattle.register_judge.specs.declared.outcome.Verdict.{Verdict}
 use Rattle.lei_office.specs.Checks.{check_text}
 
 -- what is answered when the office is accredited by the entry of this number
@@ -15,8 +14,8 @@ accreditation_text entry office = compact_text (accreditation_answer entry offic
 
 -- `ACCEPTED`, or the check that fails
 abbrev pub verdict_text : Verdict → List ℕ
-verdict_text Accepted = codes "ACCEPTED"
-verdict_text (Rejected check) = check_text check
+verdict_text Verdict.Accepted = codes "ACCEPTED"
+verdict_text (Verdict.Rejected check) = check_text check
 
 abbrev pub strings : List (List ℕ) → Items
 strings [] = no_items

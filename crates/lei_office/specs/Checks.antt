@@ -1,12 +1,34 @@
 -- How a check that fails is told. This project's profile.
-use Rattle.std.specs.Prelude.{ℕ, List, ◌∷◌, ◌++◌, codes, ◌==◌, if◌then◌else◌, Option, None, Some}
+use Rattle.std.specs.Prelude.{ℕ, List, [], ◌∷◌, ◌++◌, codes, ◌==◌, if◌then◌else◌, Option, None, Some}
 use Rattle.lei_shapes.specs.Lists.{record_status_text}
 use Rattle.lei_records.specs.declared.check.Check.{Check}
 use Rattle.lei_records.specs.declared.check.Detail.{Detail}
 
+-- a name for each number, and the last for those that aren't listed
+abbrev pub name_in : List (ℕ × List ℕ) → List ℕ → ℕ → List ℕ
+name_in [] last code = last
+name_in (named ∷ others) last code = if code == named.0 then named.1 else name_in others last code
+
 -- the check's number and name
 abbrev pub check_name : ℕ → List ℕ
-check_name code = if code == 1 then codes "C01 FIELD_UNKNOWN" else (if code == 2 then codes "C02 FIELD_MISSING" else (if code == 3 then codes "C03 FIELD_SHAPE" else codes "C04 CHECK_DIGITS"))
+check_name = name_in
+    ((1, codes "C01 FIELD_UNKNOWN")
+    ∷ (2, codes "C02 FIELD_MISSING")
+    ∷ (3, codes "C03 FIELD_SHAPE")
+    ∷ (4, codes "C04 CHECK_DIGITS")
+    ∷ (5, codes "C05 STATUS_ENTITY")
+    ∷ (6, codes "C06 DATES_ORDER")
+    ∷ (7, codes "C07 DATE_FUTURE")
+    ∷ (8, codes "C08 SUCCESSOR_SHAPE")
+    ∷ (9, codes "C09 MANAGER_NOT_UPLOADER")
+    ∷ (10, codes "C10 NOT_ISSUED")
+    ∷ (11, codes "C11 TRANSITION")
+    ∷ (12, codes "C12 NOT_MANAGER")
+    ∷ (13, codes "C13 INITIAL_DATE_CHANGED")
+    ∷ (14, codes "C14 UPDATE_EARLIER")
+    ∷ (15, codes "C15 RENEWAL_DATE")
+    ∷ (19, codes "C19 AUTHORITY_KEY_TAKEN")
+    ∷ []) (codes "C20 REGISTER_FULL")
 
 -- what the check names: a field by its name, a status and a code by their texts
 abbrev pub named : Detail → Option (List ℕ)

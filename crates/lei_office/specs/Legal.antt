@@ -11,7 +11,9 @@ use Rattle.lei_office.specs.declared.request.Request.TheVariants.{Accredit, Show
 use Rattle.lei_office.specs.declared.reply.Refusal.TheVariants.{NoMemory}
 use Rattle.lei_office.specs.declared.reply.Reply.{Reply}
 use Rattle.lei_office.specs.declared.reply.Reply.TheVariants.{Words}
+use Rattle.lei_office.specs.declared.limits.Limits.{Limits}
 use Rattle.lei_office.specs.History.{History, upload_at}
+use Rattle.lei_office.specs.State.{OfficeState, office_of}
 use Rattle.lei_office.specs.Replies.{adds, next, outcome, reply, Step}
 
 -- the number of an upload lies from 1 to 1,000,000
@@ -38,18 +40,18 @@ abbrev pub request_of : KeptEntry → Option Request
 request_of e = if e.kind == ACCREDIT then Some (Accredit e.office)
     else (if e.kind == UPLOAD then Some (Upload (record { office = e.office; number = e.number; body = e.body })) else None)
 
--- the entry is what its own request adds to the history before it, at its own moment
-abbrev pub IsNext : History → KeptEntry → Type 0
+-- the entry is what its own request adds to the office before it, at its own moment
+abbrev pub IsNext : OfficeState → KeptEntry → Type 0
 IsNext before e = (request : Request) × (request_of e ≡ Some request) × IsRequest request × IsMoment e.moment × (outcome before request e.moment ≡ adds e)
 
 -- each entry of the rest is next after those before it
-abbrev pub LegalAfter : History → History → Type 0
-LegalAfter before [] = Unit {0}
-LegalAfter before (e ∷ rest) = IsNext before e × LegalAfter (before ++ e ∷ []) rest
+abbrev pub LegalAfter : Limits → History → History → Type 0
+LegalAfter limits before [] = Unit {0}
+LegalAfter limits before (e ∷ rest) = IsNext (office_of limits before) e × LegalAfter limits (before ++ e ∷ []) rest
 
--- each entry is what its own request adds to the entries before it
-unfoldable pub Legal : History → Type 0
-Legal history = LegalAfter [] history
+-- each entry is what its own request adds to the entries before it, under the limits
+unfoldable pub Legal : OfficeState → Type 0
+Legal office = LegalAfter office.limits [] office.history
 
 -- the moment of no entry is later than that of the next one
 abbrev pub MomentsNeverFall : History → Type 0
@@ -63,22 +65,22 @@ UploadsAreNumbered history = (office : List ℕ) (place : ℕ) (e : KeptEntry) �
 
 -- A refusal of the reader is its own reply, and takes no moment. A request takes one, and makes a step; or want of
 -- memory is answered in place of one that couldn't be read for it, which takes none.
-abbrev pub AskStep : History → Asked → List ℤ → Reply → History → Type 0
+abbrev pub AskStep : OfficeState → Asked → List ℤ → Reply → OfficeState → Type 0
 AskStep old (Refuse refusal) moments answered new = (moments ≡ []) × (answered ≡ Words refusal) × (new ≡ old)
 AskStep old (Ask request) moments answered new =
     ((m : ℤ) × (moments ≡ m ∷ []) × Step old request m answered new) ⊎ ((moments ≡ []) × (answered ≡ Words NoMemory) × (new ≡ old))
 
--- these replies answer what was asked, in order, at these moments, from one history to the other
-abbrev pub Session : History → List Asked → List ℤ → List Reply → History → Type 0
+-- these replies answer what was asked, in order, at these moments, from one office to the other
+abbrev pub Session : OfficeState → List Asked → List ℤ → List Reply → OfficeState → Type 0
 Session old [] moments [] new = (moments ≡ []) × (new ≡ old)
 Session old [] moments (answered ∷ replies) new = ⊥
 Session old (asked ∷ asks) moments [] new = ⊥
 Session old (asked ∷ asks) moments (answered ∷ replies) new =
-    (taken : List ℤ) × (rest : List ℤ) × (between : History) × (moments ≡ taken ++ rest) × AskStep old asked taken answered between × Session between asks rest replies new
+    (taken : List ℤ) × (rest : List ℤ) × (between : OfficeState) × (moments ≡ taken ++ rest) × AskStep old asked taken answered between × Session between asks rest replies new
 
 -- The replies where memory is never wanting. Where the moments run out, nothing more is answered.
-abbrev pub replies_to : History → List Asked → List ℤ → List Reply
-replies_to history [] moments = []
-replies_to history (Refuse refusal ∷ asks) moments = Words refusal ∷ replies_to history asks moments
-replies_to history (Ask request ∷ asks) [] = []
-replies_to history (Ask request ∷ asks) (m ∷ moments) = reply history request m ∷ replies_to (next history request m) asks moments
+abbrev pub replies_to : OfficeState → List Asked → List ℤ → List Reply
+replies_to office [] moments = []
+replies_to office (Refuse refusal ∷ asks) moments = Words refusal ∷ replies_to office asks moments
+replies_to office (Ask request ∷ asks) [] = []
+replies_to office (Ask request ∷ asks) (m ∷ moments) = reply office request m ∷ replies_to (next office request m) asks moments

@@ -1,11 +1,16 @@
 -- What is answered to a request, and what is added for it: both are read off one outcome.
-use Rattle.std.specs.Prelude.{◌≡◌, ◌⊎◌, ℕ, ℤ, ◌+◌, List, [], ◌∷◌, ◌++◌, length, Bool, true, false, nat_lt, if◌then◌else◌, IsTrue, Option, Some, None, Result, Ok, Err}
+use Rattle.std.specs.Prelude.{◌≡◌, ◌⊎◌, ℕ, ℤ, ◌+◌, List, [], ◌∷◌, ◌++◌, length, map, Bool, true, false, nat_lt, if◌then◌else◌, IsTrue, Option, Some, None, Result, Ok, Err}
 use Rattle.lei_outside.specs.declared.entry.KeptEntry.{KeptEntry}
 use Rattle.lei_outside.specs.declared.faults.NoMemory.{NoMemory as NoMemoryError}
 use Rattle.upload_format.specs.Bodies.{upload}
 use Rattle.upload_format.specs.declared.fault.Malformed.{Malformed}
+use Rattle.lei_shapes.specs.Moment.{day_of}
+use Rattle.lei_records.specs.Items.{ready}
 use Rattle.lei_records.specs.Rows.{Row}
+use Rattle.lei_records.specs.Tables.{row_at}
 use Rattle.lei_records.specs.declared.item.RawItem.{RawItem}
+use Rattle.register_judge.specs.Taking.{take}
+use Rattle.register_judge.specs.declared.outcome.Verdict.{Verdict}
 use Rattle.lei_office.specs.declared.ledger.TheConstants.{ACCREDIT, UPLOAD, RULES}
 use Rattle.lei_office.specs.declared.request.Call.{Call}
 use Rattle.lei_office.specs.declared.request.Request.{Request}
@@ -16,10 +21,10 @@ use Rattle.lei_office.specs.declared.reply.Refusal.TheVariants.{TooLong, NoRoute
 use Rattle.lei_office.specs.declared.reply.Refusal.TheVariants as refusals
 use Rattle.lei_office.specs.declared.reply.Reply.{Reply}
 use Rattle.lei_office.specs.declared.reply.Reply.TheVariants.{Text, Words}
-use Rattle.lei_office.specs.declared.verdict.Verdict.{Verdict}
 use Rattle.lei_office.specs.History.{History, accredited, Place, unknown_office, repeat_of, taken, ahead, fresh, place, stamp}
 use Rattle.lei_office.specs.Answers.{accreditation_text, upload_text}
-use Rattle.lei_office.specs.Register.{after, held, take_items}
+use Rattle.lei_office.specs.Register.{after}
+use Rattle.lei_office.specs.State.{OfficeState}
 use Rattle.lei_office.specs.Shown.{record_text}
 
 -- A request leaves the history, and has this reply; or it adds this entry, and has the entry's reply.
@@ -56,9 +61,10 @@ upload_entry history call moment verdicts =
       answer = upload_text number call.office call.number verdicts;
     }
 
--- the items are judged on the table after the history
-abbrev pub taken_upload : History → Call → ℤ → List RawItem → KeptEntry
-taken_upload history call moment items = upload_entry history call moment (take_items (after history) items).1
+-- the items are judged on the table after the history, on the day of the moment
+abbrev pub taken_upload : OfficeState → Call → ℤ → List RawItem → KeptEntry
+taken_upload office call moment raws =
+    upload_entry office.history call moment (take (after office.limits office.history) office.limits.records (day_of moment) call.office (map ready raws)).verdicts
 
 -- ---- what a request comes to
 
@@ -68,21 +74,23 @@ accredit_outcome history office moment None = adds (accreditation history office
 accredit_outcome history office moment (Some text) = stays (json_reply text)
 
 -- a body that is no upload takes no number
-abbrev pub body_outcome : History → Call → ℤ → Result (List RawItem) Malformed → Outcome
-body_outcome history call moment (Ok items) = adds (taken_upload history call moment items)
-body_outcome history call moment (Err fault) = stays (Words (refusals.Malformed fault))
+abbrev pub body_outcome : OfficeState → Call → ℤ → Result (List RawItem) Malformed → Outcome
+body_outcome office call moment (Ok raws) = adds (taken_upload office call moment raws)
+body_outcome office call moment (Err fault) = stays (Words (refusals.Malformed fault))
 
 -- a repeat gets the answer that was kept, at any later place
-abbrev pub place_outcome : History → Call → ℤ → Place → Outcome
-place_outcome history call moment unknown_office = stays (Words IssuerUnknown)
-place_outcome history call moment (repeat_of answer) = stays (json_reply answer)
-place_outcome history call moment taken = stays (Words NumberTaken)
-place_outcome history call moment (ahead next) = stays (Words (NumberAhead next))
-place_outcome history call moment fresh = body_outcome history call moment (upload call.body)
+abbrev pub place_outcome : OfficeState → Call → ℤ → Place → Outcome
+place_outcome office call moment unknown_office = stays (Words IssuerUnknown)
+place_outcome office call moment (repeat_of answer) = stays (json_reply answer)
+place_outcome office call moment taken = stays (Words NumberTaken)
+place_outcome office call moment (ahead next) = stays (Words (NumberAhead next))
+place_outcome office call moment fresh = body_outcome office call moment (upload call.body)
 
--- a body has at most 4 MiB
-unfoldable pub upload_outcome : History → Call → ℤ → Outcome
-upload_outcome history call moment = if nat_lt 4_194_304 (length call.body) then stays (Words TooLong) else place_outcome history call moment (place history call.office call.number call.body)
+-- a body is no longer than the limit
+unfoldable pub upload_outcome : OfficeState → Call → ℤ → Outcome
+upload_outcome office call moment =
+    if nat_lt office.limits.body (length call.body) then stays (Words TooLong)
+    else place_outcome office call moment (place office.history call.office call.number call.body)
 
 -- a record is shown as it is held
 abbrev pub show_outcome : Option Row → Outcome
@@ -90,14 +98,14 @@ show_outcome None = stays (Words LeiUnknown)
 show_outcome (Some row) = stays (json_reply (record_text row))
 
 -- where an entry that is added has this moment
-abbrev pub outcome_at : History → Request → ℤ → Outcome
-outcome_at history (requests.Accredit office) moment = accredit_outcome history office moment (accredited history office)
-outcome_at history (requests.Upload call) moment = upload_outcome history call moment
-outcome_at history (requests.Show lei) moment = show_outcome (held (after history) lei)
+abbrev pub outcome_at : OfficeState → Request → ℤ → Outcome
+outcome_at office (requests.Accredit lei) moment = accredit_outcome office.history lei moment (accredited office.history lei)
+outcome_at office (requests.Upload call) moment = upload_outcome office call moment
+outcome_at office (requests.Show lei) moment = show_outcome (row_at (after office.limits office.history) lei)
 
 -- where the request comes at this moment of the clock
-abbrev pub outcome : History → Request → ℤ → Outcome
-outcome history request moment = outcome_at history request (stamp history moment)
+abbrev pub outcome : OfficeState → Request → ℤ → Outcome
+outcome office request moment = outcome_at office request (stamp office.history moment)
 
 -- ---- the reply and the next history
 
@@ -105,15 +113,19 @@ abbrev pub reply_of : Outcome → Reply
 reply_of (stays reply) = reply
 reply_of (adds e) = told e
 
-abbrev pub next_of : History → Outcome → History
-next_of history (stays reply) = history
-next_of history (adds e) = history ++ e ∷ []
+abbrev pub history_after : History → Outcome → History
+history_after history (stays reply) = history
+history_after history (adds e) = history ++ e ∷ []
 
-abbrev pub reply : History → Request → ℤ → Reply
-reply history request moment = reply_of (outcome history request moment)
+-- the office after an outcome: its limits stay
+abbrev pub next_of : OfficeState → Outcome → OfficeState
+next_of office outcome = record office { history = history_after office.history outcome }
 
-abbrev pub next : History → Request → ℤ → History
-next history request moment = next_of history (outcome history request moment)
+abbrev pub reply : OfficeState → Request → ℤ → Reply
+reply office request moment = reply_of (outcome office request moment)
+
+abbrev pub next : OfficeState → Request → ℤ → OfficeState
+next office request moment = next_of office (outcome office request moment)
 
 -- ---- one step, which want of memory may stop
 
@@ -133,16 +145,16 @@ abbrev pub takes_memory : Reply → Bool
 takes_memory (Text code kind text) = true
 takes_memory (Words refusal) = needs_memory refusal
 
--- The request's reply, and the history after it. Where the reply takes memory, its want may be answered in its
+-- The request's reply, and the office after it. Where the reply takes memory, its want may be answered in its
 -- place, and then nothing changes.
-abbrev pub StepOf : Outcome → History → Reply → History → Type 0
+abbrev pub StepOf : Outcome → OfficeState → Reply → OfficeState → Type 0
 StepOf outcome old answered new = ((answered ≡ reply_of outcome) × (new ≡ next_of old outcome))
     ⊎ ((answered ≡ Words NoMemory) × (new ≡ old) × IsTrue (takes_memory (reply_of outcome)))
 
-abbrev pub Step : History → Request → ℤ → Reply → History → Type 0
+abbrev pub Step : OfficeState → Request → ℤ → Reply → OfficeState → Type 0
 Step old request moment answered new = StepOf (outcome old request moment) old answered new
 
 -- what a part of an office answers: the reply and the history after it, or want of memory where the reply takes it
 abbrev pub Comes : Outcome → History → Result Reply NoMemoryError → History → Type 0
-Comes outcome old (Ok answered) new = (answered ≡ reply_of outcome) × (new ≡ next_of old outcome)
+Comes outcome old (Ok answered) new = (answered ≡ reply_of outcome) × (new ≡ history_after old outcome)
 Comes outcome old (Err wanted) new = (new ≡ old) × IsTrue (takes_memory (reply_of outcome))

@@ -1,13 +1,29 @@
-// How a check that fails is told.
+// How what became of an item is told.
 ghost use Rattle.std.specs.Prelude.{◌≡◌, IfOk, option_map, string_bytes};
+ghost use Rattle.lei_office.specs.Answers.{verdict_text};
 ghost use Rattle.lei_office.specs.Checks.{check_name, check_text, named};
 
 use lei_outside::NoMemory;
-use lei_records::{Check, Detail, FIELD_MISSING, FIELD_SHAPE, FIELD_UNKNOWN};
+use lei_records::{CHECK_DIGITS, Check, Detail, FIELD_MISSING, FIELD_SHAPE, FIELD_UNKNOWN};
+use register_judge::{
+    AUTHORITY_KEY_TAKEN, DATE_FUTURE, DATES_ORDER, INITIAL_DATE_CHANGED, MANAGER_NOT_UPLOADER,
+    NOT_ISSUED, NOT_MANAGER, RENEWAL_DATE, STATUS_ENTITY, SUCCESSOR_SHAPE, TRANSITION,
+    UPDATE_EARLIER, Verdict,
+};
 use std::alloc::Global;
 
+// `ACCEPTED`, or the text of the check that fails.
+pub fn verdict_text(alloc: Global, verdict: &Verdict) -> Result<String, NoMemory>
+    ensures { IfOk result (λ text. string_bytes text ≡ verdict_text verdict.now) }
+{
+    match verdict {
+        Verdict::Accepted => Ok(String::from_str(alloc, "ACCEPTED")?),
+        Verdict::Rejected(check) => check_text(alloc, check),
+    }
+}
+
 // The check's number and name, and after a space what it names.
-pub fn check_text(alloc: Global, check: &Check) -> Result<String, NoMemory>
+fn check_text(alloc: Global, check: &Check) -> Result<String, NoMemory>
     ensures { IfOk result (λ text. string_bytes text ≡ check_text check.now) }
 {
     let name = check_name(check.code);
@@ -24,7 +40,20 @@ fn check_name(code: u8) -> &'static str
         FIELD_UNKNOWN => "C01 FIELD_UNKNOWN",
         FIELD_MISSING => "C02 FIELD_MISSING",
         FIELD_SHAPE => "C03 FIELD_SHAPE",
-        _ => "C04 CHECK_DIGITS",
+        CHECK_DIGITS => "C04 CHECK_DIGITS",
+        STATUS_ENTITY => "C05 STATUS_ENTITY",
+        DATES_ORDER => "C06 DATES_ORDER",
+        DATE_FUTURE => "C07 DATE_FUTURE",
+        SUCCESSOR_SHAPE => "C08 SUCCESSOR_SHAPE",
+        MANAGER_NOT_UPLOADER => "C09 MANAGER_NOT_UPLOADER",
+        NOT_ISSUED => "C10 NOT_ISSUED",
+        TRANSITION => "C11 TRANSITION",
+        NOT_MANAGER => "C12 NOT_MANAGER",
+        INITIAL_DATE_CHANGED => "C13 INITIAL_DATE_CHANGED",
+        UPDATE_EARLIER => "C14 UPDATE_EARLIER",
+        RENEWAL_DATE => "C15 RENEWAL_DATE",
+        AUTHORITY_KEY_TAKEN => "C19 AUTHORITY_KEY_TAKEN",
+        _ => "C20 REGISTER_FULL",
     }
 }
 

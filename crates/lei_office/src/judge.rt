@@ -1,33 +1,61 @@
 // What an upload's items come to.
-ghost use Rattle.std.specs.Prelude.{IfOk};
-ghost use Rattle.lei_office.specs.Judging.{Judges};
+ghost use Rattle.std.specs.Prelude.{◌≡◌, ◌≤◌, IfOk, length, map};
+ghost use Rattle.lei_shapes.specs.Moment.{IsMoment, day_of};
+ghost use Rattle.lei_records.specs.Items.{ready as ready_of};
+ghost use Rattle.lei_records.specs.Tables.{record_count};
+ghost use Rattle.register_judge.specs.Taking.{take};
+ghost use Rattle.lei_office.specs.Judging.{ShowsTaken};
 
-use crate::verdict::Verdict;
+use lei_code::Lei;
 use lei_outside::NoMemory;
-use lei_records::{Item, RawItem, Readied, Record, ready};
+use lei_records::{RawItem, Readied, ready};
+use lei_shapes::Moment;
+use register_judge::{JudgeStop, Outcome, judge_all};
+use register_table::Table;
 use std::alloc::Global;
 
-// The verdict on each item, and the records that were accepted, both in order.
-#[derive(Drop)]
-pub struct Judged {
-    pub verdicts: Vec<Verdict>,
-    pub writes: Vec<Record>,
+// Judges the items of an office's upload on the table, on the day of the moment, where the table may hold so many
+// records.
+pub fn judge(
+    alloc: Global,
+    table: &Table,
+    records: u32,
+    office: &Lei,
+    moment: i64,
+    raws: &[RawItem],
+) -> Result<Outcome, NoMemory>
+    requires count { length raws.now ≤ 5000 }
+    requires moment { IsMoment moment }
+    requires fits { record_count table.now ≤ records }
+    ensures { IfOk result (λ outcome. ShowsTaken outcome (take table.now records (day_of moment) office.now (map ready_of raws.now))) }
+{
+    let items = ready_all(alloc, raws)?;
+    let room = records.saturating_sub(table.held());
+    match judge_all(alloc, table, room, office, day(moment), items.as_slice()) {
+        Ok(outcome) => Ok(outcome),
+        Err(JudgeStop::NoMemory) => Err(NoMemory),
+        Err(JudgeStop::NeedCell(_)) => unreachable!(),
+    }
 }
 
-// Judges items from left to right.
-pub fn judge(alloc: Global, items: &[RawItem]) -> Result<Judged, NoMemory>
-    ensures { IfOk result (Judges items.now) }
+// Asks the checks of each item's fields.
+fn ready_all(alloc: Global, raws: &[RawItem]) -> Result<Vec<Readied>, NoMemory>
+    ensures { IfOk result (λ items. items.items ≡ map ready_of raws.now) }
 {
-    let mut verdicts = Vec::with_capacity(alloc, items.len())?;
-    let mut writes = Vec::new(alloc);
-    for item in items {
-        match ready(alloc, item)? {
-            Readied::Good(Item::Record(record)) => {
-                writes.push(record)?;
-                verdicts.push(Verdict::Accepted)?;
-            }
-            Readied::Bad(check) => verdicts.push(Verdict::Rejected(check))?,
-        }
+    let mut items = Vec::with_capacity(alloc, raws.len())?;
+    for raw in raws {
+        items.push(ready(alloc, raw)?)?;
     }
-    Ok(Judged { verdicts, writes })
+    Ok(items)
+}
+
+// The number of the moment's day in UTC, where 1970-01-01 is 0.
+fn day(moment: i64) -> i32
+    requires { IsMoment moment }
+    ensures { result ≡ day_of moment }
+{
+    match Moment::of(moment) {
+        Some(moment) => moment.day(),
+        None => unreachable!(),
+    }
 }

@@ -1,24 +1,37 @@
 //! Laws of the definitions. Each is the contract of a function that does nothing.
 ghost use Rattle.std.specs.Prelude.{◌≡◌, ℤ, List, Contains};
+ghost use Rattle.lei_records.specs.Tables.{IsSound};
 ghost use Rattle.lei_office.specs.declared.reply.Refusal.TheVariants.{NoMemory};
 ghost use Rattle.lei_office.specs.declared.reply.Reply.{Reply};
 ghost use Rattle.lei_office.specs.declared.reply.Reply.TheVariants.{Words};
 ghost use Rattle.lei_office.specs.declared.request.Asked.{Asked};
-ghost use Rattle.lei_office.specs.History.{History};
 ghost use Rattle.lei_office.specs.Legal.{Legal, MomentsNeverFall, Session, UploadsAreNumbered, replies_to};
+ghost use Rattle.lei_office.specs.Parties.{ChangesArePermitted};
+ghost use Rattle.lei_office.specs.Register.{after};
+ghost use Rattle.lei_office.specs.State.{OfficeState};
 
 /// In a history that can come about no entry's moment is later than that of the next one.
 pub fn moments_never_fall()
-    ensures { (history : History) → Legal history → MomentsNeverFall history }
+    ensures { (office : OfficeState) → Legal office → MomentsNeverFall office.history }
 {}
 
 /// In a history that can come about each office's uploads have the numbers 1, 2, 3 and so on.
 pub fn uploads_are_numbered()
-    ensures { (history : History) → Legal history → UploadsAreNumbered history }
+    ensures { (office : OfficeState) → Legal office → UploadsAreNumbered office.history }
+{}
+
+/// In a register that can come about no two live records have the same authority key.
+pub fn registers_are_sound()
+    ensures { (office : OfficeState) → Legal office → IsSound (after office.limits office.history) }
+{}
+
+/// In a history that can come about each change of a record was permitted to the office that sent it.
+pub fn changes_are_permitted()
+    ensures { (office : OfficeState) → Legal office → ChangesArePermitted office }
 {}
 
 /// Where want of memory is never answered, the replies are those that the requests and their moments determine.
 pub fn sessions_are_exact()
-    ensures { (old new : History) (asks : List Asked) (moments : List ℤ) (replies : List Reply) →
+    ensures { (old new : OfficeState) (asks : List Asked) (moments : List ℤ) (replies : List Reply) →
         Session old asks moments replies new → ¬ (Contains replies (Words NoMemory)) → replies ≡ replies_to old asks moments }
 {}

@@ -5,17 +5,19 @@ mod check;
 mod judge;
 mod laws;
 mod ledger;
+mod limits;
 mod office;
 mod reply;
 mod request;
 mod show;
-mod table;
 mod texts;
-mod verdict;
 
-pub use laws::{moments_never_fall, sessions_are_exact, uploads_are_numbered};
+pub use laws::{
+    changes_are_permitted, moments_never_fall, registers_are_sound, sessions_are_exact,
+    uploads_are_numbered,
+};
 pub use ledger::{ACCREDIT, RULES, UPLOAD};
+pub use limits::Limits;
 pub use office::Office;
 pub use reply::{Kind, Refusal, Reply};
-pub use request::{Asked, Call, MAX_BODY, MAX_NUMBER, Request, is_upload_number};
-pub use verdict::Verdict;
+pub use request::{Asked, Call, MAX_NUMBER, Request, is_upload_number};

@@ -1,60 +1,79 @@
 //! One caller's register.
-ghost use Rattle.std.specs.Prelude.{◌≡◌, ◌+◌, [], length, IfOk};
+ghost use Rattle.std.specs.Prelude.{◌≡◌, ◌+◌, length, IfOk};
 ghost use Rattle.lei_code.specs.Code.{IsValid};
+ghost use Rattle.lei_shapes.specs.Moment.{IsMoment};
+ghost use Rattle.lei_records.specs.Tables.{IsSound, row_at};
 ghost use Rattle.upload_format.specs.Bodies.{upload as items_of};
 ghost use Rattle.lei_office.specs.History.{History, accredited};
 ghost use Rattle.lei_office.specs.Replies.{Comes, Step, json_reply, outcome_at, show_outcome, accreditation, accredit_outcome, upload_entry, body_outcome, upload_outcome};
 ghost use Rattle.lei_office.specs.Legal.{IsNumbered, IsRequest, Legal};
-ghost use Rattle.lei_office.specs.Register.{after, held};
+ghost use Rattle.lei_office.specs.Limits.{AreLimits};
+ghost use Rattle.lei_office.specs.Parties.{ChangesArePermitted};
+ghost use Rattle.lei_office.specs.Register.{after};
+ghost use Rattle.lei_office.specs.State.{office_of, opened};
 
 use crate::judge::judge;
 use crate::ledger::{ACCREDIT, Place, RULES, UPLOAD, accredited, place_of, stamp};
+use crate::limits::Limits;
 use crate::reply::{Kind, Refusal, Reply};
-use crate::request::{Call, MAX_BODY, Request};
+use crate::request::{Call, Request};
 use crate::show::record_text;
-use crate::table::{held, put_all};
 use crate::texts::{accreditation_text, upload_text};
-use crate::verdict::Verdict;
 use lei_code::Lei;
 use lei_outside::{Bytes, KeptEntry, NoMemory};
-use lei_records::Record;
 use lei_shapes::Moment;
+use register_judge::Verdict;
+use register_table::Table;
 use std::alloc::Global;
 use std::marker::Model;
 use std::thread::Threads;
 use upload_format::{UploadFault, read_upload};
 
-/// The register of one caller at a time. Contracts see it as its history, the list of the entries that it took.
+/// The register of one caller at a time. Contracts see it as its limits with its history, the list of the entries
+/// that it took.
 #[derive(Drop)]
 pub struct Office {
     alloc: Global,
+    limits: Limits,
     entries: Vec<KeptEntry>,
-    rows: Vec<Record>,
+    table: Table,
 }
 
 impl Model for Office {
     ghost use Rattle.std.specs.Prelude.{◌≡◌};
-    ghost use Rattle.lei_office.specs.History.{History};
     ghost use Rattle.lei_office.specs.Legal.{Legal};
-    ghost use Rattle.lei_office.specs.Register.{after, held};
+    ghost use Rattle.lei_office.specs.Limits.{AreLimits};
+    ghost use Rattle.lei_office.specs.Register.{after};
+    ghost use Rattle.lei_office.specs.State.{OfficeState, office_of};
 
-    ghost Value = { History };
+    ghost Value = { OfficeState };
 
-    ghost view = { λ office. office.entries.items };
+    ghost view = { λ office. office_of office.limits office.entries.items };
 
-    ghost invariant = { λ office. Legal office.entries.items × (office.rows.items ≡ after office.entries.items) };
+    ghost invariant = { λ office. AreLimits office.limits × Legal (office_of office.limits office.entries.items)
+        × (office.table ≡ after office.limits office.entries.items) };
 }
 
 impl Office {
     /// An office with no history.
-    pub fn new(alloc: Global) -> Result<Self, NoMemory>
-        ensures { IfOk result (λ office. office ≡ []) }
+    pub fn new(alloc: Global, limits: Limits) -> Result<Self, NoMemory>
+        requires { AreLimits limits }
+        ensures { IfOk result (λ office. office ≡ opened limits) }
     {
         Ok(Office {
             alloc,
+            limits,
             entries: Vec::new(alloc),
-            rows: Vec::new(alloc),
+            table: Table::new(alloc)?,
         })
+    }
+
+    /// What it takes at most. No call changes that.
+    pub fn limits(&self) -> Limits
+        ensures value { result ≡ self.now.limits }
+        ensures limits { AreLimits result }
+    {
+        self.limits
     }
 
     /// Answers a request that came at this moment, by one step of the history. An entry that is added has the
@@ -63,10 +82,19 @@ impl Office {
         requires { IsNumbered request.now }
         ensures step { Step self.old request.now moment result self.new }
         ensures legal { Legal self.new }
+        ensures sound { IsSound (after self.new.limits self.new.history) }
+        ensures permitted { ChangesArePermitted self.new }
     {
         let moment = stamp(self.entries.as_slice(), moment);
-        let entries = &mut self.entries;
-        match reply_to(self.alloc, entries, &mut self.rows, request, moment) {
+        let (limits, entries) = (self.limits, &mut self.entries);
+        match reply_to(
+            self.alloc,
+            limits,
+            entries,
+            &mut self.table,
+            request,
+            moment,
+        ) {
             Ok(reply) => reply,
             Err(NoMemory) => Reply::Words(Refusal::NoMemory),
         }
@@ -77,21 +105,23 @@ impl Office {
 
 fn reply_to(
     alloc: Global,
+    limits: Limits,
     entries: &mut Vec<KeptEntry>,
-    rows: &mut Vec<Record>,
+    table: &mut Table,
     request: &Request,
     moment: i64,
 ) -> Result<Reply, NoMemory>
     requires numbered { IsNumbered request.now }
-    requires table { rows.old.items ≡ after entries.old.items }
-    ensures step { Comes (outcome_at entries.old.items request.now moment) entries.old.items result entries.new.items }
-    ensures table { rows.new.items ≡ after entries.new.items }
+    requires moment { IsMoment moment }
+    requires table { table.old ≡ after limits entries.old.items }
+    ensures step { Comes (outcome_at (office_of limits entries.old.items) request.now moment) entries.old.items result entries.new.items }
+    ensures table { table.new ≡ after limits entries.new.items }
     ensures request { IsRequest request.now }
 {
     match request {
         Request::Accredit(office) => accredit(alloc, entries, office, moment),
-        Request::Upload(call) => upload(alloc, entries, rows, call, moment),
-        Request::Show(lei) => show(alloc, rows, lei),
+        Request::Upload(call) => upload(alloc, limits, entries, table, call, moment),
+        Request::Show(lei) => show(alloc, table, lei),
     }
 }
 
@@ -113,11 +143,13 @@ fn json_reply(text: Bytes) -> Reply
 }
 
 // Shows the record of this code, and changes nothing.
-fn show(alloc: Global, rows: &[Record], lei: &Lei) -> Result<Reply, NoMemory>
-    ensures step { (history : History) → Comes (show_outcome (held rows.now lei.now)) history result history }
+fn show(alloc: Global, table: &Table, lei: &Lei) -> Result<Reply, NoMemory>
+    ensures step { (history : History) → Comes (show_outcome (row_at table.now lei.now)) history result history }
     ensures code { IsValid lei.now }
 {
-    match held(rows, lei.as_bytes()) {
+    // What is asked for is a code.
+    let _ = lei.as_bytes();
+    match table.show(lei) {
         Some(record) => Ok(json_reply(record_text(alloc, record)?)),
         None => Ok(Reply::Words(Refusal::LeiUnknown)),
     }
@@ -166,18 +198,20 @@ fn accreditation(
 #[tactic(auto, unfolding(crate::specs::Replies::upload_outcome))]
 fn upload(
     alloc: Global,
+    limits: Limits,
     entries: &mut Vec<KeptEntry>,
-    rows: &mut Vec<Record>,
+    table: &mut Table,
     call: &Call,
     moment: i64,
 ) -> Result<Reply, NoMemory>
-    requires { rows.old.items ≡ after entries.old.items }
-    ensures step { Comes (upload_outcome entries.old.items call.now moment) entries.old.items result entries.new.items }
-    ensures table { rows.new.items ≡ after entries.new.items }
+    requires moment { IsMoment moment }
+    requires table { table.old ≡ after limits entries.old.items }
+    ensures step { Comes (upload_outcome (office_of limits entries.old.items) call.now moment) entries.old.items result entries.new.items }
+    ensures table { table.new ≡ after limits entries.new.items }
     ensures code { IsValid call.now.office }
 {
     let office = call.office.as_bytes();
-    if call.body.len() > MAX_BODY {
+    if call.body.len() as u64 > limits.body {
         return Ok(Reply::Words(Refusal::TooLong));
     }
     match place_of(entries, office, call.number, call.body.as_slice()) {
@@ -185,35 +219,37 @@ fn upload(
         Place::Repeat(answer) => kept_reply(alloc, answer),
         Place::Taken => Ok(Reply::Words(Refusal::NumberTaken)),
         Place::Ahead(next) => Ok(Reply::Words(Refusal::NumberAhead(next))),
-        Place::Fresh => take_upload(alloc, entries, rows, call, moment),
+        Place::Fresh => take_upload(alloc, limits, entries, table, call, moment),
     }
 }
 
+// The table changes last, and after it nothing fails.
 fn take_upload(
     alloc: Global,
+    limits: Limits,
     entries: &mut Vec<KeptEntry>,
-    rows: &mut Vec<Record>,
+    table: &mut Table,
     call: &Call,
     moment: i64,
 ) -> Result<Reply, NoMemory>
-    requires { rows.old.items ≡ after entries.old.items }
-    ensures step { Comes (body_outcome entries.old.items call.now moment (items_of call.now.body))
+    requires moment { IsMoment moment }
+    requires table { table.old ≡ after limits entries.old.items }
+    ensures step { Comes (body_outcome (office_of limits entries.old.items) call.now moment (items_of call.now.body))
         entries.old.items result entries.new.items }
-    ensures table { rows.new.items ≡ after entries.new.items }
+    ensures table { table.new ≡ after limits entries.new.items }
 {
     let upload = match read_upload(alloc, call.body.as_slice()) {
         Ok(upload) => upload,
         Err(UploadFault::Malformed(fault)) => return Ok(Reply::Words(Refusal::Malformed(fault))),
         Err(UploadFault::NoMemory) => return Err(NoMemory),
     };
-    let judged = judge(alloc, upload.items.as_slice())?;
-    let before = entries.as_slice();
-    let verdicts = judged.verdicts.as_slice();
-    let entry = taken_upload(alloc, before, call, moment, verdicts)?;
+    let (records, office, items) = (limits.records, &call.office, upload.items.as_slice());
+    let judged = judge(alloc, table, records, office, moment, items)?;
+    let entry = taken_upload(alloc, entries, call, moment, judged.verdicts.as_slice())?;
     let reply = kept_reply(alloc, entry.answer.as_slice())?;
-    rows.reserve(judged.writes.len())?;
-    entries.push(entry)?;
-    put_all(rows, judged.writes);
+    entries.reserve(1)?;
+    table.apply(&judged.writes, entry.seq)?;
+    entries.push_reserved(entry);
     Ok(reply)
 }
 

@@ -8,9 +8,6 @@ use lei_outside::Bytes;
 /// The greatest number of an upload. This project's profile.
 pub const MAX_NUMBER: u32 = 1_000_000;
 
-/// The greatest length of an upload's body, in bytes. This project's profile.
-pub const MAX_BODY: usize = 4_194_304;
-
 /// Whether an upload may have this number.
 pub fn is_upload_number(number: u32) -> bool
     ensures { IsTrue result ↔ IsUploadNumber number }

@@ -3,9 +3,10 @@ ghost use Rattle.std.specs.Prelude.{◌≡◌, IfOk, map};
 ghost use Rattle.serde_json.specs.View.{view, items_view};
 ghost use Rattle.lei_office.specs.Answers.{accreditation_answer, accreditation_text, upload_answer, upload_text, verdict_text, strings};
 
-use crate::verdict::Verdict;
+use crate::check::verdict_text;
 use lei_code::Lei;
 use lei_outside::{Bytes, NoMemory};
+use register_judge::Verdict;
 use serde_json::{Value, json};
 use std::alloc::Global;
 
@@ -62,7 +63,7 @@ fn verdict_values(alloc: Global, verdicts: &[Verdict]) -> Result<Vec<Value>, NoM
 {
     let mut values = Vec::with_capacity(alloc, verdicts.len())?;
     for verdict in verdicts {
-        values.push(Value::String(verdict.text(alloc)?))?;
+        values.push(Value::String(verdict_text(alloc, verdict)?))?;
     }
     Ok(values)
 }

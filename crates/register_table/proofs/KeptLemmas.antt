@@ -1,5 +1,5 @@
 -- Tables that stay kept.
-use Rattle.std.specs.Prelude.{◌≡◌, ◌≤◌, List, [], ◌∷◌, Result, Ok, Err, OnOk, OnErr, IfOk}
+use Rattle.std.specs.Prelude.{◌≡◌, ◌≤◌, List, [], ◌∷◌, ◌++◌, Result, Ok, Err, OnOk, OnErr, IfOk}
 use Rattle.std.specs.FinMap.{get-empty, len-empty}
 use Rattle.std.proofs.Common.{refl, sym, ap, subst, rules, ◌∙◌}
 use Rattle.lei_records.specs.Rows.{Row}
@@ -35,6 +35,14 @@ none_kept = record {
 pub kept_behind : (writes : WriteList) (table : Table) → IsKept table → StaysKept writes table → IsKept (put_all writes table)
 kept_behind [] table kept stays = kept
 kept_behind (write ∷ writes) table kept stays = kept_behind writes (put_write table write) stays.0 stays.1
+
+pub own-append : (first second : WriteList) → AreOwn first → AreOwn second → AreOwn (first ++ second)
+own-append [] second own others = others
+own-append (write ∷ writes) second own others = (own.0, own-append writes second own.1 others)
+
+pub stays-append : (first second : WriteList) (table : Table) → StaysKept first table → StaysKept second (put_all first table) → StaysKept (first ++ second) table
+stays-append [] second table stays others = others
+stays-append (write ∷ writes) second table stays others = (stays.0, stays-append writes second (put_write table write) stays.1 others)
 
 -- writes that were put, or not
 pub kept_after : {X E : Type 0} (result : Result X E) (old rows : List Row) (writes : WriteList) → OnOk result (table_of rows ≡ put_all writes (table_of old)) → OnErr result (rows ≡ old)

@@ -1,6 +1,7 @@
 mod ListLemmas
 mod MapLemmas
-mod TableLemmas
+pub mod TableLemmas
 mod HolderLemmas
-mod UndoLemmas
-mod KeptLemmas
+pub mod UndoLemmas
+pub mod KeptLemmas
+mod TestLemmas

@@ -10,3 +10,6 @@ mod undo;
 pub use laws::undone_writes_leave_the_table;
 pub use table::Table;
 pub use undo::Undo;
+
+#[cfg(test)]
+mod tests;

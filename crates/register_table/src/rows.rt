@@ -15,7 +15,11 @@ use lei_records::{Item, Record, RowKey};
 use std::alloc::Global;
 use std::mem;
 
+// A key with its item.
 type Write = (RowKey, Option<Item>);
+
+// A key with what was held under it.
+type Note = (RowKey, Option<Item>);
 
 fn place_of(rows: &[Record], lei: &Lei) -> Option<usize>
     ensures { result ≡ position (is_of lei.now) rows.now }
@@ -73,7 +77,7 @@ fn copy_of(alloc: Global, item: &Option<Item>) -> Result<Option<Item>, NoMemory>
 }
 
 // Puts writes, for which there is room, and hands out the notes.
-fn put_copies(rows: &mut Vec<Record>, writes: Vec<Write>, mut notes: Vec<Write>) -> Vec<Write>
+fn put_copies(rows: &mut Vec<Record>, writes: Vec<Write>, mut notes: Vec<Note>) -> Vec<Note>
     requires own { AreOwn writes.items }
     requires once { HasCodesOnce rows.old.items }
     requires rows_room { vec_len rows.old + vec_len writes ≤ vec_capacity rows.old }
@@ -91,7 +95,7 @@ fn put_copies(rows: &mut Vec<Record>, writes: Vec<Write>, mut notes: Vec<Write>)
 }
 
 // Puts a write, and gives its note: the key with what was held under it.
-fn put_write(rows: &mut Vec<Record>, write: Write) -> Write
+fn put_write(rows: &mut Vec<Record>, write: Write) -> Note
     requires own { IsOwn write }
     requires once { HasCodesOnce rows.old.items }
     requires room { vec_len rows.old < vec_capacity rows.old }
@@ -131,7 +135,7 @@ fn put_record(rows: &mut Vec<Record>, new: Record) -> Option<Record>
 }
 
 /// Puts back what was noted, from the last note to the first.
-pub fn undo_notes(rows: &mut Vec<Record>, mut notes: Vec<Write>)
+pub fn undo_notes(rows: &mut Vec<Record>, mut notes: Vec<Note>)
     requires once { HasCodesOnce rows.old.items }
     requires last { IsOfLast notes.items (table_of rows.old.items) }
     ensures table { table_of rows.new.items ≡ undone notes.items (table_of rows.old.items) }
@@ -143,7 +147,7 @@ pub fn undo_notes(rows: &mut Vec<Record>, mut notes: Vec<Write>)
 }
 
 // Puts an item in the place of the record that is held under its key, or takes that record out.
-fn put_back(rows: &mut Vec<Record>, note: Write)
+fn put_back(rows: &mut Vec<Record>, note: Note)
     requires once { HasCodesOnce rows.old.items }
     requires held { IsSome (item_at (table_of rows.old.items) note.0) }
     requires own { IsOwnOrNone note }

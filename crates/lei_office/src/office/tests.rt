@@ -1,8 +1,12 @@
 // What an office answers. The answers come from the profile of requests; the codes are public ones or made ones.
 use super::Office;
+use crate::limits::Limits;
 use crate::reply::{Refusal, Reply};
-use crate::request::{Call, MAX_BODY, Request, is_upload_number};
-use crate::{moments_never_fall, sessions_are_exact, uploads_are_numbered};
+use crate::request::{Call, Request, is_upload_number};
+use crate::{
+    changes_are_permitted, moments_never_fall, registers_are_sound, sessions_are_exact,
+    uploads_are_numbered,
+};
 use lei_code::Lei;
 use lei_outside::Bytes;
 use lei_shapes::Moment;
@@ -10,6 +14,8 @@ use std::alloc::Global;
 use std::process::Abort;
 use std::test::Fail;
 use std::thread::Threads;
+
+mod rows;
 
 const FIRST: &str = "506700GE1G29325QX363";
 
@@ -131,7 +137,7 @@ fn repeated(
 
 // Puts the requests to a new office, in order.
 fn answers<R: Abort + Threads + Sync>(rt: &R, alloc: Global, cases: &[Case]) -> Result<(), Fail> {
-    let mut office = Office::new(alloc)?;
+    let mut office = Office::new(alloc, Limits::standard())?;
     for case in cases {
         match case {
             Case::Accredit(lei, want) => {
@@ -286,7 +292,7 @@ fn verdicts_stand_in_the_order_of_the_items(rt: HostRuntime) -> Result<(), Fail>
 #[test]
 fn items_are_counted(rt: HostRuntime) -> Result<(), Fail> {
     let alloc = rt.alloc();
-    let mut office = Office::new(alloc)?;
+    let mut office = Office::new(alloc, Limits::standard())?;
     accredit(&rt, alloc, &mut office, FIRST, 0)?;
     let body = repeated(alloc, r#"{"records":["#, "{},", 5_000, "{}]}")?;
     let reply = upload(&rt, alloc, &mut office, FIRST, 1, body.as_bytes())?;
@@ -307,10 +313,10 @@ fn items_are_counted(rt: HostRuntime) -> Result<(), Fail> {
 #[test]
 fn bodies_are_measured_before_all_else(rt: HostRuntime) -> Result<(), Fail> {
     let alloc = rt.alloc();
-    let mut office = Office::new(alloc)?;
+    let mut office = Office::new(alloc, Limits::standard())?;
     let most = repeated(alloc, ALPHA, " ", 4_194_304 - ALPHA.len(), "")?;
     let more = repeated(alloc, most.as_str(), " ", 1, "")?;
-    assert_eq!(rt; most.len(), MAX_BODY);
+    assert_eq!(rt; most.len() as u64, office.limits().body);
     for (body, before, after) in [
         (more.as_str(), "413 TOO_LONG", "413 TOO_LONG"),
         (
@@ -333,9 +339,11 @@ fn bodies_are_measured_before_all_else(rt: HostRuntime) -> Result<(), Fail> {
 fn a_moment_that_goes_back_is_the_last_one_again(rt: HostRuntime) -> Result<(), Fail> {
     moments_never_fall();
     uploads_are_numbered();
+    registers_are_sound();
+    changes_are_permitted();
     sessions_are_exact();
     let alloc = rt.alloc();
-    let mut office = Office::new(alloc)?;
+    let mut office = Office::new(alloc, Limits::standard())?;
     for (lei, seconds) in [
         (FIRST, 1_700_000_000i64),
         (SECOND, 1_699_999_999),

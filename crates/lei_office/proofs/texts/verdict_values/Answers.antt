@@ -13,5 +13,5 @@ loop-verdict-preserved c =
     let at = c.loop-verdict.verdict-index in
     let verdict = c.verdict-item.result in
     let taken : take (at + 1) verdicts ≡ take at verdicts ++ verdict ∷ [] = take_more verdicts at verdict c.loop-verdict-test.true ∙ ap (λ v. take at verdicts ++ v ∷ []) (sym c.verdict-item.is) in
-    let said : view (String c.in_ok-text.field-0) ≡ string (verdict_text verdict) = search (rules, the_lemmas) in
+    let said : view (String c.in_ok-verdict_text.field-0) ≡ string (verdict_text verdict) = search (rules, the_lemmas) in
     rw (c.in_ok-push.ensures.items, taken, map-append verdict_text (take at verdicts) (verdict ∷ [])) (strings-push c.loop-verdict.values.items _ (map verdict_text (take at verdicts)) (verdict_text verdict) said c.loop-verdict.invariant)

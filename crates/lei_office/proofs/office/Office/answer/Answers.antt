@@ -1,20 +1,38 @@
-use Rattle.std.proofs.Common.{◌≡◌, ap, ◌∙◌, of_z, to_z, w64, rules}
+use Rattle.std.proofs.Common.{◌≡◌, ℤ, sym, ap, ◌∙◌, subst, of_z, to_z, w64, rules}
+use Rattle.lei_shapes.specs.Moment.{IsMoment}
 use Rattle.lei_office.specs.History.{stamp}
-use Rattle.lei_office.proofs.Histories.{Legal-comes}
+use Rattle.lei_office.specs.State.{office_of}
+use Rattle.lei_office.proofs.Histories.{Legal-comes, stamp-is_moment}
+use Rattle.lei_office.proofs.Passing.{all_permitted}
+use Rattle.lei_office.proofs.Registers.{after-fit}
 use Rattle.lei_office.proofs.office.Office.answer.Goals as goal
+
+pub reply_to-requires-clause-moment : goal.reply_to-requires-clause-moment
+reply_to-requires-clause-moment g c =
+    let inside = c.self.inside in
+    let same : to_z w64 (of_z w64 c.stamp-moment.result) ≡ c.stamp-moment.result = search rules in
+    let stamped = same ∙ (c.stamp-moment.ensures.stamp ∙ ap (λ h. stamp h c.args.moment) c.as_slice.ensures.value) in
+    let M : ℤ → Type 0 = λ m. IsMoment m in
+    subst M (sym stamped) (stamp-is_moment inside.limits inside.entries.items c.args.moment c.self.invariant.1 c.stamp-moment.ensures.moment)
 
 pub invariant_of-self : goal.invariant_of-self
 invariant_of-self g c =
-    let history = c.self.inside.entries.items in
+    let inside = c.self.inside in
     let answered = c.reply_to in
     let same : to_z w64 (of_z w64 c.stamp-moment.result) ≡ c.stamp-moment.result = search rules in
     let stamped = same ∙ (c.stamp-moment.ensures.stamp ∙ ap (λ h. stamp h c.args.moment) c.as_slice.ensures.value) in
-    (Legal-comes history c.args.request.now c.args.moment _ answered.result answered.new.entries.items answered.ensures.request c.stamp-moment.ensures.moment stamped c.self.invariant.0 answered.ensures.step, answered.ensures.table)
+    (c.self.invariant.0, Legal-comes inside.limits inside.entries.items c.args.request.now c.args.moment _ answered.result answered.new.entries.items answered.ensures.request c.stamp-moment.ensures.moment stamped c.self.invariant.1 answered.ensures.step, answered.ensures.table)
 
 pub returns-clause-legal : goal.returns-clause-legal
 returns-clause-legal g c =
-    let history = c.self.inside.entries.items in
+    let inside = c.self.inside in
     let answered = c.reply_to in
     let same : to_z w64 (of_z w64 c.stamp-moment.result) ≡ c.stamp-moment.result = search rules in
     let stamped = same ∙ (c.stamp-moment.ensures.stamp ∙ ap (λ h. stamp h c.args.moment) c.as_slice.ensures.value) in
-    Legal-comes history c.args.request.now c.args.moment _ answered.result answered.new.entries.items answered.ensures.request c.stamp-moment.ensures.moment stamped c.self.invariant.0 answered.ensures.step
+    Legal-comes inside.limits inside.entries.items c.args.request.now c.args.moment _ answered.result answered.new.entries.items answered.ensures.request c.stamp-moment.ensures.moment stamped c.self.invariant.1 answered.ensures.step
+
+pub returns-clause-sound : goal.returns-clause-sound
+returns-clause-sound g c = (after-fit c.self.inside.limits c.reply_to.new.entries.items).sound
+
+pub returns-clause-permitted : goal.returns-clause-permitted
+returns-clause-permitted g c = all_permitted (office_of c.self.inside.limits c.reply_to.new.entries.items)

@@ -1,0 +1,16 @@
+-- An office as contracts see it: its limits, and the history of what it took.
+use Rattle.std.specs.Prelude.{[]}
+use Rattle.lei_office.specs.declared.limits.Limits.{Limits}
+use Rattle.lei_office.specs.History.{History}
+
+pub record OfficeState : Type 0 where
+  pub limits : Limits
+  pub history : History
+
+-- the office with these limits and this history
+abbrev pub office_of : Limits → History → OfficeState
+office_of limits history = record { limits = limits; history = history }
+
+-- the office with these limits that took nothing yet
+abbrev pub opened : Limits → OfficeState
+opened limits = office_of limits []
