@@ -1,4 +1,4 @@
--- What a line's request, refusal or want of memory does to a history.
+-- What a line's request, refusal or want of memory does to an office.
 use Rattle.std.proofs.Common.{◌≡◌, ℕ, ℤ, List, [], ◌∷◌, ◌++◌, length, Option, Some, None, Bool, true, false, cond, eqb, ltb, Result, inr, refl, sym, subst, bytes_eq, codes}
 use Rattle.std.proofs.lemmas.List.{append-nil}
 use Rattle.std.specs.Option.{option_and_then, option_map}
@@ -9,7 +9,7 @@ use Rattle.lei_office.specs.declared.request.Asked.TheVariants.{Ask, Refuse}
 use Rattle.lei_office.specs.declared.reply.Refusal.TheVariants.{TooLong, NoRoute, NoMemory}
 use Rattle.lei_office.specs.declared.reply.Reply.{Reply}
 use Rattle.lei_office.specs.declared.reply.Reply.TheVariants.{Words}
-use Rattle.lei_office.specs.History.{History}
+use Rattle.lei_office.specs.State.{OfficeState}
 use Rattle.lei_office.specs.Legal.{AskStep, Session, IsNumbered}
 use Rattle.leireg.proofs.Numbers.{number_of-range}
 use Rattle.leireg.specs.Requests.{asked, asked_in, asked_by, or_path, cut, code_of, upload_of, accreditation_of, show_of, number_of, IsUpload}
@@ -18,12 +18,12 @@ use Rattle.leireg.specs.Outbox.{Puts}
 use Rattle.leireg.specs.Runs.{Answers, AnswersLine, AnswersAndPuts}
 use Rattle.leireg.proofs.Giving.{Gives-none}
 
-AskStep-no_memory : (old : History) (what : Asked) → IsUpload what → AskStep old what [] (Words NoMemory) old
+AskStep-no_memory : (old : OfficeState) (what : Asked) → IsUpload what → AskStep old what [] (Words NoMemory) old
 AskStep-no_memory old (Refuse refusal) is = absurd is
 AskStep-no_memory old (Ask request) is = inr (refl, refl, refl)
 
--- want of memory for an upload's body leaves the history, and asks for no moment
-pub line_wants : (old : History) (line : List ℕ) (u : Option (List ℤ)) → IsUpload (asked line) → AnswersLine old line u u (Words NoMemory) old
+-- want of memory for an upload's body leaves the office, and asks for no moment
+pub line_wants : (old : OfficeState) (line : List ℕ) (u : Option (List ℤ)) → IsUpload (asked line) → AnswersLine old line u u (Words NoMemory) old
 line_wants old line u is = ([], Gives-none u, AskStep-no_memory old (asked line) is)
 
 -- what is asked has a number in its range
@@ -78,13 +78,13 @@ in_range line =
     elim (ltb 4194340 (length line)) as (λ b. AsksInRange (cond b (Refuse TooLong) (asked_in line (cut line)))) [ true ↦ tt | false ↦ cut_range line (cut line) ]
 
 -- one line's reply is its run
-pub Answers-one : (old new : History) (line : List ℕ) (moments : List ℤ) (reply : Reply) → eqb (length line) 0 ≡ false → AskStep old (asked line) moments reply new → Answers old (line ∷ []) moments (reply_text reply) new
+pub Answers-one : (old new : OfficeState) (line : List ℕ) (moments : List ℤ) (reply : Reply) → eqb (length line) 0 ≡ false → AskStep old (asked line) moments reply new → Answers old (line ∷ []) moments (reply_text reply) new
 Answers-one old new line moments reply is step =
     let S : Bool → Type 0 = λ b. Session old (cond b [] (asked line ∷ [])) moments (reply ∷ []) new in
     record { replies = reply ∷ []; session = subst S (sym is) (moments, [], new, sym (append-nil moments), step, (refl, refl)); texts = sym (append-nil (reply_text reply)) }
 
 -- and its text was put
-pub puts_reply : {T E : Type 0} (old new : History) (line : List ℕ) (reply : Reply) (u v : Option (List ℤ)) (a b : Option (List ℕ)) (waited waits : List ℕ) (result : Result T E) → eqb (length line) 0 ≡ false → AnswersLine old line u v reply new
+pub puts_reply : {T E : Type 0} (old new : OfficeState) (line : List ℕ) (reply : Reply) (u v : Option (List ℤ)) (a b : Option (List ℕ)) (waited waits : List ℕ) (result : Result T E) → eqb (length line) 0 ≡ false → AnswersLine old line u v reply new
     → Puts a b (waited ++ reply_text reply) result waits → AnswersAndPuts old (line ∷ []) new u v a b waited result waits
 puts_reply old new line reply u v a b waited waits result is step puts =
     record { moments = step.0; texts = reply_text reply; gives = step.1; answers = Answers-one old new line step.0 reply is step.2; puts = puts }

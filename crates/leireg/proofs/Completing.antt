@@ -9,7 +9,7 @@ use Rattle.lei_office.proofs.Sessions.{exact}
 use Rattle.leireg.specs.Codes.{check_line, digits_fault, digits_line, told_status, TellsLine}
 use Rattle.leireg.specs.Ends.{AreAnswered, IsDone, IsReadFault, IsStopped, IsTooLong, IsComplete, Does, Completes}
 use Rattle.leireg.specs.Moments.{Gives}
-use Rattle.leireg.specs.Runs.{asks_of}
+use Rattle.leireg.specs.Runs.{asks_of, first_office}
 use Rattle.leireg.specs.Words.{Meant, to_answer_lines, to_check, to_make_digits}
 
 -- what was read of told bytes, to their end
@@ -32,10 +32,10 @@ complete_of bytes written moments left u v taken taken_now status is ended gives
       moments = moments;
       gives = gives;
       replies = run.replies;
-      history = answered.0;
+      office = answered.0;
       session = run.session;
       grows = subst G run.texts grows;
-      exact = exact (asks_of (lines bytes)) [] answered.0 moments run.replies run.session;
+      exact = exact (asks_of (lines bytes)) first_office answered.0 moments run.replies run.session;
     }
 
 abbrev Ends : ℕ → Option (List ℕ) → List ℕ → List ℤ → List ℕ → Type 0

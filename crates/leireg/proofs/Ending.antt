@@ -7,7 +7,7 @@ use Rattle.lei_outside.specs.Told.{Grows, Loses, IsAtEnd, TakesFront}
 use Rattle.lei_outside.specs.declared.faults.SinkFault.{SinkFault}
 use Rattle.lei_outside.proofs.Told.{Grows-none, Grows-join, Loses-none, Loses-join}
 use Rattle.lei_office.specs.declared.request.Asked.{Asked}
-use Rattle.lei_office.specs.History.{History}
+use Rattle.lei_office.specs.State.{OfficeState}
 use Rattle.lei_office.specs.Legal.{Session}
 use Rattle.leireg.specs.Ends.{RunsLines}
 use Rattle.leireg.specs.Lines.{HasNoEnd, IsClosed, whole_part, last_part}
@@ -15,7 +15,7 @@ use Rattle.leireg.specs.Moments.{Gives}
 use Rattle.leireg.specs.Outbox.{Sends}
 use Rattle.leireg.specs.Reading.{Holds, TakesIn}
 use Rattle.leireg.specs.Requests.{asked}
-use Rattle.leireg.specs.Runs.{asks_of, Answers, AnswersFront, AnswersAndPuts}
+use Rattle.leireg.specs.Runs.{asks_of, first_office, Answers, AnswersFront, AnswersAndPuts}
 use Rattle.leireg.specs.Window.{Fills, StaysUnread}
 use Rattle.leireg.proofs.Giving.{Gives-none}
 use Rattle.leireg.proofs.LineLemmas.{IsClosed-append, IsClosed-whole_part, HasNoEnd-last_part, HasNoEnd-nil, parts_of, whole_part-is, lines-end, lines-closed}
@@ -39,7 +39,7 @@ asks_of-last : (part : List ℕ) (test : Bool) → eqb (length part) 0 ≡ test 
 asks_of-last part true is = ap (λ b. cond b [] (asked part ∷ [])) is
 asks_of-last part false is = refl
 
-Answers-last : (old new : History) (part : List ℕ) (moments : List ℤ) (texts : List ℕ) → Answers old (part ∷ []) moments texts new → Answers old (cond (eqb (length part) 0) [] (part ∷ [])) moments texts new
+Answers-last : (old new : OfficeState) (part : List ℕ) (moments : List ℤ) (texts : List ℕ) → Answers old (part ∷ []) moments texts new → Answers old (cond (eqb (length part) 0) [] (part ∷ [])) moments texts new
 Answers-last old new part moments texts run =
     let S : List Asked → Type 0 = λ asks. Session old asks moments run.replies new in
     record { replies = run.replies; session = subst S (asks_of-last part (eqb (length part) 0) refl) run.session; texts = run.texts }
@@ -47,7 +47,7 @@ Answers-last old new part moments texts run =
 -- ---- between two reads
 
 -- So many bytes were read, of which those in front are whole lines and were answered, and the rest is held.
-pub record Midway (left left_now : Option (List ℕ)) (given given_now : Option (List ℤ)) (taken taken_now : Option (List ℕ)) (count : ℕ) (office : History) (waits : List ℕ) (skips : Bool) (held : List ℕ) : Type 0 where
+pub record Midway (left left_now : Option (List ℕ)) (given given_now : Option (List ℤ)) (taken taken_now : Option (List ℕ)) (count : ℕ) (office : OfficeState) (waits : List ℕ) (skips : Bool) (held : List ℕ) : Type 0 where
   pub read : List ℕ
   pub front : List ℕ
   pub part : List ℕ
@@ -55,13 +55,13 @@ pub record Midway (left left_now : Option (List ℕ)) (given given_now : Option 
   pub below : count < 4294967296
   pub loses : Loses left left_now read
   pub parts : read ≡ front ++ part
-  pub answered : Answered [] front office given given_now taken taken_now [] waits
+  pub answered : Answered first_office front office given given_now taken taken_now [] waits
   pub holds : Holds skips held part
 
-pub begins : (left : Option (List ℕ)) (given : Option (List ℤ)) (taken : Option (List ℕ)) (office : History) (waits : List ℕ) (skips : Bool) (held : List ℕ) → office ≡ [] → waits ≡ [] → Holds skips held [] → Midway left left given given taken taken 0 office waits skips held
+pub begins : (left : Option (List ℕ)) (given : Option (List ℤ)) (taken : Option (List ℕ)) (office : OfficeState) (waits : List ℕ) (skips : Bool) (held : List ℕ) → office ≡ first_office → waits ≡ [] → Holds skips held [] → Midway left left given given taken taken 0 office waits skips held
 begins left given taken office waits skips held none empty holds =
-    let A : History → Type 0 = λ h. Answered [] [] h given given taken taken [] waits in
-    let B : List ℕ → Type 0 = λ xs. Answered [] [] [] given given taken taken [] xs in
+    let A : OfficeState → Type 0 = λ h. Answered first_office [] h given given taken taken [] waits in
+    let B : List ℕ → Type 0 = λ xs. Answered first_office [] first_office given given taken taken [] xs in
     record {
       read = [];
       front = [];
@@ -70,7 +70,7 @@ begins left given taken office waits skips held none empty holds =
       below = omega arith;
       loses = Loses-none left;
       parts = refl;
-      answered = subst A (sym none) (subst B (sym empty) (Answered-nothing [] given taken []));
+      answered = subst A (sym none) (subst B (sym empty) (Answered-nothing first_office given taken []));
       holds = holds;
     }
 
@@ -78,7 +78,7 @@ begins left given taken office waits skips held none empty holds =
 Sends-all : (a b c : Option (List ℕ)) (all waits : List ℕ) → Sends a b all waits → Grows b c waits → Sends a c all []
 Sends-all a b c all waits sent more = (sent.0 ++ waits, Grows-join a b c sent.0 waits sent.1 more, sent.2 ∙ sym (append-nil (sent.0 ++ waits)))
 
-pub flushed : (left left_now : Option (List ℕ)) (u v : Option (List ℤ)) (a b c : Option (List ℕ)) (count : ℕ) (office : History) (waits waits_now : List ℕ) (skips : Bool) (held : List ℕ) → waits_now ≡ [] → Midway left left_now u v a b count office waits skips held → Grows b c waits
+pub flushed : (left left_now : Option (List ℕ)) (u v : Option (List ℤ)) (a b c : Option (List ℕ)) (count : ℕ) (office : OfficeState) (waits waits_now : List ℕ) (skips : Bool) (held : List ℕ) → waits_now ≡ [] → Midway left left_now u v a b count office waits skips held → Grows b c waits
     → Midway left left_now u v a c count office waits_now skips held
 flushed left left_now u v a b c count office waits waits_now skips held empty at more =
     let S : List ℕ → Type 0 = λ xs. Sends a c at.answered.texts xs in
@@ -134,11 +134,11 @@ unseen left left_now n most skips held held_now part seen same holds fills =
     subst N (sym block.front) (held_unseen skips held part holds)
 
 -- and the lines that end in it were answered, or the sink refused
-abbrev pub Goes : {E : Type 0} → ℕ → Bool → List ℕ → History → History → Option (List ℤ) → Option (List ℤ) → Option (List ℕ) → Option (List ℕ) → List ℕ → Result (Unit {0}) E → List ℕ → Bool → List ℕ → Type 0
+abbrev pub Goes : {E : Type 0} → ℕ → Bool → List ℕ → OfficeState → OfficeState → Option (List ℤ) → Option (List ℤ) → Option (List ℕ) → Option (List ℕ) → List ℕ → Result (Unit {0}) E → List ℕ → Bool → List ℕ → Type 0
 Goes seen skips window office new v w b c waited result waits skips_now held_now =
     (part : List ℕ) → Holds skips (take seen window) part → TakesIn {T = Unit {0}} part (drop seen window) office new v w b c waited result waits skips_now held_now
 
-pub takes_in : (left mid left_now : Option (List ℕ)) (u v w : Option (List ℤ)) (a b c : Option (List ℕ)) (count n most seen : ℕ) (office new : History) (waited waits : List ℕ) (skips skips_now : Bool) (held window held_now : List ℕ) → seen ≡ length held → Midway left mid u v a b count office waited skips held
+pub takes_in : (left mid left_now : Option (List ℕ)) (u v w : Option (List ℤ)) (a b c : Option (List ℕ)) (count n most seen : ℕ) (office new : OfficeState) (waited waits : List ℕ) (skips skips_now : Bool) (held window held_now : List ℕ) → seen ≡ length held → Midway left mid u v a b count office waited skips held
     → Fills mid left_now held window n most → count + n < 4294967296 → Goes {E = SinkFault} seen skips window office new v w b c waited (Ok (tt {0})) waits skips_now held_now → Midway left left_now u w a c (count + n) new waits skips_now held_now
 takes_in left mid left_now u v w a b c count n most seen office new waited waits skips skips_now held window held_now same at fills below goes =
     let more = fills.0 in
@@ -188,7 +188,7 @@ record Stopped (taken taken_now : Option (List ℕ)) (moments : List ℤ) (all :
   grows : Grows taken taken_now written
   answers : AnswersFront all moments written
 
-stopped_at : (a c : Option (List ℕ)) (answered left : List (List ℕ)) (moments : List ℤ) (texts : List ℕ) (new : History) → Answers [] answered moments texts new → TakesFront a c texts → Stopped a c moments (answered ++ left)
+stopped_at : (a c : Option (List ℕ)) (answered left : List (List ℕ)) (moments : List ℤ) (texts : List ℕ) (new : OfficeState) → Answers first_office answered moments texts new → TakesFront a c texts → Stopped a c moments (answered ++ left)
 stopped_at a c answered left moments texts new run front =
     record { written = take front.0 texts; grows = front.2; answers = AnswersFront-of answered left moments texts new front.0 run }
 
@@ -217,7 +217,7 @@ ends_at_once left given taken status cause =
           left = [];
           parts = ap lines (whole_part-is [] [] (inl refl) HasNoEnd-nil);
           replies = [];
-          history = [];
+          office = first_office;
           session = (refl, refl);
           front = 0;
           texts = refl;
@@ -226,7 +226,7 @@ ends_at_once left given taken status cause =
     }
 
 -- the sink refused what waited
-pub stops_waiting : (left left_now : Option (List ℕ)) (u v : Option (List ℤ)) (a b c : Option (List ℕ)) (count : ℕ) (office : History) (waits : List ℕ) (skips : Bool) (held : List ℕ) (status : ℕ) → IsCause status → Midway left left_now u v a b count office waits skips held
+pub stops_waiting : (left left_now : Option (List ℕ)) (u v : Option (List ℤ)) (a b c : Option (List ℕ)) (count : ℕ) (office : OfficeState) (waits : List ℕ) (skips : Bool) (held : List ℕ) (status : ℕ) → IsCause status → Midway left left_now u v a b count office waits skips held
     → TakesFront b c waits → RunsLines left left_now u v a c status
 stops_waiting left left_now u v a b c count office waits skips held status cause at front =
     let answered = at.answered in
@@ -238,7 +238,7 @@ stops_waiting left left_now u v a b c count office waits skips held status cause
     (subst S (sym (lines-behind at.read at.front at.part at.parts answered.closed)) (stopped_at a c (lines at.front) (lines (whole_part at.part)) answered.moments answered.texts office answered.run took))
 
 -- the sink refused in a block
-pub stops_in : (left mid left_now : Option (List ℕ)) (u v w : Option (List ℤ)) (a b c : Option (List ℕ)) (count n most seen : ℕ) (office new : History) (waited waits : List ℕ) (skips skips_now : Bool) (held window held_now : List ℕ) (fault : SinkFault) (status : ℕ) → IsCause status
+pub stops_in : (left mid left_now : Option (List ℕ)) (u v w : Option (List ℤ)) (a b c : Option (List ℕ)) (count n most seen : ℕ) (office new : OfficeState) (waited waits : List ℕ) (skips skips_now : Bool) (held window held_now : List ℕ) (fault : SinkFault) (status : ℕ) → IsCause status
     → seen ≡ length held → Midway left mid u v a b count office waited skips held → Fills mid left_now held window n most → count + n < 4294967296 → Goes seen skips window office new v w b c waited (Err fault) waits skips_now held_now
     → RunsLines left left_now u w a c status
 stops_in left mid left_now u v w a b c count n most seen office new waited waits skips skips_now held window held_now fault status cause same at fills below goes =
@@ -255,12 +255,12 @@ stops_in left mid left_now u v w a b c count n most seen office new waited waits
     (subst S (sym (lines-behind (at.read ++ more) (at.front ++ then.0) then.1 parts closed)) (stopped_at a c (lines (at.front ++ then.0)) (lines (whole_part then.1)) next.moments next.texts new next.answers next.puts))
 
 -- the source failed
-pub fails_reading : (left mid left_now : Option (List ℕ)) (u v : Option (List ℤ)) (a c : Option (List ℕ)) (count : ℕ) (office : History) (waits : List ℕ) (skips : Bool) (held held_now : List ℕ) → waits ≡ [] → Midway left mid u v a c count office waits skips held → StaysUnread mid left_now held held_now
+pub fails_reading : (left mid left_now : Option (List ℕ)) (u v : Option (List ℤ)) (a c : Option (List ℕ)) (count : ℕ) (office : OfficeState) (waits : List ℕ) (skips : Bool) (held held_now : List ℕ) → waits ≡ [] → Midway left mid u v a c count office waits skips held → StaysUnread mid left_now held held_now
     → RunsLines left left_now u v a c 3
 fails_reading left mid left_now u v a c count office waits skips held held_now empty at unread =
     let answered = at.answered in
     let L : List ℕ → Type 0 = λ xs. Loses left left_now xs in
-    let A : List (List ℕ) → Type 0 = λ ls. Answers [] ls answered.moments answered.texts office in
+    let A : List (List ℕ) → Type 0 = λ ls. Answers first_office ls answered.moments answered.texts office in
     let G : List ℕ → Type 0 = λ xs. Grows a c xs in
     let below : length at.read < 4294967296 = omega (arith, at.long, at.below) in
     let whole : lines (whole_part at.read) ≡ lines at.front = ap (λ xs. lines (whole_part xs)) at.parts ∙ ap lines (whole_part-is at.front at.part answered.closed (holds-none skips held at.part at.holds)) in
@@ -275,12 +275,12 @@ fails_reading left mid left_now u v a c count office waits skips held held_now e
     }
 
 -- so many bytes were read that the run ends
-pub ends_too_long : (left mid left_now : Option (List ℕ)) (u v : Option (List ℤ)) (a c : Option (List ℕ)) (count n most : ℕ) (office : History) (waits : List ℕ) (skips : Bool) (held held_now : List ℕ) → waits ≡ [] → Midway left mid u v a c count office waits skips held → Fills mid left_now held held_now n most
+pub ends_too_long : (left mid left_now : Option (List ℕ)) (u v : Option (List ℤ)) (a c : Option (List ℕ)) (count n most : ℕ) (office : OfficeState) (waits : List ℕ) (skips : Bool) (held held_now : List ℕ) → waits ≡ [] → Midway left mid u v a c count office waits skips held → Fills mid left_now held held_now n most
     → n ≤ 65536 → 0 < n → count + n ≡ 4294967296 → RunsLines left left_now u v a c 8
 ends_too_long left mid left_now u v a c count n most office waits skips held held_now empty at fills within some is =
     let more = fills.0 in
     let answered = at.answered in
-    let A : List (List ℕ) → Type 0 = λ ls. Answers [] ls answered.moments answered.texts office in
+    let A : List (List ℕ) → Type 0 = λ ls. Answers first_office ls answered.moments answered.texts office in
     let G : List ℕ → Type 0 = λ xs. Grows a c xs in
     let whole : lines (whole_part at.read) ≡ lines at.front = ap (λ xs. lines (whole_part xs)) at.parts ∙ ap lines (whole_part-is at.front at.part answered.closed (holds-none skips held at.part at.holds)) in
     let long : length (at.read ++ more) ≡ 4294967296 = length-append at.read more ∙ omega (arith, at.long, fills.1, is) in
@@ -297,12 +297,12 @@ ends_too_long left mid left_now u v a c count n most office waits skips held hel
 -- ---- the input's end
 
 -- the input was read to its end
-pub record AtEnd (left left_now : Option (List ℕ)) (given given_now : Option (List ℤ)) (taken taken_now : Option (List ℕ)) (office : History) (waits : List ℕ) (skips : Bool) (held : List ℕ) : Type 0 where
+pub record AtEnd (left left_now : Option (List ℕ)) (given given_now : Option (List ℤ)) (taken taken_now : Option (List ℕ)) (office : OfficeState) (waits : List ℕ) (skips : Bool) (held : List ℕ) : Type 0 where
   pub count : ℕ
   pub midway : Midway left left_now given given_now taken taken_now count office waits skips held
   pub ended : IsAtEnd left_now
 
-pub reaches_end : (left mid left_now : Option (List ℕ)) (u v : Option (List ℤ)) (a c : Option (List ℕ)) (count n most : ℕ) (office : History) (waits : List ℕ) (skips : Bool) (held held_now : List ℕ) → n ≡ 0 → Midway left mid u v a c count office waits skips held → Fills mid left_now held held_now n most
+pub reaches_end : (left mid left_now : Option (List ℕ)) (u v : Option (List ℤ)) (a c : Option (List ℕ)) (count n most : ℕ) (office : OfficeState) (waits : List ℕ) (skips : Bool) (held held_now : List ℕ) → n ≡ 0 → Midway left mid u v a c count office waits skips held → Fills mid left_now held held_now n most
     → AtEnd left left_now u v a c office waits skips held_now
 reaches_end left mid left_now u v a c count n most office waits skips held held_now none_read at fills =
     let none : fills.0 ≡ [] = length-none fills.0 (fills.1 ∙ none_read) in
@@ -326,13 +326,13 @@ reaches_end left mid left_now u v a c count n most office waits skips held held_
     }
 
 -- all lines were answered, whatever the sink did
-all_answered : {E : Type 0} (left left_now : Option (List ℕ)) (u v w : Option (List ℤ)) (a b c : Option (List ℕ)) (count : ℕ) (office new : History) (waits left_waits : List ℕ) (skips : Bool) (held : List ℕ) (result : Result (Unit {0}) E) (at : Midway left left_now u v a b count office waits skips held)
-    → AnswersAndPuts office (at.part ∷ []) new v w b c waits result left_waits → AnswersAndPuts [] (lines at.read) new u w a c [] result left_waits
+all_answered : {E : Type 0} (left left_now : Option (List ℕ)) (u v w : Option (List ℤ)) (a b c : Option (List ℕ)) (count : ℕ) (office new : OfficeState) (waits left_waits : List ℕ) (skips : Bool) (held : List ℕ) (result : Result (Unit {0}) E) (at : Midway left left_now u v a b count office waits skips held)
+    → AnswersAndPuts office (at.part ∷ []) new v w b c waits result left_waits → AnswersAndPuts first_office (lines at.read) new u w a c [] result left_waits
 all_answered left left_now u v w a b c count office new waits left_waits skips held result at then =
     let answered = at.answered in
     let last = cond (eqb (length at.part) 0) [] (at.part ∷ []) in
     let whole : lines at.read ≡ lines at.front ++ last = ap lines at.parts ∙ lines-end at.front at.part answered.closed (holds-none skips held at.part at.holds) in
-    answers_more [] office new at.front last (lines at.read) u v w a b c [] waits left_waits result whole answered
+    answers_more first_office office new at.front last (lines at.read) u v w a b c [] waits left_waits result whole answered
     (record { moments = then.moments; texts = then.texts; gives = then.gives; answers = Answers-last office new at.part then.moments then.texts then.answers; puts = then.puts })
 
 ends_all : (left left_now : Option (List ℕ)) (u v : Option (List ℤ)) (a c : Option (List ℕ)) (read : List ℕ) (moments : List ℤ) (status : ℕ) → IsCause status → length read < 4294967296 → Loses left left_now read → IsAtEnd left_now → Gives u v moments → Stopped a c moments (lines read) → RunsLines left left_now u v a c status
@@ -340,7 +340,7 @@ ends_all left left_now u v a c read moments status cause below loses ended gives
     record { read = read; moments = moments; written = stopped.written; loses = loses; gives = gives; grows = stopped.grows; ends = inr (inr (inl (cause, below, inr (ended, stopped.answers)))) }
 
 -- the sink refused the last reply
-pub stops_last : (left left_now : Option (List ℕ)) (u v w : Option (List ℤ)) (a b c : Option (List ℕ)) (office new : History) (waits left_waits : List ℕ) (skips : Bool) (held : List ℕ) (fault : SinkFault) (status : ℕ) → IsCause status → AtEnd left left_now u v a b office waits skips held
+pub stops_last : (left left_now : Option (List ℕ)) (u v w : Option (List ℤ)) (a b c : Option (List ℕ)) (office new : OfficeState) (waits left_waits : List ℕ) (skips : Bool) (held : List ℕ) (fault : SinkFault) (status : ℕ) → IsCause status → AtEnd left left_now u v a b office waits skips held
     → ((part : List ℕ) → Holds skips held part → AnswersAndPuts {T = Unit {0}} office (part ∷ []) new v w b c waits (Err fault) left_waits) → RunsLines left left_now u w a c status
 stops_last left left_now u v w a b c office new waits left_waits skips held fault status cause end goes =
     let at = end.midway in
@@ -350,7 +350,7 @@ stops_last left left_now u v w a b c office new waits left_waits skips held faul
     ends_all left left_now u w a c at.read all.moments status cause below at.loses end.ended all.gives (subst S (append-nil (lines at.read)) (stopped_at a c (lines at.read) [] all.moments all.texts new all.answers all.puts))
 
 -- the sink refused what waited at the end
-pub stops_sending : (left left_now : Option (List ℕ)) (u v w : Option (List ℤ)) (a b c d : Option (List ℕ)) (office new : History) (waits left_waits : List ℕ) (skips : Bool) (held : List ℕ) (status : ℕ) → IsCause status → AtEnd left left_now u v a b office waits skips held
+pub stops_sending : (left left_now : Option (List ℕ)) (u v w : Option (List ℤ)) (a b c d : Option (List ℕ)) (office new : OfficeState) (waits left_waits : List ℕ) (skips : Bool) (held : List ℕ) (status : ℕ) → IsCause status → AtEnd left left_now u v a b office waits skips held
     → ((part : List ℕ) → Holds skips held part → AnswersAndPuts {T = Unit {0}} {E = SinkFault} office (part ∷ []) new v w b c waits (Ok (tt {0})) left_waits) → TakesFront c d left_waits → RunsLines left left_now u w a d status
 stops_sending left left_now u v w a b c d office new waits left_waits skips held status cause end goes front =
     let at = end.midway in
@@ -362,7 +362,7 @@ stops_sending left left_now u v w a b c d office new waits left_waits skips held
     ends_all left left_now u w a d at.read all.moments status cause below at.loses end.ended all.gives (subst S (append-nil (lines at.read)) (stopped_at a d (lines at.read) [] all.moments all.texts new all.answers took))
 
 -- all was written
-pub ends_well : (left left_now : Option (List ℕ)) (u v w : Option (List ℤ)) (a b c d : Option (List ℕ)) (office new : History) (waits left_waits : List ℕ) (skips : Bool) (held : List ℕ) → AtEnd left left_now u v a b office waits skips held
+pub ends_well : (left left_now : Option (List ℕ)) (u v w : Option (List ℤ)) (a b c d : Option (List ℕ)) (office new : OfficeState) (waits left_waits : List ℕ) (skips : Bool) (held : List ℕ) → AtEnd left left_now u v a b office waits skips held
     → ((part : List ℕ) → Holds skips held part → AnswersAndPuts {T = Unit {0}} {E = SinkFault} office (part ∷ []) new v w b c waits (Ok (tt {0})) left_waits) → Grows c d left_waits → RunsLines left left_now u w a d 0
 ends_well left left_now u v w a b c d office new waits left_waits skips held end goes more =
     let at = end.midway in

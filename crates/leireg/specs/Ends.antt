@@ -6,19 +6,19 @@ use Rattle.lei_code.specs.Fault.{fault_of}
 use Rattle.lei_office.specs.declared.reply.Refusal.TheVariants.{NoMemory}
 use Rattle.lei_office.specs.declared.reply.Reply.{Reply}
 use Rattle.lei_office.specs.declared.reply.Reply.TheVariants.{Words}
-use Rattle.lei_office.specs.History.{History}
+use Rattle.lei_office.specs.State.{OfficeState}
 use Rattle.lei_office.specs.Legal.{Session, replies_to}
 use Rattle.leireg.specs.Codes.{check_line, digits_fault, digits_line, told_status, TellsLine}
 use Rattle.leireg.specs.Lines.{whole_part}
 use Rattle.leireg.specs.Moments.{Gives}
 use Rattle.leireg.specs.Replies.{reply_texts}
-use Rattle.leireg.specs.Runs.{asks_of, Answers, AnswersFront}
+use Rattle.leireg.specs.Runs.{asks_of, first_office, Answers, AnswersFront}
 use Rattle.leireg.specs.Words.{Meant, to_answer_lines, to_check, to_make_digits}
 
 -- The lines were answered at these moments, from an office without entries, and these bytes are the texts of the
 -- replies.
 abbrev pub AreAnswered : List (List ℕ) → List ℤ → List ℕ → Type 0
-AreAnswered asked_lines moments written = (history : History) × Answers [] asked_lines moments written history
+AreAnswered asked_lines moments written = (office : OfficeState) × Answers first_office asked_lines moments written office
 
 -- Status 0: the input was read to its end, and all its lines were answered.
 abbrev pub IsDone : ℕ → Option (List ℕ) → List ℕ → List ℤ → List ℕ → Type 0
@@ -65,10 +65,10 @@ pub record IsComplete (bytes : List ℕ) (left_now : Option (List ℕ)) (given g
   pub moments : List ℤ
   pub gives : Gives given given_now moments
   pub replies : List Reply
-  pub history : History
-  pub session : Session [] (asks_of (lines bytes)) moments replies history
+  pub office : OfficeState
+  pub session : Session first_office (asks_of (lines bytes)) moments replies office
   pub grows : Grows taken taken_now (reply_texts replies)
-  pub exact : ¬ (Contains replies (Words NoMemory)) → replies ≡ replies_to [] (asks_of (lines bytes)) moments
+  pub exact : ¬ (Contains replies (Words NoMemory)) → replies ≡ replies_to first_office (asks_of (lines bytes)) moments
 
 -- Where nothing fails and no memory is wanting, all is done: an input that is told and short enough is answered whole,
 -- and a text is told, with status 0 or 2.

@@ -1,7 +1,7 @@
 -- What the reader of lines has of its input, and what it does with a block more.
 use Rattle.std.specs.Prelude.{◌≡◌, ◌≤◌, ◌<◌, ℕ, ℤ, List, [], ◌++◌, length, Bool, true, false, Option, Result, IfOk}
 use Rattle.std.specs.Str.Lines.{lines}
-use Rattle.lei_office.specs.History.{History}
+use Rattle.lei_office.specs.State.{OfficeState}
 use Rattle.leireg.specs.Lines.{HasNoEnd, IsClosed}
 use Rattle.leireg.specs.Runs.{AnswersAndPuts}
 
@@ -13,6 +13,6 @@ Holds true held part = HasNoEnd part × (held ≡ []) × (4194341 < length part)
 
 -- Where a line has begun with these bytes, more came. The lines that are whole now were answered, and what follows them
 -- is held; or the sink refused, and a front of the lines was answered.
-abbrev pub TakesIn : {T E : Type 0} → List ℕ → List ℕ → History → History → Option (List ℤ) → Option (List ℤ) → Option (List ℕ) → Option (List ℕ) → List ℕ → Result T E → List ℕ → Bool → List ℕ → Type 0
+abbrev pub TakesIn : {T E : Type 0} → List ℕ → List ℕ → OfficeState → OfficeState → Option (List ℤ) → Option (List ℤ) → Option (List ℕ) → Option (List ℕ) → List ℕ → Result T E → List ℕ → Bool → List ℕ → Type 0
 TakesIn part more old new given given_now taken taken_now waited result waits skips held =
     (front : List ℕ) × (rest : List ℕ) × (part ++ more ≡ front ++ rest) × IsClosed front × AnswersAndPuts old (lines front) new given given_now taken taken_now waited result waits × IfOk result (λ _. Holds skips held rest)

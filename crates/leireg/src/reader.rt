@@ -5,14 +5,14 @@ ghost use Rattle.leireg.specs.Lines.{HasNoEnd};
 ghost use Rattle.leireg.specs.Outbox.{Puts};
 ghost use Rattle.leireg.specs.Reading.{Holds, TakesIn};
 ghost use Rattle.leireg.specs.Replies.{reply_text};
-ghost use Rattle.leireg.specs.Runs.{AnswersAndPuts};
+ghost use Rattle.leireg.specs.Runs.{first_office, AnswersAndPuts};
 
 use crate::answering::{answer_line, answer_lines};
 use crate::outbox::Outbox;
 use crate::requests::MAX_LINE;
 use crate::window::Window;
 use crate::writing::put_reply;
-use lei_office::{Office, Refusal, Reply};
+use lei_office::{Limits, Office, Refusal, Reply};
 use lei_outside::{Clock, NoMemory, Sink, SinkFault};
 use std::alloc::Global;
 use std::thread::Threads;
@@ -31,13 +31,13 @@ pub struct Reader {
 impl Reader {
     /// A reader that has read nothing, over an office without entries.
     pub fn new(alloc: Global) -> Result<Self, NoMemory>
-        ensures office { IfOk result (λ reader. reader.office ≡ []) }
+        ensures office { IfOk result (λ reader. reader.office ≡ first_office) }
         ensures held { IfOk result (λ reader. Holds reader.skips reader.window []) }
         ensures waits { IfOk result (λ reader. reader.outbox ≡ []) }
     {
         Ok(Reader {
             alloc,
-            office: Office::new(alloc)?,
+            office: Office::new(alloc, Limits::standard())?,
             window: Window::new(alloc)?,
             outbox: Outbox::new(alloc)?,
             skips: false,

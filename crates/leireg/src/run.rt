@@ -106,4 +106,6 @@ fn run_lines<R: Threads + Sync, S: Source, W: Sink, C: Clock>(
 }
 
 #[cfg(test)]
+mod rows;
+#[cfg(test)]
 mod tests;

@@ -392,10 +392,15 @@ fn judges_and_shows_a_record(rt: HostRuntime) -> Result<(), Fail> {
     input.push_str("SHOW 00000000000000000195\n")?;
     input.push_str(standard(alloc, 4, "FR", "ISSUED")?.as_str())?;
     input.push_str("SHOW 00000000000000000195\n")?;
-    let (status, sink, calls) = answers(&rt, alloc, input.as_bytes(), 65_536)?;
+    let mut source = SureSource::new(Bytes::copy_of(alloc, input.as_bytes())?, 65_536);
+    let mut sink = SureSink::new(alloc, usize::MAX);
+    // 2025-01-11T00:00:00Z.
+    let mut clock = ListClock::new(List::from(vec![in alloc; 1_736_553_600]?));
+    let words = words(alloc, &["lines"])?;
+    let status = run(&rt, alloc, &words, &mut source, &mut sink, &mut clock);
     assert_eq!(rt; status, OK);
     assert_eq!(rt; str::from_utf8(sink.taken())?, STANDARD_REPLIES);
-    assert_eq!(rt; calls, 7);
+    assert_eq!(rt; clock.calls(), 7);
     Ok(())
 }
 
