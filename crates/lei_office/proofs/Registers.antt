@@ -16,7 +16,7 @@ use Rattle.lei_records.specs.Cells.{lei_in, rec_cell}
 use Rattle.lei_records.specs.Items.{failed_check, ready, readied}
 use Rattle.lei_records.specs.Rows.{Row}
 use Rattle.lei_records.specs.Spelled.{IsRow}
-use Rattle.lei_records.specs.Tables.{Table, key_cmp, record_key, put, put_all, row_at, record_of, record_count, IsSound}
+use Rattle.lei_records.specs.Tables.{Table, key_cmp, record_key, put, put_all, row_at, record_count, IsSound}
 use Rattle.lei_records.specs.declared.check.Check.{Check}
 use Rattle.lei_records.specs.declared.item.Item.{Item}
 use Rattle.lei_records.specs.declared.item.RawItem.{RawItem}

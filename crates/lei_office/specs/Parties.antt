@@ -1,5 +1,5 @@
 -- Who changed the register's records: each change was permitted to the office that sent it.
-use Rattle.std.specs.Prelude.{◌≡◌, List, [], ◌∷◌, ◌++◌, ℕ, Option, Some, None, option_map}
+use Rattle.std.specs.Prelude.{◌≡◌, List, ◌∷◌, ◌++◌, ℕ, Option, Some, None, option_map}
 use Rattle.lei_outside.specs.declared.entry.KeptEntry.{KeptEntry}
 use Rattle.lei_shapes.specs.Moment.{day_of}
 use Rattle.lei_records.specs.Cells.{lei_in, manager_in, status_in}
@@ -13,7 +13,6 @@ use Rattle.status_rules.specs.declared.transitions.Party.{Party}
 use Rattle.register_judge.specs.Taking.{verdict}
 use Rattle.register_judge.specs.declared.outcome.Verdict.{Verdict}
 use Rattle.lei_office.specs.declared.ledger.TheConstants.{UPLOAD}
-use Rattle.lei_office.specs.declared.limits.Limits.{Limits}
 use Rattle.lei_office.specs.Register.{after, items_of, take_items}
 use Rattle.lei_office.specs.State.{OfficeState}
 

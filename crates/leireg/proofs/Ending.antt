@@ -145,7 +145,7 @@ takes_in left mid left_now u v w a b c count n most seen office new waited waits
     let block = block_of held window more seen same fills.4 in
     let H : List ℕ → Type 0 = λ xs. Holds skips xs at.part in
     let then = goes at.part (subst H (sym block.front) at.holds) in
-    let next = goes_on {T = Unit {0}} {E = SinkFault} [] office new at.front then.0 u v w a b c [] waited waits (Ok (tt {0})) at.answered then.4 in
+    let next = goes_on {T = Unit {0}} {E = SinkFault} first_office office new at.front then.0 u v w a b c [] waited waits (Ok (tt {0})) at.answered then.4 in
     record {
       read = at.read ++ more;
       front = at.front ++ then.0;
@@ -246,7 +246,7 @@ stops_in left mid left_now u v w a b c count n most seen office new waited waits
     let block = block_of held window more seen same fills.4 in
     let H : List ℕ → Type 0 = λ xs. Holds skips xs at.part in
     let then = goes at.part (subst H (sym block.front) at.holds) in
-    let next = goes_on {T = Unit {0}} {E = SinkFault} [] office new at.front then.0 u v w a b c [] waited waits (Err fault) at.answered then.4 in
+    let next = goes_on {T = Unit {0}} {E = SinkFault} first_office office new at.front then.0 u v w a b c [] waited waits (Err fault) at.answered then.4 in
     let parts = whole_parts at.read at.front at.part more then.0 then.1 at.parts (ap (λ xs. at.part ++ xs) (sym block.back) ∙ then.2) in
     let closed = IsClosed-append at.front then.0 at.answered.closed then.3 in
     let S : List (List ℕ) → Type 0 = λ ls. Stopped a c next.moments ls in
