@@ -7,15 +7,20 @@ use std::test::Fail;
 use std::thread::Threads;
 
 const A: &str = "00000000000000000195";
+
 const B: &str = "00000000000000000292";
 
 const OFFICE: &str = "506700GE1G29325QX363";
+
 const SECOND: &str = "HWUPKR0MPOU8FGXBT394";
+
 const THIRD: &str = "5493001KJTIIGC8Y1R12";
 
 // Midnight of 2025-01-11, and of the day of the records' renewal and the one behind it, 2026-01-10 and 2026-01-11.
 const BEGIN: i64 = 1_736_553_600;
+
 const RENEWAL_DAY: i64 = 1_768_003_200;
+
 const DAY_BEHIND: i64 = 1_768_089_600;
 
 // What the records of these sessions differ in.
