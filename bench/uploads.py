@@ -1,8 +1,8 @@
 #!/usr/bin/env python3
 """Measures how fast `leireg lines` reads and judges uploads of full records, beside Python's `json.loads` of the same
 bodies in the same run. Each of the 16 uploads has 3,200 records with 26 fields, about 4 MB. All records have the same
-code, so the table has one row, and what is measured is reading bodies and making records ready. Each time is the
-least of three runs; the program's has its start, its reading of the lines and its answers in it."""
+code, so the table has one row, and what is measured is reading bodies, making records ready and judging them. Each
+time is the least of three runs; the program's has its start, its reading of the lines and its answers in it."""
 import datetime
 import json
 import os
@@ -41,7 +41,8 @@ FIELDS = {
     "Registration.InitialRegistrationDate": "2025-01-01T00:00:00Z",
     "Registration.LastUpdateDate": "2025-01-01T00:00:00Z",
     "Registration.RegistrationStatus": "ISSUED",
-    "Registration.NextRenewalDate": "2026-01-01T00:00:00Z",
+    # An issued record is renewed at most 400 days ahead.
+    "Registration.NextRenewalDate": f"{datetime.date.today() + datetime.timedelta(days=100)}T00:00:00Z",
     "Registration.ManagingLOU": OFFICE,
     "Registration.ValidationSources": "FULLY_CORROBORATED",
 }
