@@ -1,5 +1,5 @@
 //! Laws of chains, each as the contract of an empty function.
-ghost use Rattle.std.specs.Prelude.{◌≡◌, ℕ, suc, List};
+ghost use Rattle.std.specs.Prelude.{◌≡◌, ◌∷◌, [], ℕ, suc, List};
 ghost use Rattle.std.specs.Option.{option_to_list};
 ghost use Rattle.std.specs.List.{Contains};
 ghost use Rattle.successor_rules.specs.declared.walks.Walked.{Walked};

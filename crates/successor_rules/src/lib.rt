@@ -6,7 +6,7 @@ mod laws;
 mod successors;
 mod walks;
 
-pub use laws::{clear_ways_keep_ends, ending_ways_never_return, ending_walks_keep_ends};
+pub use laws::{clear_ways_keep_ends, ending_walks_keep_ends, ending_ways_never_return};
 pub use successors::walk;
 pub use walks::{Chain, Walked, follow};
 

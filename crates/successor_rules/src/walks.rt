@@ -45,7 +45,7 @@ pub fn follow<C: Chain>(chain: &C, from: &Lei, avoid: &Lei) -> Walked
 {
     let mut member = *from;
     for _ in 0..MOST_MEMBERS {
-        if member == *avoid {
+        if *avoid == member {
             return Walked::Meets;
         }
         match chain.next(&member) {
