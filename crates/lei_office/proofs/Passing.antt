@@ -1,5 +1,5 @@
 -- What an accepted record says of the table that it was judged on, and of the office that sent it.
-use Rattle.std.proofs.Common.{◌≡◌, ℕ, ℤ, List, [], ◌∷◌, Bool, true, false, not, cond, bytes_eq, Option, Some, None, is_none, refl, sym, ap}
+use Rattle.std.proofs.Common.{◌≡◌, ℕ, ℤ, List, [], ◌∷◌, ◌++◌, Bool, true, false, not, cond, bytes_eq, Option, Some, None, is_none, refl, sym, ap}
 use Rattle.std.specs.Option.{option_map_or}
 use Rattle.std.proofs.lemmas.Slice.Eq.{bytes_eq-Decides}
 use Rattle.lei_shapes.specs.declared.lists.RecordStatus.{RecordStatus}
@@ -35,6 +35,11 @@ passing (line ∷ lines) none =
       | true ↦ λ is. cc
       | false ↦ λ is. record { first = refl; others = passing lines is }
     ] none
+
+-- where all pass, those behind the first ones do
+pub passing_behind : (first behind : List Line) → AllPass (first ++ behind) → AllPass behind
+passing_behind [] behind pass = pass
+passing_behind (line ∷ first) behind pass = passing_behind first behind pass.others
 
 accepted-none : (failed : Option Check) → verdict_of failed ≡ Verdict.Accepted → failed ≡ None
 accepted-none None is = refl

@@ -16,14 +16,14 @@ use Rattle.lei_records.specs.Cells.{lei_in, rec_cell}
 use Rattle.lei_records.specs.Items.{failed_check, ready, readied}
 use Rattle.lei_records.specs.Rows.{Row}
 use Rattle.lei_records.specs.Spelled.{IsRow}
-use Rattle.lei_records.specs.Tables.{Table, key_cmp, record_key, put, put_all, row_at, record_count, IsSound}
+use Rattle.lei_records.specs.Tables.{Table, key_cmp, record_key, put, put_all, row_at, record_of, record_count, IsSound}
 use Rattle.lei_records.specs.declared.check.Check.{Check}
 use Rattle.lei_records.specs.declared.item.Item.{Item}
 use Rattle.lei_records.specs.declared.item.RawItem.{RawItem}
 use Rattle.lei_records.specs.declared.item.Readied.{Readied}
 use Rattle.lei_records.specs.declared.view.CellKey.{CellKey}
 use Rattle.lei_records.proofs.RowLemmas.{IsRow-row_of}
-use Rattle.register_judge.specs.Checks.{first_failing, checks}
+use Rattle.register_judge.specs.Checks.{first_failing, earlier_checks, checks, is_full, c20}
 use Rattle.register_judge.specs.Taking.{Taken, take, in_front, is_new, verdict_of, writes_of, HaveRows}
 use Rattle.register_judge.specs.declared.outcome.JudgeStop.{JudgeStop}
 use Rattle.register_judge.specs.declared.outcome.Outcome.{Outcome}
@@ -34,7 +34,7 @@ use Rattle.lei_office.specs.declared.ledger.TheConstants.{UPLOAD}
 use Rattle.lei_office.specs.declared.limits.Limits.{Limits}
 use Rattle.lei_office.specs.History.{History}
 use Rattle.lei_office.specs.Register.{after, after_entry, items_in, items_of, take_items}
-use Rattle.lei_office.proofs.Passing.{passing}
+use Rattle.lei_office.proofs.Passing.{passing, passing_behind}
 
 keys_total : IsTotalOrder key_cmp
 keys_total = lists_total nat_list_cmp_total
@@ -70,9 +70,9 @@ fits_with (Some row) count limit next fits is room = omega arith
 put-fits : (table : Table) (limit : ℕ) (today : ℤ) (office : List ℕ) (item : Row) → record_count table ≤ limit → first_failing (checks table limit today office item) ≡ None
     → record_count (put table (Item.Record item)) ≤ limit
 put-fits table limit today office item fits passes =
-    let from_c10 = (passing (checks table limit today office item) passes).others.others.others.others.others in
-    let from_c19 = from_c10.others.others.others.others.others.others in
-    fits_with (row_at table (lei_in item)) (record_count table) limit (record_count (put table (Item.Record item))) fits (len-insert keys_total table.records (record_key (lei_in item)) item) from_c19.others.first
+    let from_c20 = passing_behind (earlier_checks table today office item) (c20 (record_of table (lei_in item)) (is_full table limit) ∷ [])
+        (passing (checks table limit today office item) passes) in
+    fits_with (row_at table (lei_in item)) (record_count table) limit (record_count (put table (Item.Record item))) fits (len-insert keys_total table.records (record_key (lei_in item)) item) from_c20.first
 
 -- ---- the items of an upload
 
@@ -116,6 +116,7 @@ may_put table limit today office (Readied.Good (Item.Record item) ∷ items) sou
 pub record IsFit (limit : ℕ) (table : Table) : Type 0 where
   pub sound : IsSound table
   pub fits : record_count table ≤ limit
+  pub chains : HasChains table
 
 entry-fit : (limits : Limits) (table : Table) (e : KeptEntry) → IsFit limits.records table → IsFit limits.records (after_entry limits table e)
 entry-fit limits table e fit =
@@ -124,6 +125,7 @@ entry-fit limits table e fit =
       | true ↦ record {
         sound = take-sound table limits.records (day_of e.moment) e.office (items_of e) fit.sound rows;
         fits = (may_put table limits.records (day_of e.moment) e.office (items_of e) fit.sound fit.fits rows).fits;
+        chains = take-chains table limits.records (day_of e.moment) e.office (items_of e) fit.chains;
       }
       | false ↦ fit
     ]
@@ -143,6 +145,10 @@ none-fit limit = record {
     rows = λ key row at. absurd (is_some-none row _ (get-empty key_cmp key) at);
   };
   fits = let none = len-empty key_cmp Row in omega (arith, none);
+  chains = record {
+    held = λ lei row next at. absurd (is_some-none row _ (get-empty key_cmp (record_key lei)) at);
+    ends = λ lei. (1, none-named lei);
+  };
 }
 
 pub after-fit : (limits : Limits) (history : History) → IsFit limits.records (after limits history)

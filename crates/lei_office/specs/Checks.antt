@@ -27,6 +27,9 @@ check_name = name_in
     ∷ (13, codes "C13 INITIAL_DATE_CHANGED")
     ∷ (14, codes "C14 UPDATE_EARLIER")
     ∷ (15, codes "C15 RENEWAL_DATE")
+    ∷ (16, codes "C16 SUCCESSOR_UNKNOWN")
+    ∷ (17, codes "C17 SUCCESSOR_CYCLE")
+    ∷ (18, codes "C18 SUCCESSOR_CHAIN_LONG")
     ∷ (19, codes "C19 AUTHORITY_KEY_TAKEN")
     ∷ []) (codes "C20 REGISTER_FULL")
 

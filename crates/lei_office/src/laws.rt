@@ -1,6 +1,7 @@
 //! Laws of the definitions. Each is the contract of a function that does nothing.
 ghost use Rattle.std.specs.Prelude.{◌≡◌, ℤ, List, Contains};
 ghost use Rattle.lei_records.specs.Tables.{IsSound};
+ghost use Rattle.successor_rules.specs.Successors.{HasChains};
 ghost use Rattle.lei_office.specs.declared.reply.Refusal.TheVariants.{NoMemory};
 ghost use Rattle.lei_office.specs.declared.reply.Reply.{Reply};
 ghost use Rattle.lei_office.specs.declared.reply.Reply.TheVariants.{Words};
@@ -23,6 +24,11 @@ pub fn uploads_are_numbered()
 /// In a register that can come about no two live records have the same authority key.
 pub fn registers_are_sound()
     ensures { (office : OfficeState) → Legal office → IsSound (after office.limits office.history) }
+{}
+
+/// In a register that can come about each successor that a record names is held, and each chain of successors ends.
+pub fn successors_are_chained()
+    ensures { (office : OfficeState) → Legal office → HasChains (after office.limits office.history) }
 {}
 
 /// In a history that can come about each change of a record was permitted to the office that sent it.

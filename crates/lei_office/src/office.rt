@@ -83,6 +83,7 @@ impl Office {
         ensures step { Step self.old request.now moment result self.new }
         ensures legal { Legal self.new }
         ensures sound { IsSound (after self.new.limits self.new.history) }
+        ensures chained { HasChains (after self.new.limits self.new.history) }
         ensures permitted { ChangesArePermitted self.new }
     {
         let moment = stamp(self.entries.as_slice(), moment);

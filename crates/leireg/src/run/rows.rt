@@ -1,6 +1,7 @@
 // Sessions whose uploads are judged on the table. Each office, moment and verdict comes from the profile's rules.
 use super::run;
 use crate::status::OK;
+use lei_code::check_digits;
 use lei_outside::{Bytes, List, ListClock, SureSink, SureSource};
 use std::alloc::Global;
 use std::test::Fail;
@@ -9,6 +10,10 @@ use std::thread::Threads;
 const A: &str = "00000000000000000195";
 
 const B: &str = "00000000000000000292";
+
+const C: &str = "00000000000000000389";
+
+const D: &str = "00000000000000000486";
 
 const OFFICE: &str = "506700GE1G29325QX363";
 
@@ -73,6 +78,50 @@ fn renewed(renewal: &str) -> Changes<'_> {
         renewal,
         ..issued(A, "1001")
     }
+}
+
+// A record that is retired, with further members of the object.
+fn retired<'a>(record: Changes<'a>, more: &'a str) -> Changes<'a> {
+    Changes {
+        status: "RETIRED",
+        entity: "INACTIVE",
+        more,
+        ..record
+    }
+}
+
+// The member that names a successor.
+fn successor(alloc: Global, lei: &str) -> Result<String, Fail> {
+    Ok(format!(in alloc; ",\"Entity.SuccessorEntity.1.SuccessorLEI\":\"{lei}\"")?)
+}
+
+// A number as a code, with its check digits.
+fn code_of(alloc: Global, number: u32) -> Result<String, Fail> {
+    let begin = format!(in alloc; "{number:018}")?;
+    let Ok(first) = <[u8; 18]>::try_from(begin.as_bytes()) else {
+        return Err(Fail::from("a number of at most 18 digits"));
+    };
+    let digits = check_digits(&first)?;
+    Ok(format!(in alloc; "{begin}{}", str::from_utf8(&digits)?)?)
+}
+
+// So many codes of numbers in order.
+fn codes_of(alloc: Global, count: u32) -> Result<Vec<String>, Fail> {
+    let mut codes = Vec::new(alloc);
+    for number in 0..count {
+        codes.push(code_of(alloc, number)?)?;
+    }
+    Ok(codes)
+}
+
+// The verdicts on items of which so many are accepted, and the last has this verdict.
+fn verdicts(alloc: Global, accepted: u32, last: &str) -> Result<String, Fail> {
+    let mut items = String::new(alloc);
+    for _ in 0..accepted {
+        items.push_str("\"ACCEPTED\",")?;
+    }
+    items.push_str(last)?;
+    Ok(items)
 }
 
 // A clock that stands still at the begin.
@@ -196,14 +245,9 @@ fn two_live_records_have_no_common_authority_key(rt: HostRuntime) -> Result<(), 
 #[test]
 fn a_retired_record_frees_its_authority_key(rt: HostRuntime) -> Result<(), Fail> {
     let mut session = Session::new(rt.alloc());
-    let retired = Changes {
-        status: "RETIRED",
-        entity: "INACTIVE",
-        ..issued(A, "1001")
-    };
     session.accredit(OFFICE)?;
     session.upload(OFFICE, 1, &[issued(A, "1001")], r#""ACCEPTED""#)?;
-    session.upload(OFFICE, 2, &[retired], r#""ACCEPTED""#)?;
+    session.upload(OFFICE, 2, &[retired(issued(A, "1001"), "")], r#""ACCEPTED""#)?;
     session.upload(OFFICE, 3, &[issued(B, "1001")], r#""ACCEPTED""#)?;
     session.upload(
         OFFICE,
@@ -261,6 +305,84 @@ fn a_registration_lapses_and_is_renewed(rt: HostRuntime) -> Result<(), Fail> {
     session.upload(OFFICE, 5, &[last], r#""ACCEPTED""#)?;
     let moments = vec![in rt.alloc(); BEGIN, BEGIN, RENEWAL_DAY, DAY_BEHIND]?;
     let (status, sink) = session.written(&rt, &mut ListClock::new(List::from(moments)))?;
+    assert_eq!(rt; status, OK);
+    assert_eq!(rt; str::from_utf8(sink.taken())?, session.replies.as_str());
+    Ok(())
+}
+
+#[test]
+fn a_successor_is_another_record_that_is_held(rt: HostRuntime) -> Result<(), Fail> {
+    let alloc = rt.alloc();
+    let (unknown, itself) = (successor(alloc, D)?, successor(alloc, A)?);
+    let mut session = Session::new(alloc);
+    session.accredit(OFFICE)?;
+    session.upload(OFFICE, 1, &[issued(A, "1001")], r#""ACCEPTED""#)?;
+    session.upload(
+        OFFICE,
+        2,
+        &[retired(issued(A, "1001"), unknown.as_str())],
+        r#""C16 SUCCESSOR_UNKNOWN""#,
+    )?;
+    session.upload(
+        OFFICE,
+        3,
+        &[retired(issued(A, "1001"), itself.as_str())],
+        r#""C17 SUCCESSOR_CYCLE""#,
+    )?;
+    let (status, sink) = session.written(&rt, &mut begin(alloc)?)?;
+    assert_eq!(rt; status, OK);
+    assert_eq!(rt; str::from_utf8(sink.taken())?, session.replies.as_str());
+    Ok(())
+}
+
+#[test]
+fn successors_do_not_go_round(rt: HostRuntime) -> Result<(), Fail> {
+    let alloc = rt.alloc();
+    let (to_a, to_b, to_c) = (successor(alloc, A)?, successor(alloc, B)?, successor(alloc, C)?);
+    let held = [issued(A, "1001"), issued(B, "1002"), issued(C, "1003")];
+    let turned = [
+        retired(held[0], to_b.as_str()),
+        retired(held[1], to_c.as_str()),
+        retired(held[2], to_a.as_str()),
+    ];
+    let mut session = Session::new(alloc);
+    session.accredit(OFFICE)?;
+    session.upload(OFFICE, 1, &held, r#""ACCEPTED","ACCEPTED","ACCEPTED""#)?;
+    session.upload(
+        OFFICE,
+        2,
+        &turned,
+        r#""ACCEPTED","ACCEPTED","C17 SUCCESSOR_CYCLE""#,
+    )?;
+    let (status, sink) = session.written(&rt, &mut begin(alloc)?)?;
+    assert_eq!(rt; status, OK);
+    assert_eq!(rt; str::from_utf8(sink.taken())?, session.replies.as_str());
+    Ok(())
+}
+
+// Of 202 records each but the first is retired with the one before it as its successor: the last one's walk has 201
+// members.
+#[test]
+fn a_chain_of_successors_has_at_most_200_members(rt: HostRuntime) -> Result<(), Fail> {
+    let alloc = rt.alloc();
+    let codes = codes_of(alloc, 202)?;
+    let mut held = Vec::new(alloc);
+    let mut names = Vec::new(alloc);
+    for code in &codes {
+        held.push(without_authority(code.as_str()))?;
+        names.push(successor(alloc, code.as_str())?)?;
+    }
+    let mut turned = Vec::new(alloc);
+    for (record, name) in held.iter().skip(1).zip(names.iter()) {
+        turned.push(retired(*record, name.as_str()))?;
+    }
+    let mut session = Session::new(alloc);
+    session.accredit(OFFICE)?;
+    let first = verdicts(alloc, 201, "\"ACCEPTED\"")?;
+    session.upload(OFFICE, 1, &held, first.as_str())?;
+    let second = verdicts(alloc, 200, "\"C18 SUCCESSOR_CHAIN_LONG\"")?;
+    session.upload(OFFICE, 2, &turned, second.as_str())?;
+    let (status, sink) = session.written(&rt, &mut begin(alloc)?)?;
     assert_eq!(rt; status, OK);
     assert_eq!(rt; str::from_utf8(sink.taken())?, session.replies.as_str());
     Ok(())

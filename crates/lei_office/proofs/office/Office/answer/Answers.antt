@@ -34,5 +34,8 @@ returns-clause-legal g c =
 pub returns-clause-sound : goal.returns-clause-sound
 returns-clause-sound g c = (after-fit c.self.inside.limits c.reply_to.new.entries.items).sound
 
+pub returns-clause-chained : goal.returns-clause-chained
+returns-clause-chained g c = (after-fit c.self.inside.limits c.reply_to.new.entries.items).chains
+
 pub returns-clause-permitted : goal.returns-clause-permitted
 returns-clause-permitted g c = all_permitted (office_of c.self.inside.limits c.reply_to.new.entries.items)
