@@ -3,3 +3,4 @@ pub mod OverlayLemmas
 pub mod JudgingLemmas
 pub mod TakingLemmas
 pub mod RisingLemmas
+pub mod ChainLemmas

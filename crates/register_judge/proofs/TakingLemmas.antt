@@ -1,5 +1,5 @@
 -- What a view answers over the cells of a sound table is what the items do to that table.
-use Rattle.std.specs.Prelude.{◌≡◌, ℕ, ◌+◌, ◌-◌, ◌==◌, ℤ, List, [], ◌∷◌, ◌++◌, Bool, true, false, ◌&&◌, cond, nat_le, ◌<◌, Option, Some, None, is_some, is_none, option_map, Result, Ok, Err}
+use Rattle.std.specs.Prelude.{◌≡◌, ℕ, ◌+◌, ◌-◌, ◌==◌, ℤ, List, [], ◌∷◌, ◌++◌, Bool, true, false, ◌&&◌, cond, if◌then◌else◌, nat_le, ◌<◌, Option, Some, None, is_some, is_none, option_map, Result, Ok, Err}
 use Rattle.std.specs.FinMap.{len-insert}
 use Rattle.std.specs.Option.{option_or}
 use Rattle.std.specs.Str.{bytes_eq}
@@ -14,19 +14,23 @@ use Rattle.lei_records.specs.declared.view.CellKey.{CellKey}
 use Rattle.lei_records.specs.declared.view.RecCell.{RecCell}
 use Rattle.lei_records.specs.declared.view.RowKey.{RowKey}
 use Rattle.lei_records.specs.declared.view.Seen.{Seen}
-use Rattle.lei_records.specs.Cells.{lei_in, rec_cell, is_live, akey, holds}
+use Rattle.lei_records.specs.Cells.{Cells, lei_in, successor_in, rec_cell, is_live, akey, holds}
 use Rattle.lei_records.specs.Rows.{Row}
 use Rattle.lei_records.specs.Spelled.{IsRow}
 use Rattle.lei_records.specs.Tables.{Table, record_key, put, put_write, put_all, row_at, record_of, record_count, holder_of, other_holder, seen, cells_of, IsKeyed, HasHolders, IsSound}
 use Rattle.authority_rules.specs.Taken.{unless_own, taken, IsFree}
 use Rattle.authority_rules.proofs.HolderLemmas.{keys_total, some_apart, taken-cells}
 use Rattle.authority_rules.proofs.PutLemmas.{record_of-put, holder_of-put, IsKeyed-put, HasHolders-put, IsSound-put, other_than}
+use Rattle.successor_rules.specs.declared.walks.Walked.{Walked}
+use Rattle.successor_rules.specs.Successors.{successor_of}
+use Rattle.successor_rules.specs.Walks.{is_met, is_long}
+use Rattle.successor_rules.proofs.WalkLemmas.{walk-over_table}
 use Rattle.register_judge.specs.declared.judge.Judged.{Judged}
 use Rattle.register_judge.specs.declared.outcome.JudgeStop.{JudgeStop}
 use Rattle.register_judge.specs.declared.outcome.Outcome.{Outcome}
 use Rattle.register_judge.specs.declared.outcome.Verdict.{Verdict}
-use Rattle.register_judge.specs.Checks.{Line, fails_if, first_failing, own_checks, held_checks, c19, c20, code_detail, earlier_checks, checks, is_full}
-use Rattle.register_judge.specs.Judging.{unless_failed, on_seen, key_cell, judge_room, judge_other, judge_key, judge_held, judge_record, judge_item, put_writes, cells_after, room_after, room_taken, Judgement, before, judge_items}
+use Rattle.register_judge.specs.Checks.{Line, fails_if, first_failing, own_checks, held_checks, c16, c19, c20, code_detail, successor_checks, earlier_checks, checks, is_full}
+use Rattle.register_judge.specs.Judging.{unless_failed, on_seen, key_cell, judge_room, judge_other, judge_key, judge_walk, judge_named, judge_successor, judge_held, judge_record, judge_item, put_writes, cells_after, room_after, room_taken, Judgement, before, judge_items}
 use Rattle.register_judge.specs.Outcomes.{Judges, Takes}
 use Rattle.register_judge.specs.Overlays.{put_cells}
 use Rattle.register_judge.specs.Taking.{verdict_of, verdict, writes_of, is_new, Taken, take, HaveRows}
@@ -51,13 +55,15 @@ and_false true = refl
 and_false false = refl
 
 -- checks one after the other are the first of all that fails
-chained : (own held key room : Option Check) (none : Bool)
-    → unless_failed own (unless_failed held (unless_failed key (Ok (record { verdict = verdict_of room; new = none }))))
-    ≡ Ok (record { verdict = verdict_of (option_or (option_or (option_or own held) key) room); new = none && is_none (option_or (option_or own held) key) })
-chained None None None room none = λ i. Ok (record { verdict = verdict_of room; new = and_true none i })
-chained None None (Some check) room none = λ i. Ok (record { verdict = Verdict.Rejected check; new = and_false none i })
-chained None (Some check) key room none = λ i. Ok (record { verdict = Verdict.Rejected check; new = and_false none i })
-chained (Some check) held key room none = λ i. Ok (record { verdict = Verdict.Rejected check; new = and_false none i })
+chained : (own held named key room : Option Check) (none : Bool) →
+    let earlier = option_or (option_or (option_or own held) named) key in
+    unless_failed own (unless_failed held (unless_failed named (unless_failed key (Ok (record { verdict = verdict_of room; new = none })))))
+    ≡ Ok (record { verdict = verdict_of (option_or earlier room); new = none && is_none earlier })
+chained None None None None room none = λ i. Ok (record { verdict = verdict_of room; new = and_true none i })
+chained None None None (Some check) room none = λ i. Ok (record { verdict = Verdict.Rejected check; new = and_false none i })
+chained None None (Some check) key room none = λ i. Ok (record { verdict = Verdict.Rejected check; new = and_false none i })
+chained None (Some check) named key room none = λ i. Ok (record { verdict = Verdict.Rejected check; new = and_false none i })
+chained (Some check) held named key room none = λ i. Ok (record { verdict = Verdict.Rejected check; new = and_false none i })
 
 seen_cond : {X : Type 0} (b : Bool) (x : X) (o : Option X) → seen (cond b (Some x) o) ≡ cond b (Seen.Held x) (seen o)
 seen_cond true x o = refl
@@ -96,14 +102,40 @@ judged_on table limit today office item = record { verdict = verdict table limit
 full_by_room : (count limit room : ℕ) → limit ≡ count + room → (room == 0) ≡ nat_le limit count
 full_by_room count limit room is = grind (arith, nat_tests)
 
+-- C16 to C18 are asked one after the other
+in_turn : (cells : Cells) (held : Option RecCell) (full : Bool) (item : Row) (found : Option RecCell) (met long : Bool)
+    → unless_failed (first_failing (c16 found ∷ [])) (judge_walk cells held full item (if met then Walked.Meets else if long then Walked.Long else Walked.Ends))
+    ≡ unless_failed (first_failing (c16 found ∷ fails_if met 17 Detail.None ∷ fails_if long 18 Detail.None ∷ [])) (judge_key cells held full item)
+in_turn cells held full item None met long = refl
+in_turn cells held full item (Some cell) true long = refl
+in_turn cells held full item (Some cell) false true = refl
+in_turn cells held full item (Some cell) false false = refl
+
+-- the successor and its walk on a table
+successor_by_table : (table : Table) (held : Option RecCell) (full : Bool) (item : Row) (successor : Option (List ℕ))
+    → judge_successor (cells_of table) held full item successor
+    ≡ unless_failed (first_failing (successor_checks table item successor)) (judge_key (cells_of table) held full item)
+successor_by_table table held full item None = refl
+successor_by_table table held full item (Some successor) =
+    let found = record_of table successor in
+    known found (CellKey.Rec successor) (judge_named (cells_of table) held full item successor)
+    ∙ (ap (λ w. unless_failed (first_failing (c16 found ∷ [])) (judge_walk (cells_of table) held full item w)) (walk-over_table table (lei_in item) successor)
+    ∙ in_turn (cells_of table) held full item found (is_met (successor_of table) (lei_in item) successor) (is_long (successor_of table) successor))
+
 in_parts : (table : Table) (limit : ℕ) (today : ℤ) (office : List ℕ) (item : Row) →
     let held = record_of table (lei_in item) in
     first_failing (earlier_checks table today office item)
-    ≡ option_or (option_or (first_failing (own_checks today office item)) (first_failing (held_checks held today office item))) (first_failing (c19 (other_holder table item) item ∷ []))
+    ≡ option_or (option_or (option_or (first_failing (own_checks today office item)) (first_failing (held_checks held today office item)))
+    (first_failing (successor_checks table item (successor_in item)))) (first_failing (c19 (other_holder table item) item ∷ []))
 in_parts table limit today office item =
     let held = record_of table (lei_in item) in
-    first_failing-append (own_checks today office item ++ held_checks held today office item) (c19 (other_holder table item) item ∷ [])
-    ∙ ap (λ f. option_or f (first_failing (c19 (other_holder table item) item ∷ []))) (first_failing-append (own_checks today office item) (held_checks held today office item))
+    let own = own_checks today office item in
+    let of_held = held_checks held today office item in
+    let of_successor = successor_checks table item (successor_in item) in
+    let of_key = c19 (other_holder table item) item ∷ [] in
+    first_failing-append (own ++ of_held ++ of_successor) of_key
+    ∙ ap (λ f. option_or f (first_failing of_key))
+    (first_failing-append (own ++ of_held) of_successor ∙ ap (λ f. option_or f (first_failing of_successor)) (first_failing-append own of_held))
 
 record_by_table : (table : Table) (limit room : ℕ) (today : ℤ) (office : List ℕ) (item : Row) → IsKeyed table → HasHolders table → limit ≡ record_count table + room
     → judge_record (cells_of table) (room == 0) today office item ≡ Ok (judged_on table limit today office (Readied.Good (Item.Record item)))
@@ -113,17 +145,19 @@ record_by_table table limit room today office item keyed holders limit_is =
     let full = is_full table limit in
     let own = first_failing (own_checks today office item) in
     let of_held = first_failing (held_checks held today office item) in
+    let of_successor = first_failing (successor_checks table item (successor_in item)) in
     let of_key = first_failing (c19 (other_holder table item) item ∷ []) in
     let of_room = first_failing (c20 held full ∷ []) in
     let earlier = in_parts table limit today office item in
     ap (λ full. unless_failed own (on_seen (seen held) (CellKey.Rec (lei_in item)) (judge_held (cells_of table) full today office item))) (full_by_room (record_count table) limit room limit_is)
     ∙ (ap (unless_failed own) (known held (CellKey.Rec (lei_in item)) (judge_held (cells_of table) full today office item))
-    ∙ (ap (λ r. unless_failed own (unless_failed of_held r)) (key_by_table table held full item keyed holders)
-    ∙ (chained own of_held of_key of_room (is_none held)
+    ∙ (ap (λ r. unless_failed own (unless_failed of_held r)) (successor_by_table table held full item (successor_in item))
+    ∙ (ap (λ r. unless_failed own (unless_failed of_held (unless_failed of_successor r))) (key_by_table table held full item keyed holders)
+    ∙ (chained own of_held of_successor of_key of_room (is_none held)
     ∙ (λ i. Ok (record {
       verdict = verdict_of ((sym (first_failing-append (earlier_checks table today office item) (c20 held full ∷ []) ∙ ap (λ f. option_or f of_room) earlier)) i);
       new = is_none held && is_none (sym earlier i);
-    })))))
+    }))))))
 
 item_by_table : (table : Table) (limit room : ℕ) (today : ℤ) (office : List ℕ) (item : Readied) → IsKeyed table → HasHolders table → limit ≡ record_count table + room
     → judge_item (cells_of table) (room == 0) today office item ≡ Ok (judged_on table limit today office item)
@@ -153,7 +187,7 @@ one_none true code detail e = absurd (some_apart _ e)
 one_none false code detail e = refl
 
 -- all checks pass
-abbrev Passes : Table → ℕ → ℤ → List ℕ → Row → Type 0
+abbrev pub Passes : Table → ℕ → ℤ → List ℕ → Row → Type 0
 Passes table limit today office item = first_failing (checks table limit today office item) ≡ None
 
 passed : (table : Table) (limit : ℕ) (today : ℤ) (office : List ℕ) (item : Row) → Passes table limit today office item
@@ -166,10 +200,21 @@ live_free live None e is = refl
 live_free true (Some lei) e is = absurd (true≢false e)
 live_free false (Some lei) e is = absurd (true≢false (sym is))
 
+before_c20 : (table : Table) (limit : ℕ) (today : ℤ) (office : List ℕ) (item : Row) → Passes table limit today office item
+    → (option_or (option_or (first_failing (own_checks today office item)) (first_failing (held_checks (record_of table (lei_in item)) today office item)))
+    (first_failing (successor_checks table item (successor_in item))) ≡ None)
+    × (first_failing (c19 (other_holder table item) item ∷ []) ≡ None)
+before_c20 table limit today office item passes =
+    or_none _ _ (sym (in_parts table limit today office item) ∙ (passed table limit today office item passes).0)
+
 free_if_passes : (table : Table) (limit : ℕ) (today : ℤ) (office : List ℕ) (item : Row) → Passes table limit today office item → IsFree table item
 free_if_passes table limit today office item passes =
-    let parts = or_none _ _ (sym (in_parts table limit today office item) ∙ (passed table limit today office item passes).0) in
+    let parts = before_c20 table limit today office item passes in
     live_free (is_live item) (other_holder table item) (one_none (is_live item && is_some (other_holder table item)) 19 (code_detail (other_holder table item)) parts.1)
+
+pub successors_pass : (table : Table) (limit : ℕ) (today : ℤ) (office : List ℕ) (item : Row) → Passes table limit today office item
+    → first_failing (successor_checks table item (successor_in item)) ≡ None
+successors_pass table limit today office item passes = (or_none _ _ (before_c20 table limit today office item passes).0).1
 
 -- ---- the table and the room after an item
 

@@ -1,4 +1,4 @@
--- The checks of a record that is brought to a table, C05 to C15, C19 and C20. This project's profile.
+-- The checks of a record that is brought to a table, C05 to C20. This project's profile.
 use Rattle.std.specs.Prelude.{ℕ, ℤ, List, [], ◌∷◌, ◌++◌, Bool, false, not, ◌&&◌, ◌||◌, int_lt, nat_le, if◌then◌else◌, Option, Some, None, is_some, is_none}
 use Rattle.std.specs.Option.{option_map_or}
 use Rattle.std.specs.Ordering.{int_eq}
@@ -14,6 +14,8 @@ use Rattle.lei_records.specs.Tables.{Table, record_of, record_count, other_holde
 use Rattle.status_rules.specs.declared.transitions.Party.{Party}
 use Rattle.status_rules.specs.Statuses.{entity_fits, renewal_fits, is_issued, is_retired, is_duplicate}
 use Rattle.status_rules.specs.Transitions.{party}
+use Rattle.successor_rules.specs.Successors.{successor_of}
+use Rattle.successor_rules.specs.Walks.{Next, is_met, is_long}
 
 -- a check: its number, whether it fails, and what it tells then
 pub record Line : Type 0 where
@@ -102,6 +104,20 @@ c14 (Some held) item = fails_if (int_lt (updated_in item) held.updated) 14 Detai
 abbrev pub c15 : ℤ → Row → Line
 c15 today item = fails_if (not (renewal_fits (status_in item) (day_of (renewal_in item)) today)) 15 Detail.None
 
+-- ---- the successor of an item that has one
+
+-- C16: no record of the successor is held
+abbrev pub c16 : Option RecCell → Line
+c16 found = fails_if (is_none found) 16 Detail.None
+
+-- C17: one of the first 200 members of the walk from the successor is the item's own LEI
+abbrev pub c17 : Next → Row → List ℕ → Line
+c17 next item successor = fails_if (is_met next (lei_in item) successor) 17 Detail.None
+
+-- C18: that walk has a 201st member
+abbrev pub c18 : Next → List ℕ → Line
+c18 next successor = fails_if (is_long next successor) 18 Detail.None
+
 -- ---- the other records
 
 -- a code that stands in the way is told
@@ -126,11 +142,17 @@ abbrev pub held_checks : Option RecCell → ℤ → List ℕ → Row → List Li
 held_checks held today office item =
     c10 held item ∷ c11 held item ∷ c12 held office item ∷ c13 held item ∷ c14 held item ∷ c15 today item ∷ []
 
+-- C16 to C18 are asked only of an item that has a successor. The walk goes by the records of the table
+abbrev pub successor_checks : Table → Row → Option (List ℕ) → List Line
+successor_checks table item None = []
+successor_checks table item (Some successor) =
+    c16 (record_of table successor) ∷ c17 (successor_of table) item successor ∷ c18 (successor_of table) successor ∷ []
+
 -- the checks before C20, on a table
 abbrev pub earlier_checks : Table → ℤ → List ℕ → Row → List Line
 earlier_checks table today office item =
     own_checks today office item ++ held_checks (record_of table (lei_in item)) today office item
-    ++ c19 (other_holder table item) item ∷ []
+    ++ successor_checks table item (successor_in item) ++ c19 (other_holder table item) item ∷ []
 
 -- the table holds as many records as the limit
 abbrev pub is_full : Table → ℕ → Bool

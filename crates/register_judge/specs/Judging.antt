@@ -1,18 +1,21 @@
 -- The same over any view: what a view's cells make of items, or the first cell that they need and the view lacks.
 use Rattle.std.specs.Prelude.{ℕ, ◌+◌, ◌-◌, ◌==◌, ℤ, List, [], ◌∷◌, ◌++◌, Bool, true, false, if◌then◌else◌, Option, Some, None, is_none, Result, Ok, Err}
 use Rattle.lei_records.specs.declared.check.Check.{Check}
+use Rattle.lei_records.specs.declared.check.Detail.{Detail}
 use Rattle.lei_records.specs.declared.item.Item.{Item}
 use Rattle.lei_records.specs.declared.item.Readied.{Readied}
 use Rattle.lei_records.specs.declared.view.CellKey.{CellKey}
 use Rattle.lei_records.specs.declared.view.RecCell.{RecCell}
 use Rattle.lei_records.specs.declared.view.RowKey.{RowKey}
 use Rattle.lei_records.specs.declared.view.Seen.{Seen}
-use Rattle.lei_records.specs.Cells.{Cells, lei_in, is_live, akey}
+use Rattle.lei_records.specs.Cells.{Cells, lei_in, successor_in, is_live, akey}
 use Rattle.lei_records.specs.Rows.{Row}
 use Rattle.authority_rules.specs.Taken.{taken}
+use Rattle.successor_rules.specs.declared.walks.Walked.{Walked}
+use Rattle.successor_rules.specs.Successors.{walk}
 use Rattle.register_judge.specs.declared.judge.Judged.{Judged}
 use Rattle.register_judge.specs.declared.outcome.Verdict.{Verdict}
-use Rattle.register_judge.specs.Checks.{first_failing, own_checks, held_checks, c19, c20}
+use Rattle.register_judge.specs.Checks.{first_failing, own_checks, held_checks, c16, c19, c20}
 use Rattle.register_judge.specs.Overlays.{put_cells}
 use Rattle.register_judge.specs.Taking.{verdict_of, writes_of}
 
@@ -49,10 +52,33 @@ judge_key cells held full item =
     if is_live item then on_seen (taken cells item) (key_cell (akey item)) (judge_other held full item)
     else Ok (judge_room held full)
 
+-- a check that tells nothing but its number
+abbrev pub plain : ℕ → Check
+plain code = record { code = code; detail = Detail.None }
+
+-- C17 and C18, by what becomes of the walk of successors, and then from C19 on
+abbrev pub judge_walk : Cells → Option RecCell → Bool → Row → Walked → Result Judged CellKey
+judge_walk cells held full item Walked.Meets = Ok (rejected (plain 17))
+judge_walk cells held full item Walked.Long = Ok (rejected (plain 18))
+judge_walk cells held full item Walked.Ends = judge_key cells held full item
+judge_walk cells held full item (Walked.Missing key) = Err key
+
+-- from C16 on, with the record of the successor
+abbrev pub judge_named : Cells → Option RecCell → Bool → Row → List ℕ → Option RecCell → Result Judged CellKey
+judge_named cells held full item successor found =
+    unless_failed (first_failing (c16 found ∷ [])) (judge_walk cells held full item (walk cells (lei_in item) successor))
+
+-- from C16 on: an item without a successor has nothing to ask of one
+abbrev pub judge_successor : Cells → Option RecCell → Bool → Row → Option (List ℕ) → Result Judged CellKey
+judge_successor cells held full item None = judge_key cells held full item
+judge_successor cells held full item (Some successor) =
+    on_seen (cells.record_cell successor) (CellKey.Rec successor) (judge_named cells held full item successor)
+
 -- from C10 on
 abbrev pub judge_held : Cells → Bool → ℤ → List ℕ → Row → Option RecCell → Result Judged CellKey
 judge_held cells full today office item held =
-    unless_failed (first_failing (held_checks held today office item)) (judge_key cells held full item)
+    unless_failed (first_failing (held_checks held today office item))
+    (judge_successor cells held full item (successor_in item))
 
 -- from C05 on
 unfoldable pub judge_record : Cells → Bool → ℤ → List ℕ → Row → Result Judged CellKey

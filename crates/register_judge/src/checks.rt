@@ -45,14 +45,23 @@ pub const UPDATE_EARLIER: u8 = 14;
 /// C15: the renewal doesn't fit the status.
 pub const RENEWAL_DATE: u8 = 15;
 
+/// C16: no record of the successor is held.
+pub const SUCCESSOR_UNKNOWN: u8 = 16;
+
+/// C17: the chain of successors comes back to the item.
+pub const SUCCESSOR_CYCLE: u8 = 17;
+
+/// C18: the chain of successors has more than 200 members.
+pub const SUCCESSOR_CHAIN_LONG: u8 = 18;
+
 /// C19: another live record has the item's authority key. It tells that record's code.
 pub const AUTHORITY_KEY_TAKEN: u8 = 19;
 
 /// C20: there is no room for a further record.
 pub const REGISTER_FULL: u8 = 20;
 
-// A check that tells nothing but its number.
-fn plain(code: u8) -> Check
+/// A check that tells nothing but its number.
+pub fn plain(code: u8) -> Check
     ensures { result ≡ record { code = code; detail = Detail.None } }
 {
     Check {

@@ -3,19 +3,24 @@ ghost use Rattle.std.specs.Prelude.{◌≡◌, ℕ, List, [], ◌∷◌, Some, N
 ghost use Rattle.lei_records.specs.declared.item.Item.{Item};
 ghost use Rattle.lei_records.specs.declared.item.Readied.{Readied};
 ghost use Rattle.lei_records.specs.declared.view.CellKey.{CellKey};
-ghost use Rattle.lei_records.specs.Cells.{akey};
+ghost use Rattle.lei_records.specs.Cells.{akey, lei_in};
 ghost use Rattle.register_judge.specs.Checks;
 ghost use Rattle.register_judge.specs.Judging;
 ghost use Rattle.register_judge.specs.Outcomes.{JudgesItem};
 ghost use Rattle.register_judge.specs.Taking;
+ghost use Rattle.successor_rules.specs.Successors;
 
-use crate::checks::{held_check, key_check, own_check, room_check};
+use crate::checks::{
+    SUCCESSOR_CHAIN_LONG, SUCCESSOR_CYCLE, SUCCESSOR_UNKNOWN, held_check, key_check, own_check,
+    plain, room_check,
+};
 use crate::outcome::{JudgeStop, Verdict};
 use authority_rules::{is_live, key_of, taken};
 use lei_code::Lei;
 use lei_outside::{NoMemory, Text};
 use lei_records::{CellKey, Check, Item, Readied, RecCell, Record, Seen, View};
 use std::alloc::Global;
+use successor_rules::{Walked, walk};
 
 /// The verdict on an item, and whether it came to the check of the room while no record of its code
 /// was held.
@@ -88,7 +93,49 @@ fn judge_held<V: View>(
     if let Some(check) = held_check(held, office, today, item) {
         return Ok(rejected(check));
     }
-    judge_key(alloc, view, held, full, item)
+    match item.successor() {
+        Some(successor) => judge_successor(alloc, view, held, full, item, &successor),
+        None => judge_key(alloc, view, held, full, item),
+    }
+}
+
+// From C16 on, of an item with this successor.
+fn judge_successor<V: View>(
+    alloc: Global,
+    view: &V,
+    held: &Option<RecCell>,
+    full: bool,
+    item: &Record,
+    successor: &Lei,
+) -> Result<Judged, JudgeStop>
+    ensures { JudgesItem result
+        (Judging.judge_successor (V.cells view.now) held.now full item.now (Some successor.now)) }
+{
+    match view.record_cell(successor) {
+        Seen::Held(_) => judge_walk(alloc, view, held, full, item, successor),
+        Seen::Empty => Ok(rejected(plain(SUCCESSOR_UNKNOWN))),
+        Seen::Missing => Err(JudgeStop::NeedCell(CellKey::Rec(*successor))),
+    }
+}
+
+// From C17 on, of an item whose successor is held.
+fn judge_walk<V: View>(
+    alloc: Global,
+    view: &V,
+    held: &Option<RecCell>,
+    full: bool,
+    item: &Record,
+    successor: &Lei,
+) -> Result<Judged, JudgeStop>
+    ensures { JudgesItem result (Judging.judge_walk (V.cells view.now) held.now full item.now
+        (Successors.walk (V.cells view.now) (lei_in item.now) successor.now)) }
+{
+    match walk(view, successor, &item.lei()) {
+        Walked::Meets => Ok(rejected(plain(SUCCESSOR_CYCLE))),
+        Walked::Long => Ok(rejected(plain(SUCCESSOR_CHAIN_LONG))),
+        Walked::Ends => judge_key(alloc, view, held, full, item),
+        Walked::Missing(key) => Err(JudgeStop::NeedCell(key)),
+    }
 }
 
 // From C19 on. A record that isn't live doesn't ask for its key.

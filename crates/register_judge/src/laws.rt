@@ -1,8 +1,13 @@
 //! Laws of what items do to a table, each as the contract of an empty function.
-ghost use Rattle.std.specs.Prelude.{◌≡◌, ℕ, ℤ, List};
+ghost use Rattle.std.specs.Prelude.{◌≡◌, ℕ, ℤ, List, None};
+ghost use Rattle.lei_records.specs.declared.item.Item.{Item};
 ghost use Rattle.lei_records.specs.declared.item.Readied.{Readied};
-ghost use Rattle.lei_records.specs.Tables.{Table, IsSound, put_all};
+ghost use Rattle.lei_records.specs.Cells.{successor_in};
+ghost use Rattle.lei_records.specs.Rows.{Row};
+ghost use Rattle.lei_records.specs.Tables.{Table, IsSound, put, put_all};
+ghost use Rattle.register_judge.specs.Checks.{first_failing, successor_checks};
 ghost use Rattle.register_judge.specs.Taking.{take, HaveRows};
+ghost use Rattle.successor_rules.specs.Successors.{HasChains};
 
 /// Items leave a sound table sound.
 pub fn items_keep_tables_sound()
@@ -14,4 +19,17 @@ pub fn items_keep_tables_sound()
 pub fn writes_make_the_table()
     ensures { (table : Table) (limit : ℕ) (today : ℤ) (office : List ℕ) (items : List Readied)
         → (take table limit today office items).table ≡ put_all (take table limit today office items).writes table }
+{}
+
+/// A record that passes the checks of its successor on a table leaves each successor held and each chain ending.
+pub fn accepted_successors_keep_chains()
+    ensures { (table : Table) (row : Row) → HasChains table
+        → first_failing (successor_checks table row (successor_in row)) ≡ None
+        → HasChains (put table (Item.Record row)) }
+{}
+
+/// So do items, whatever they are.
+pub fn items_keep_chains()
+    ensures { (table : Table) (limit : ℕ) (today : ℤ) (office : List ℕ) (items : List Readied)
+        → HasChains table → HasChains (take table limit today office items).table }
 {}

@@ -1,0 +1,127 @@
+-- A record whose successor passes its checks leaves each successor held and each chain ending.
+use Rattle.std.specs.Prelude.{◌≡◌, ◌≢◌, ℕ, ℤ, Bool, true, false, cond, List, [], ◌∷◌, if◌then◌else◌, Option, Some, None, IsSome, option_map, option_and_then}
+use Rattle.std.specs.List.{Contains}
+use Rattle.std.specs.Option.{option_to_list}
+use Rattle.std.specs.Str.{bytes_eq}
+use Rattle.std.proofs.Common.{refl, sym, ap, subst, rules, ◌∙◌}
+use Rattle.lei_records.specs.declared.check.Check.{Check}
+use Rattle.lei_records.specs.declared.check.Detail.{Detail}
+use Rattle.lei_records.specs.declared.item.Item.{Item}
+use Rattle.lei_records.specs.declared.item.Readied.{Readied}
+use Rattle.lei_records.specs.declared.view.RecCell.{RecCell}
+use Rattle.lei_records.specs.Cells.{lei_in, rec_cell, successor_in}
+use Rattle.lei_records.specs.Rows.{Row}
+use Rattle.lei_records.specs.Tables.{Table, put, put_all, row_at, record_of}
+use Rattle.authority_rules.proofs.HolderLemmas.{bytes_same, bytes_itself, some_apart}
+use Rattle.authority_rules.proofs.PutLemmas.{row_at-put}
+use Rattle.successor_rules.specs.declared.walks.Walked.{Walked}
+use Rattle.successor_rules.specs.Chains.{AllEnd, IsTurned}
+use Rattle.successor_rules.specs.Successors.{HasChains, successor_of, successors_of}
+use Rattle.successor_rules.specs.Walks.{is_met, is_long, walked}
+use Rattle.successor_rules.proofs.ChainLemmas.{keeps_ends}
+use Rattle.successor_rules.proofs.WalkLemmas.{ended_walk_keeps_ends}
+use Rattle.register_judge.specs.Checks.{fails_if, first_failing, c16, checks, successor_checks}
+use Rattle.register_judge.specs.Taking.{verdict_of, verdict, writes_of, take}
+use Rattle.register_judge.proofs.TakingLemmas.{Passes, successors_pass}
+
+-- ---- what the checks of a successor say of it where they pass
+
+held_and_ends : (found : Option RecCell) (met long : Bool)
+    → first_failing (c16 found ∷ fails_if met 17 Detail.None ∷ fails_if long 18 Detail.None ∷ []) ≡ None
+    → IsSome found × ((if met then Walked.Meets else if long then Walked.Long else Walked.Ends) ≡ Walked.Ends)
+held_and_ends None met long e = absurd (some_apart _ e)
+held_and_ends (Some cell) true long e = absurd (some_apart _ e)
+held_and_ends (Some cell) false true e = absurd (some_apart _ e)
+held_and_ends (Some cell) false false e = (refl, refl)
+
+-- the checks of the successor pass
+abbrev Pass : Table → Row → Option (List ℕ) → Type 0
+Pass table row successor = first_failing (successor_checks table row successor) ≡ None
+
+passed : (table : Table) (row : Row) (successor : List ℕ) → Pass table row (Some successor)
+    → IsSome (record_of table successor) × (walked (successor_of table) (lei_in row) successor ≡ Walked.Ends)
+passed table row successor passes =
+    held_and_ends (record_of table successor) (is_met (successor_of table) (lei_in row) successor) (is_long (successor_of table) successor) passes
+
+-- ---- each successor is held
+
+row_held : (row : Option Row) → IsSome (option_map rec_cell row) → IsSome row
+row_held None held = held
+row_held (Some row) held = refl
+
+named_held : (table : Table) (row : Row) (successor : Option (List ℕ)) → Pass table row successor
+    → (next : List ℕ) → successor ≡ Some next → IsSome (row_at table next)
+named_held table row None passes next is = absurd (some_apart next (sym is))
+named_held table row (Some successor) passes next is =
+    let same : successor ≡ next = cc in
+    subst (λ lei. IsSome (row_at table lei)) same (row_held (row_at table successor) (passed table row successor passes).0)
+
+stays_held : (table : Table) (row : Row) (lei : List ℕ) → IsSome (row_at table lei) → IsSome (row_at (put table (Item.Record row)) lei)
+stays_held table row lei held =
+    subst IsSome (sym (row_at-put table row lei))
+    (elim (bytes_eq lei (lei_in row)) as (λ b. IsSome (cond b (Some row) (row_at table lei))) [ true ↦ refl | false ↦ held ])
+
+all_held : (table : Table) (row : Row) → HasChains table → Pass table row (successor_in row)
+    → (lei : List ℕ) (other : Row) (next : List ℕ) → row_at (put table (Item.Record row)) lei ≡ Some other → successor_in other ≡ Some next
+    → IsSome (row_at (put table (Item.Record row)) next)
+all_held table row chains passes lei other next at names =
+    let known : cond (bytes_eq lei (lei_in row)) (Some row) (row_at table lei) ≡ Some other = sym (row_at-put table row lei) ∙ at in
+    stays_held table row next
+    (elim (bytes_eq lei (lei_in row)) as (λ b. cond b (Some row) (row_at table lei) ≡ Some other → IsSome (row_at table next)) [
+      | true ↦ λ is. let same : row ≡ other = cc in named_held table row (successor_in row) passes next (ap successor_in same ∙ names)
+      | false ↦ λ is. chains.held lei other next is names
+    ] known)
+
+-- ---- each chain ends
+
+another : (a b : List ℕ) → a ≢ b → bytes_eq a b ≡ false
+another a b differ =
+    elim (bytes_eq a b) as (λ t. bytes_eq a b ≡ t → t ≡ false) [ true ↦ λ same. absurd (differ (bytes_same a b same)) | false ↦ λ same. refl ] refl
+
+-- a record that is put names its successor, and each other one the one that it named
+turned : (table : Table) (row : Row) (successor : Option (List ℕ)) → successor_in row ≡ successor
+    → IsTurned (successors_of table) (successors_of (put table (Item.Record row))) (lei_in row) (option_to_list successor)
+turned table row successor names =
+    let at : (lei : List ℕ) (own : Bool) → bytes_eq lei (lei_in row) ≡ own
+    → successors_of (put table (Item.Record row)) lei ≡ option_to_list (option_and_then successor_in (cond own (Some row) (row_at table lei))) =
+    λ lei own is. ap (λ r. option_to_list (option_and_then successor_in r))
+    (row_at-put table row lei ∙ ap (λ b. cond b (Some row) (row_at table lei)) is) in
+    record {
+      here = at (lei_in row) true (bytes_itself (lei_in row)) ∙ ap option_to_list names;
+      elsewhere = λ lei differ. at lei false (another lei (lei_in row) differ);
+    }
+
+none_of : (lei : List ℕ) → Contains [] lei → ⊥
+none_of lei at = search rules
+
+all_end : (table : Table) (row : Row) (successor : Option (List ℕ)) → HasChains table → successor_in row ≡ successor → Pass table row successor
+    → AllEnd (successors_of (put table (Item.Record row)))
+all_end table row None chains names passes =
+    keeps_ends (successors_of table) (successors_of (put table (Item.Record row))) (lei_in row) [] 0 chains.ends (turned table row None names)
+    (λ lei at. absurd (none_of lei at))
+all_end table row (Some successor) chains names passes =
+    ended_walk_keeps_ends (successor_of table) (successors_of (put table (Item.Record row))) (lei_in row) successor chains.ends
+    (turned table row (Some successor) names) (passed table row successor passes).1
+
+-- ---- a record, and items
+
+pub chains-put : (table : Table) (row : Row) → HasChains table → Pass table row (successor_in row) → HasChains (put table (Item.Record row))
+chains-put table row chains passes = record {
+  held = all_held table row chains passes;
+  ends = all_end table row (successor_in row) chains refl passes;
+}
+
+record_chains : (table : Table) (limit : ℕ) (today : ℤ) (office : List ℕ) (item : Row) (failed : Option Check) → HasChains table
+    → first_failing (checks table limit today office item) ≡ failed
+    → HasChains (put_all (writes_of (verdict_of failed) (Readied.Good (Item.Record item))) table)
+record_chains table limit today office item None chains is = chains-put table item chains (successors_pass table limit today office item is)
+record_chains table limit today office item (Some check) chains is = chains
+
+pub take-chains : (table : Table) (limit : ℕ) (today : ℤ) (office : List ℕ) (items : List Readied) → HasChains table
+    → HasChains (take table limit today office items).table
+take-chains table limit today office [] chains = chains
+take-chains table limit today office (Readied.Bad check ∷ items) chains = take-chains table limit today office items chains
+take-chains table limit today office (Readied.Good (Item.Record item) ∷ items) chains =
+    let given = verdict table limit today office (Readied.Good (Item.Record item)) in
+    take-chains (put_all (writes_of given (Readied.Good (Item.Record item))) table) limit today office items
+    (record_chains table limit today office item (first_failing (checks table limit today office item)) chains refl)
