@@ -1,5 +1,7 @@
 -- The register after a history is sound and has no more records than the limit, and what an upload writes may be put.
-use Rattle.std.proofs.Common.{◌≡◌, ℕ, ◌+◌, ◌<◌, ◌≤◌, ℤ, List, [], ◌∷◌, map, fold, Bool, true, false, ◌&&◌, cond, nat_le, nat_lt, ◌==◌, length, Option, Some, None, is_some, is_none, option_map, Result, Ok, Err, MatchResult, refl, sym, ◌∙◌, subst, arith}
+use Rattle.std.proofs.Common.{◌≡◌, ℕ, ◌+◌, ◌<◌, ◌≤◌, ℤ, List, [], ◌∷◌, map, fold, Bool, true, false, ◌&&◌, cond, nat_le, nat_lt, ◌==◌, length, Option, Some, None, is_some, is_none, option_map, option_and_then, Result, Ok, Err, MatchResult, refl, sym, ap, ◌∙◌, subst, arith, rules}
+use Rattle.std.specs.List.{Contains}
+use Rattle.std.specs.Option.{option_to_list}
 use Rattle.std.specs.FinMap.{get-empty, len-empty, len-insert}
 use Rattle.std.specs.Cmp.{IsTotalOrder}
 use Rattle.std.proofs.lemmas.Bool.Decides.{nat_tests}
@@ -12,7 +14,7 @@ use Rattle.upload_format.specs.Bodies as bodies
 use Rattle.upload_format.specs.Bodies.{of_items, of_value, upload, value_of}
 use Rattle.upload_format.specs.declared.fault.Malformed.{Malformed}
 use Rattle.upload_format.specs.declared.fault.Malformed.TheVariants.{NoItems, TooManyItems}
-use Rattle.lei_records.specs.Cells.{lei_in, rec_cell}
+use Rattle.lei_records.specs.Cells.{lei_in, rec_cell, successor_in}
 use Rattle.lei_records.specs.Items.{failed_check, ready, readied}
 use Rattle.lei_records.specs.Rows.{Row}
 use Rattle.lei_records.specs.Spelled.{IsRow}
@@ -23,10 +25,13 @@ use Rattle.lei_records.specs.declared.item.RawItem.{RawItem}
 use Rattle.lei_records.specs.declared.item.Readied.{Readied}
 use Rattle.lei_records.specs.declared.view.CellKey.{CellKey}
 use Rattle.lei_records.proofs.RowLemmas.{IsRow-row_of}
+use Rattle.successor_rules.specs.Chains.{EndsIn}
+use Rattle.successor_rules.specs.Successors.{HasChains, successors_of}
 use Rattle.register_judge.specs.Checks.{first_failing, earlier_checks, checks, is_full, c20}
 use Rattle.register_judge.specs.Taking.{Taken, take, in_front, is_new, verdict_of, writes_of, HaveRows}
 use Rattle.register_judge.specs.declared.outcome.JudgeStop.{JudgeStop}
 use Rattle.register_judge.specs.declared.outcome.Outcome.{Outcome}
+use Rattle.register_judge.proofs.ChainLemmas.{take-chains}
 use Rattle.register_judge.proofs.TakingLemmas.{take-sound}
 use Rattle.register_table.specs.Lists.{no_records}
 use Rattle.register_table.specs.Undos.{WriteList, AreOwn, MayApply, StaysKept}
@@ -136,6 +141,14 @@ entries-fit limits table (e ∷ history) fit = entries-fit limits (after_entry l
 
 is_some-none : {X : Type 0} (x : X) (found : Option X) → found ≡ None → found ≡ Some x → ⊥
 is_some-none x found none some = cc
+
+-- where there are no records, nothing is named
+none-named : (lei next : List ℕ) → Contains (successors_of no_records lei) next → EndsIn 0 (successors_of no_records) next
+none-named lei next at =
+    let empty : successors_of no_records lei ≡ [] = ap (λ row. option_to_list (option_and_then successor_in row)) (get-empty key_cmp (record_key lei)) in
+    nothing next (subst (λ nexts. Contains nexts next) empty at) where
+  nothing : (next : List ℕ) → Contains [] next → ⊥
+  nothing next at = search rules
 
 none-fit : (limit : ℕ) → IsFit limit no_records
 none-fit limit = record {

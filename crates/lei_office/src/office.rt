@@ -3,6 +3,7 @@ ghost use Rattle.std.specs.Prelude.{◌≡◌, ◌+◌, length, IfOk};
 ghost use Rattle.lei_code.specs.Code.{IsValid};
 ghost use Rattle.lei_shapes.specs.Moment.{IsMoment};
 ghost use Rattle.lei_records.specs.Tables.{IsSound, row_at};
+ghost use Rattle.successor_rules.specs.Successors.{HasChains};
 ghost use Rattle.upload_format.specs.Bodies.{upload as items_of};
 ghost use Rattle.lei_office.specs.History.{History, accredited};
 ghost use Rattle.lei_office.specs.Replies.{Comes, Step, json_reply, outcome_at, show_outcome, accreditation, accredit_outcome, upload_entry, body_outcome, upload_outcome};

@@ -21,25 +21,36 @@ mod writing;
 use clock::SystemClock;
 use help::help_text;
 use run::run;
-use status::{NO_MEMORY, OK, status_text};
+use status::{NO_MEMORY, OK, USAGE, status_text};
 use std::process::ExitCode;
 use std::{env, io};
 use streams::{StdSink, StdSource};
 
 fn main(rt: HostRuntime) -> io::Result<ExitCode> {
-    let alloc = rt.alloc();
-    let words: Result<Vec<String>, _> = env::args(&rt)?.skip(1).collect(alloc);
-    let status = match words {
+    let status = match words(&rt) {
         Ok(words) => {
             let mut input = StdSource::new(rt.stdin());
             let mut out = StdSink::new(rt.stdout());
             let mut clock = SystemClock::new(&rt);
-            run(&rt, alloc, &words, &mut input, &mut out, &mut clock)
+            run(&rt, rt.alloc(), &words, &mut input, &mut out, &mut clock)
         }
-        Err(_) => NO_MEMORY,
+        Err(status) => status,
     };
     if status != OK {
         eprintln!(rt; "{}\n{}", status_text(status), help_text(status))?;
     }
     Ok(ExitCode::from(status))
+}
+
+// The words after the program's name. Otherwise the status to end with: a word that is no text is no command's.
+fn words(rt: &HostRuntime) -> Result<Vec<String>, u8> {
+    let words = match env::args(rt) {
+        Ok(args) => args.skip(1).collect(rt.alloc()),
+        Err(fault) if fault.kind() == io::ErrorKind::InvalidData => return Err(USAGE),
+        Err(_) => return Err(NO_MEMORY),
+    };
+    match words {
+        Ok(words) => Ok(words),
+        Err(_) => Err(NO_MEMORY),
+    }
 }

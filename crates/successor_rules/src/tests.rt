@@ -1,1 +1,138 @@
-// none yet
+// What becomes of walks over records in memory, each of which names the one before it.
+ghost use Rattle.std.specs.Prelude.{unwrap_or};
+ghost use Rattle.std.specs.BTreeMap.{get_by};
+ghost use Rattle.std.specs.Cmp.Lexicographic.{slice_cmp};
+ghost use Rattle.std.specs.Ordering.{nat_cmp};
+ghost use Rattle.lei_records.specs.declared.view.Seen as seen;
+
+use crate::{Walked, walk};
+use lei_code::{Lei, check_digits};
+use lei_records::{CellKey, RecCell, Seen, View};
+use lei_shapes::{Category, Moment, RecordStatus};
+use std::alloc::Global;
+use std::collections::BTreeMap;
+use std::test::Fail;
+
+// The records of codes. A code that isn't there has a cell that is missing.
+#[derive(Drop)]
+struct Records {
+    cells: BTreeMap<Lei, Seen<RecCell>>,
+}
+
+impl View for Records {
+    ghost cells = { λ records. record {
+      record_cell = λ lei. unwrap_or (get_by (slice_cmp nat_cmp lei) records.cells) seen.Seen.Missing;
+      holder = λ authority id. seen.Seen.Missing;
+    } };
+
+    fn record_cell(&self, lei: &Lei) -> Seen<RecCell> {
+        match self.cells.get(lei) {
+            Some(cell) => *cell,
+            None => Seen::Missing,
+        }
+    }
+
+    fn holder(&self, _authority: &str, _id: &str) -> Seen<Lei> {
+        Seen::Missing
+    }
+}
+
+// What the records of the tests have beside a successor.
+fn cell(manager: Lei, moment: Moment, successor: Option<Lei>) -> RecCell {
+    RecCell {
+        status: RecordStatus::Retired,
+        manager,
+        transfer_to: None,
+        initial: moment,
+        updated: moment,
+        category: Category::General,
+        successor,
+    }
+}
+
+// A number as a code, with its check digits.
+fn code_of(alloc: Global, number: u32) -> Result<Lei, Fail> {
+    let begin = format!(in alloc; "{number:018}")?;
+    let Ok(first) = <[u8; 18]>::try_from(begin.as_bytes()) else {
+        return Err(Fail::from("a number of at most 18 digits"));
+    };
+    let text = format!(in alloc; "{begin}{}", str::from_utf8(&check_digits(&first)?)?)?;
+    Ok(Lei::read(text.as_bytes())?)
+}
+
+// Records of the codes 1 to `last`, of which each names the one before it, over what is told of the code 0.
+fn chain(alloc: Global, last: u32, end: Seen<RecCell>) -> Result<Records, Fail> {
+    let Some(moment) = Moment::of(0) else {
+        return Err(Fail::from("a moment"));
+    };
+    let mut before = code_of(alloc, 0)?;
+    let mut cells = BTreeMap::new(alloc);
+    cells.insert(before, end)?;
+    for number in 1..=last {
+        let lei = code_of(alloc, number)?;
+        cells.insert(lei, Seen::Held(cell(before, moment, Some(before))))?;
+        before = lei;
+    }
+    Ok(Records { cells })
+}
+
+// What becomes of the walk from the code of one number that avoids that of the other, over 250 records.
+fn walked(alloc: Global, end: Seen<RecCell>, from: u32, avoid: u32) -> Result<Walked, Fail> {
+    let records = chain(alloc, 250, end)?;
+    Ok(walk(&records, &code_of(alloc, from)?, &code_of(alloc, avoid)?))
+}
+
+// The code 0 is the last member of each of these walks. From the code 198 they have 199 members, and so on.
+#[test]
+fn a_walk_ends_within_200_members_or_is_long(rt: HostRuntime) -> Result<(), Fail> {
+    let alloc = rt.alloc();
+    for (from, becomes) in [
+        (0, Walked::Ends),
+        (198, Walked::Ends),
+        (199, Walked::Ends),
+        (200, Walked::Long),
+        (201, Walked::Long),
+    ] {
+        assert_eq!(rt; walked(alloc, Seen::Empty, from, 300)?, becomes, "{from}");
+    }
+    Ok(())
+}
+
+#[test]
+fn a_walk_meets_its_start_among_its_first_200_members(rt: HostRuntime) -> Result<(), Fail> {
+    let alloc = rt.alloc();
+    for (from, avoid, becomes) in [
+        (7, 7, Walked::Meets),
+        (7, 6, Walked::Meets),
+        (7, 8, Walked::Ends),
+        (250, 51, Walked::Meets),
+        (250, 50, Walked::Long),
+        (199, 0, Walked::Meets),
+    ] {
+        assert_eq!(rt;
+            walked(alloc, Seen::Empty, from, avoid)?,
+            becomes,
+            "{from} {avoid}"
+        );
+    }
+    Ok(())
+}
+
+#[test]
+fn a_walk_tells_the_first_cell_that_is_missing(rt: HostRuntime) -> Result<(), Fail> {
+    let alloc = rt.alloc();
+    let first = code_of(alloc, 0)?;
+    for (from, avoid, becomes) in [
+        (0, 300, Walked::Missing(CellKey::Rec(first))),
+        (199, 300, Walked::Missing(CellKey::Rec(first))),
+        (199, 0, Walked::Meets),
+        (200, 300, Walked::Long),
+    ] {
+        assert_eq!(rt;
+            walked(alloc, Seen::Missing, from, avoid)?,
+            becomes,
+            "{from} {avoid}"
+        );
+    }
+    Ok(())
+}
