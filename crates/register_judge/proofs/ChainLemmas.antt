@@ -22,7 +22,7 @@ use Rattle.successor_rules.proofs.ChainLemmas.{keeps_ends}
 use Rattle.successor_rules.proofs.WalkLemmas.{ended_walk_keeps_ends}
 use Rattle.register_judge.specs.Checks.{fails_if, first_failing, c16, checks, successor_checks}
 use Rattle.register_judge.specs.Taking.{verdict_of, verdict, writes_of, take}
-use Rattle.register_judge.proofs.TakingLemmas.{Passes, successors_pass}
+use Rattle.register_judge.proofs.TakingLemmas.{successors_pass}
 
 -- ---- what the checks of a successor say of it where they pass
 

@@ -2,3 +2,4 @@
 mod checks;
 mod items;
 mod rows;
+mod successors;

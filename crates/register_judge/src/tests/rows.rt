@@ -46,8 +46,8 @@ pub const TRANSFER_TO: &str = "Register.TransferTo";
 // 2025-01-11, counted from 1970-01-01.
 pub const TODAY: i32 = 20_099;
 
-// What came of the items of an upload over these records, where so many further ones fit.
-fn outcome_of(
+/// What came of the items of an upload over these records, where so many further ones fit.
+pub fn outcome_of(
     alloc: Global,
     held: &[Record],
     office: &str,
@@ -79,7 +79,16 @@ fn check_text(alloc: Global, check: &Check) -> Result<String, Fail> {
     Ok(format!(in alloc; "{} {told}", check.code)?)
 }
 
-// Judges one item over these records, says the check that it fails, and keeps it where it fails none.
+/// What an outcome tells of the item at this place, counted from 0: the check that it fails, and nothing where it fails
+/// none.
+pub fn told_of(alloc: Global, outcome: &Outcome, place: usize) -> Result<String, Fail> {
+    match outcome.verdicts.as_slice().get(place) {
+        Some(Verdict::Rejected(check)) => check_text(alloc, check),
+        _ => Ok(String::new(alloc)),
+    }
+}
+
+/// Judges one item over these records, says the check that it fails, and keeps it where it fails none.
 pub fn send(
     alloc: Global,
     held: &mut Vec<Record>,
@@ -95,10 +104,7 @@ pub fn send(
             held.push(written.copy(alloc)?)?;
         }
     }
-    match outcome.verdicts.as_slice().first() {
-        Some(Verdict::Rejected(check)) => check_text(alloc, check),
-        _ => Ok(String::new(alloc)),
-    }
+    told_of(alloc, &outcome, 0)
 }
 
 #[test]
@@ -108,14 +114,9 @@ fn one_upload_is_judged_item_by_item(rt: HostRuntime) -> Result<(), Fail> {
         let first = item(alloc, &[(AUTHORITY, authority)])?;
         let second = item(alloc, &[(LEI, B), (AUTHORITY, authority)])?;
         let outcome = outcome_of(alloc, &[], O1, TODAY, 9, &[first, second])?;
-        let verdicts = outcome.verdicts.as_slice();
-        assert_eq!(rt; verdicts.len(), 2);
-        assert!(rt; verdicts[0] == Verdict::Accepted);
-        let told = match &verdicts[1] {
-            Verdict::Accepted => String::new(alloc),
-            Verdict::Rejected(check) => check_text(alloc, check)?,
-        };
-        assert_eq!(rt; told.as_str(), verdict);
+        assert_eq!(rt; outcome.verdicts.as_slice().len(), 2);
+        assert_eq!(rt; told_of(alloc, &outcome, 0)?.as_str(), "");
+        assert_eq!(rt; told_of(alloc, &outcome, 1)?.as_str(), verdict);
     }
     Ok(())
 }
