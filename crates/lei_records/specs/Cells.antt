@@ -1,17 +1,20 @@
 -- Cells: what the rules ask of a table, by key. What a row has by its texts, and what a view answers.
-use Rattle.std.specs.Prelude.{ℕ, ℤ, pos, List, Bool, true, false, ◌&&◌, ◌||◌, if◌then◌else◌, Option, Some, None, unwrap_or, option_and_then, codes}
+use Rattle.std.specs.Prelude.{ℕ, ℤ, pos, List, Bool, true, false, ◌&&◌, ◌||◌, if◌then◌else◌, Option, Some, None, unwrap_or, option_and_then, codes, ⊤}
 use Rattle.std.specs.Str.{bytes_eq}
 use Rattle.lei_shapes.specs.declared.lists.Category.{Category}
 use Rattle.lei_shapes.specs.declared.lists.EntityStatus.{EntityStatus}
+use Rattle.lei_shapes.specs.declared.lists.ExceptionCategory.{ExceptionCategory}
 use Rattle.lei_shapes.specs.declared.lists.RecordStatus.{RecordStatus}
+use Rattle.lei_shapes.specs.declared.lists.RelationType.{RelationType}
 use Rattle.lei_shapes.specs.Lists.{record_status_of, entity_status_of, category_of}
 use Rattle.lei_shapes.specs.Moment.{read_moment}
 use Rattle.lei_records.specs.declared.view.RecCell.{RecCell}
+use Rattle.lei_records.specs.declared.view.RelCell.{RelCell}
 use Rattle.lei_records.specs.declared.view.Seen.{Seen}
 use Rattle.lei_records.specs.Rows.{Row, text_at}
 use Rattle.lei_records.specs.Spelled.{is_absent, present}
 
--- ---- what a row's texts spell. Each part of a record's row can be read; of another row the value behind it is taken.
+-- ---- what a record's texts spell. Each part of a record's row can be read; of another row the value behind it is taken.
 
 -- the entity's code
 abbrev pub lei_in : Row → List ℕ
@@ -98,8 +101,12 @@ holds authority id row = is_live row && is_key authority id (akey row)
 
 -- ---- views
 
--- what a view answers: for a code the record, and for an authority key the code of the live record
--- that has it
+-- What a view answers: for a code the record; for an authority key the code of the live record that has it; for a start,
+-- a type and an end the relationship; for a start and a type the end of the active relationship; and for a code and a
+-- category whether there is an exception.
 pub record Cells : Type 0 where
   pub record_cell : List ℕ → Seen RecCell
   pub holder : List ℕ → List ℕ → Seen (List ℕ)
+  pub relation : List ℕ → RelationType → List ℕ → Seen RelCell
+  pub active : List ℕ → RelationType → Seen (List ℕ)
+  pub exception : List ℕ → ExceptionCategory → Seen ⊤

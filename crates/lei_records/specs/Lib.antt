@@ -4,6 +4,8 @@ pub mod Rows
 pub mod Spelled
 pub mod Items
 pub mod Parts
+pub mod Relations
+pub mod Exceptions
 pub mod Cells
 pub mod Tables
 pub mod Sheets

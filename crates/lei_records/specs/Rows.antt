@@ -1,7 +1,8 @@
--- Rows: the texts of a record by place.
+-- Rows: the texts of a record, a relationship or an exception by place.
 use Rattle.std.specs.Prelude.{ℕ, ◌-◌, List, codes, ◌==◌, if◌then◌else◌, slice_index_or}
 
--- a record's 28 texts in order of place: the empty text where a field is absent, and moments in printed form
+-- the texts in order of place, 28 of a record, 11 of a relationship and 4 of an exception: the empty text where a
+-- field is absent, and moments in printed form
 abbrev pub Row : Type 0
 Row = List (List ℕ)
 

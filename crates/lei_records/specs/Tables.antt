@@ -1,17 +1,23 @@
 -- Tables: the rows that are held, by key.
-use Rattle.std.specs.Prelude.{◌≡◌, ℕ, List, [], ◌∷◌, Bool, false, not, ◌&&◌, Option, Some, None, find, option_map, IsTrue}
+use Rattle.std.specs.Prelude.{◌≡◌, ℕ, List, [], ◌∷◌, Bool, true, false, not, ◌&&◌, if◌then◌else◌, Option, Some, None, is_some, find, option_map, IsTrue, ⊤}
 use Rattle.std.specs.Cmp.Lexicographic.{slice_cmp}
-use Rattle.std.specs.FinMap.{FinMap, get, insert, len, values}
+use Rattle.std.specs.FinMap.{FinMap, get, insert, remove, len, values}
 use Rattle.std.specs.Ordering.{nat_cmp}
 use Rattle.std.specs.Str.{bytes_eq}
 use Rattle.std.specs.declared.cmp.Ordering.{Ordering}
+use Rattle.lei_shapes.specs.declared.lists.ExceptionCategory.{ExceptionCategory}
+use Rattle.lei_shapes.specs.declared.lists.RelationType.{RelationType}
+use Rattle.lei_shapes.specs.Lists.{exception_category_text, relation_type_text}
 use Rattle.lei_records.specs.declared.item.Item.{Item}
 use Rattle.lei_records.specs.declared.view.RecCell.{RecCell}
+use Rattle.lei_records.specs.declared.view.RelCell.{RelCell}
 use Rattle.lei_records.specs.declared.view.RowKey.{RowKey}
 use Rattle.lei_records.specs.declared.view.Seen.{Seen}
 use Rattle.lei_records.specs.Cells.{Cells, lei_in, rec_cell, akey, holds}
+use Rattle.lei_records.specs.Exceptions.{exception_category_in, subject_in}
+use Rattle.lei_records.specs.Relations.{end_in, is_active_of, kind_in, rel_cell, start_in}
 use Rattle.lei_records.specs.Rows.{Row}
-use Rattle.lei_records.specs.Spelled.{IsRow}
+use Rattle.lei_records.specs.Spelled.{IsExceptionRow, IsRelationRow, IsRow}
 
 -- the texts of a row's key
 abbrev pub KeyTexts : Type 0
@@ -25,21 +31,63 @@ key_cmp = slice_cmp (slice_cmp nat_cmp)
 abbrev pub Rows : Type 0
 Rows = FinMap key_cmp Row
 
--- the rows that are held
+-- the rows that are held: those of records, of relationships and of exceptions
 pub record Table : Type 0 where
   pub records : Rows
+  pub relations : Rows
+  pub exceptions : Rows
+
+-- ---- keys
 
 -- the key of a record's row is its code
 abbrev pub record_key : List ℕ → KeyTexts
 record_key lei = lei ∷ []
 
--- the table with the item: in the place of the row of its key, or as a row of its own
-abbrev pub put : Table → Item → Table
-put table (Item.Record row) = record table { records = insert table.records (record_key (lei_in row)) row }
+-- that of a relationship's row is its start, its type and its end
+abbrev pub relation_key : List ℕ → RelationType → List ℕ → KeyTexts
+relation_key start kind end = start ∷ relation_type_text kind ∷ end ∷ []
 
--- the same of an item that may be a withdrawal; a record is never withdrawn
+-- that of an exception's row is its code and its category
+abbrev pub exception_key : List ℕ → ExceptionCategory → KeyTexts
+exception_key lei category = lei ∷ exception_category_text category ∷ []
+
+-- the key that a relationship's row has by its texts
+abbrev pub relation_key_in : Row → KeyTexts
+relation_key_in row = relation_key (start_in row) (kind_in row) (end_in row)
+
+-- the key that an exception's row has by its texts
+abbrev pub exception_key_in : Row → KeyTexts
+exception_key_in row = exception_key (subject_in row) (exception_category_in row)
+
+-- the key of an item's row
+abbrev pub row_key : Item → RowKey
+row_key (Item.Record row) = RowKey.Rec (lei_in row)
+row_key (Item.Relation row) = RowKey.Rel (start_in row) (kind_in row) (end_in row)
+row_key (Item.Exception item) = RowKey.Exc (subject_in item.0) (exception_category_in item.0)
+
+-- ---- puts
+
+abbrev pub with_records : Table → Rows → Table
+with_records table rows = record table { records = rows }
+
+abbrev pub with_relations : Table → Rows → Table
+with_relations table rows = record table { relations = rows }
+
+abbrev pub with_exceptions : Table → Rows → Table
+with_exceptions table rows = record table { exceptions = rows }
+
+-- the table with the item: in the place of the row of its key, or as a row of its own. An exception that is a withdrawal
+-- takes out the row of its key. All other rows stay.
+abbrev pub put : Table → Item → Table
+put table (Item.Record row) = with_records table (insert table.records (record_key (lei_in row)) row)
+put table (Item.Relation row) = with_relations table (insert table.relations (relation_key_in row) row)
+put table (Item.Exception item) = with_exceptions table
+    (if item.1 then remove table.exceptions (exception_key_in item.0) else insert table.exceptions (exception_key_in item.0) item.0)
+
+-- the same of an item that may be a withdrawal; a record and a relationship are never withdrawn
 abbrev pub put_write : Table → RowKey × Option Item → Table
 put_write table (key, Some item) = put table item
+put_write table (RowKey.Exc lei category, None) = with_exceptions table (remove table.exceptions (exception_key lei category))
 put_write table (key, None) = table
 
 -- the table with these items put, from the first to the last
@@ -82,21 +130,57 @@ other_holder table row =
     option_map lei_in
     (find (λ other. holds_key (akey row) other && not (bytes_eq (lei_in other) (lei_in row))) (records_of table))
 
+-- all relationships, in the order of their keys
+abbrev pub relations_of : Table → List Row
+relations_of table = values table.relations
+
+-- the row of the relationship with this start, type and end
+abbrev pub relation_row : Table → List ℕ → RelationType → List ℕ → Option Row
+relation_row table start kind end = get table.relations (relation_key start kind end)
+
+-- this relationship, as the rules see it
+abbrev pub relation_of : Table → List ℕ → RelationType → List ℕ → Option RelCell
+relation_of table start kind end = option_map rel_cell (relation_row table start kind end)
+
+-- the end of the active relationship of this start and type, and of the first of them in the order of keys
+abbrev pub active_of : Table → List ℕ → RelationType → Option (List ℕ)
+active_of table start kind = option_map end_in (find (is_active_of start kind) (relations_of table))
+
+-- all exceptions, in the order of their keys
+abbrev pub exceptions_of : Table → List Row
+exceptions_of table = values table.exceptions
+
+-- the row of the exception with this code and category
+abbrev pub exception_row : Table → List ℕ → ExceptionCategory → Option Row
+exception_row table lei category = get table.exceptions (exception_key lei category)
+
+-- there is this exception
+abbrev pub has_exception : Table → List ℕ → ExceptionCategory → Bool
+has_exception table lei category = is_some (exception_row table lei category)
+
 -- what a view answers where a cell has this
 abbrev pub seen : {X : Type 0} → Option X → Seen X
 seen (Some x) = Seen.Held x
 seen None = Seen.Empty
+
+-- the same of a cell that has nothing but that it is there
+abbrev pub seen_fact : Bool → Seen ⊤
+seen_fact true = Seen.Held tt
+seen_fact false = Seen.Empty
 
 -- the cells of a table: none is missing
 abbrev pub cells_of : Table → Cells
 cells_of table = record {
   record_cell = λ lei. seen (record_of table lei);
   holder = λ authority id. seen (holder_of table authority id);
+  relation = λ start kind end. seen (relation_of table start kind end);
+  active = λ start kind. seen (active_of table start kind);
+  exception = λ lei category. seen_fact (has_exception table lei category);
 }
 
 -- ---- sound tables
 
--- each row stands under its own key
+-- each record's row stands under its own key
 abbrev pub IsKeyed : Table → Type 0
 IsKeyed table = (key : KeyTexts) (row : Row) → get table.records key ≡ Some row → key ≡ record_key (lei_in row)
 
@@ -106,12 +190,40 @@ HasHolders table = (authority id : List ℕ) (a b : List ℕ) (first second : Ro
     → row_at table a ≡ Some first → row_at table b ≡ Some second
     → IsTrue (holds authority id first) → IsTrue (holds authority id second) → a ≡ b
 
--- each row is that of a record
+-- each record's row is that of a record
 abbrev pub HasRows : Table → Type 0
 HasRows table = (key : KeyTexts) (row : Row) → get table.records key ≡ Some row → IsRow row
 
--- Each row stands under its own key and is that of a record, and no two live records have the same authority key.
+-- each relationship's row stands under its own key
+abbrev pub AreRelationsKeyed : Table → Type 0
+AreRelationsKeyed table = (key : KeyTexts) (row : Row) → get table.relations key ≡ Some row → key ≡ relation_key_in row
+
+-- and is that of a relationship
+abbrev pub HasRelationRows : Table → Type 0
+HasRelationRows table = (key : KeyTexts) (row : Row) → get table.relations key ≡ Some row → IsRelationRow row
+
+-- no two active relationships have the same start and type
+abbrev pub HasActives : Table → Type 0
+HasActives table = (start : List ℕ) (kind : RelationType) (a b : KeyTexts) (first second : Row)
+    → get table.relations a ≡ Some first → get table.relations b ≡ Some second
+    → IsTrue (is_active_of start kind first) → IsTrue (is_active_of start kind second) → a ≡ b
+
+-- each exception's row stands under its own key
+abbrev pub AreExceptionsKeyed : Table → Type 0
+AreExceptionsKeyed table = (key : KeyTexts) (row : Row) → get table.exceptions key ≡ Some row → key ≡ exception_key_in row
+
+-- and is that of an exception
+abbrev pub HasExceptionRows : Table → Type 0
+HasExceptionRows table = (key : KeyTexts) (row : Row) → get table.exceptions key ≡ Some row → IsExceptionRow row
+
+-- Each row stands under its own key and is that of a record, a relationship or an exception, as its list says. No two live
+-- records have the same authority key, and no two active relationships the same start and type.
 pub record IsSound (table : Table) : Type 0 where
   pub keyed : IsKeyed table
   pub holders : HasHolders table
   pub rows : HasRows table
+  pub relations_keyed : AreRelationsKeyed table
+  pub relation_rows : HasRelationRows table
+  pub actives : HasActives table
+  pub exceptions_keyed : AreExceptionsKeyed table
+  pub exception_rows : HasExceptionRows table

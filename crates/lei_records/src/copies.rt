@@ -13,6 +13,8 @@ impl Item {
     {
         match self {
             Item::Record(record) => Ok(Item::Record(record.copy(alloc)?)),
+            Item::Relation(relation) => Ok(Item::Relation(relation.copy(alloc)?)),
+            Item::Exception(exception) => Ok(Item::Exception(exception.copy(alloc)?)),
         }
     }
 }

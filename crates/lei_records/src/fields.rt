@@ -1,143 +1,336 @@
 ghost use Rattle.std.specs.Prelude.{◌≡◌, map};
-ghost use Rattle.lei_records.specs.Fields.{fields, is_needed, may_stand, read_field};
+ghost use Rattle.lei_records.specs.Fields;
+ghost use Rattle.lei_records.specs.Fields.{field_count, is_needed, may_stand, read_field};
 
-use lei_shapes::Shape;
+use crate::fields::Content::{Action, Shaped};
+use lei_shapes::{Shape, fits};
 
-/// Where a record needs a field.
+/// The kinds of items. Each has fields of its own.
+#[derive(Clone, Copy, Debug, PartialEq, Eq)]
+pub enum Kind {
+    /// A legal entity and its registration.
+    Record,
+    /// A relationship between two entities.
+    Relation,
+    /// Why an entity reports no parent.
+    Exception,
+}
+
+/// What a field holds.
+#[derive(Clone, Copy, Debug, PartialEq, Eq)]
+pub enum Content {
+    /// A text of this shape. It stands in the row.
+    Shaped(Shape),
+    /// What is to be done with an exception: `PUT` or `WITHDRAW`. It stands in no row.
+    Action,
+}
+
+/// Where an item needs a field.
 #[derive(Clone, Copy, Debug, PartialEq, Eq)]
 pub enum Need {
-    /// In every record.
+    /// In every item of the kind.
     Always,
     /// In none.
     Optional,
     /// In a record whose registration status is PENDING_ARCHIVAL. In every other one it may not
     /// stand.
     WherePendingArchival,
+    /// In an exception that is no withdrawal. It may stand in a withdrawal too.
+    UnlessWithdrawn,
 }
 
-/// A field's name, its shape, and where it is needed.
-pub type Field = (&'static str, Shape, Need);
+/// What needs depend on: two facts of an item as it was sent.
+#[derive(Clone, Copy, Debug, PartialEq, Eq)]
+pub struct Facts {
+    /// Its registration status is PENDING_ARCHIVAL.
+    pub archival: bool,
+    /// Its action is WITHDRAW.
+    pub withdrawal: bool,
+}
+
+/// A field's name, what it holds, and where it is needed.
+pub type Field = (&'static str, Content, Need);
 
 /// The fields of a record in order of place. The names are those of the columns of a golden copy of
 /// level 1 data, but for the last one; shapes and needs are this project's profile.
 pub const RECORD_FIELDS: [Field; 28] = [
-    ("LEI", Shape::Code, Need::Always),
-    ("Entity.LegalName", Shape::Free, Need::Always),
-    ("Entity.LegalName.xmllang", Shape::Lang, Need::Optional),
+    ("LEI", Shaped(Shape::Code), Need::Always),
+    ("Entity.LegalName", Shaped(Shape::Free), Need::Always),
+    (
+        "Entity.LegalName.xmllang",
+        Shaped(Shape::Lang),
+        Need::Optional,
+    ),
     (
         "Entity.LegalAddress.FirstAddressLine",
-        Shape::Free,
+        Shaped(Shape::Free),
         Need::Always,
     ),
-    ("Entity.LegalAddress.City", Shape::Free, Need::Always),
-    ("Entity.LegalAddress.Region", Shape::Free, Need::Optional),
-    ("Entity.LegalAddress.Country", Shape::Country, Need::Always),
+    (
+        "Entity.LegalAddress.City",
+        Shaped(Shape::Free),
+        Need::Always,
+    ),
+    (
+        "Entity.LegalAddress.Region",
+        Shaped(Shape::Free),
+        Need::Optional,
+    ),
+    (
+        "Entity.LegalAddress.Country",
+        Shaped(Shape::Country),
+        Need::Always,
+    ),
     (
         "Entity.LegalAddress.PostalCode",
-        Shape::Free,
+        Shaped(Shape::Free),
         Need::Optional,
     ),
     (
         "Entity.HeadquartersAddress.FirstAddressLine",
-        Shape::Free,
+        Shaped(Shape::Free),
         Need::Always,
     ),
-    ("Entity.HeadquartersAddress.City", Shape::Free, Need::Always),
+    (
+        "Entity.HeadquartersAddress.City",
+        Shaped(Shape::Free),
+        Need::Always,
+    ),
     (
         "Entity.HeadquartersAddress.Region",
-        Shape::Free,
+        Shaped(Shape::Free),
         Need::Optional,
     ),
     (
         "Entity.HeadquartersAddress.Country",
-        Shape::Country,
+        Shaped(Shape::Country),
         Need::Always,
     ),
     (
         "Entity.HeadquartersAddress.PostalCode",
-        Shape::Free,
+        Shaped(Shape::Free),
         Need::Optional,
     ),
     (
         "Entity.RegistrationAuthority.RegistrationAuthorityID",
-        Shape::Authority,
+        Shaped(Shape::Authority),
         Need::Always,
     ),
     (
         "Entity.RegistrationAuthority.RegistrationAuthorityEntityID",
-        Shape::Free,
+        Shaped(Shape::Free),
         Need::Optional,
     ),
     (
         "Entity.LegalJurisdiction",
-        Shape::Jurisdiction,
+        Shaped(Shape::Jurisdiction),
         Need::Always,
     ),
-    ("Entity.EntityCategory", Shape::Category, Need::Always),
+    (
+        "Entity.EntityCategory",
+        Shaped(Shape::Category),
+        Need::Always,
+    ),
     (
         "Entity.LegalForm.EntityLegalFormCode",
-        Shape::Form,
+        Shaped(Shape::Form),
         Need::Always,
     ),
-    ("Entity.EntityStatus", Shape::EntityStatus, Need::Always),
-    ("Entity.EntityCreationDate", Shape::Moment, Need::Optional),
+    (
+        "Entity.EntityStatus",
+        Shaped(Shape::EntityStatus),
+        Need::Always,
+    ),
+    (
+        "Entity.EntityCreationDate",
+        Shaped(Shape::Moment),
+        Need::Optional,
+    ),
     (
         "Entity.SuccessorEntity.1.SuccessorLEI",
-        Shape::Code,
+        Shaped(Shape::Code),
         Need::Optional,
     ),
     (
         "Registration.InitialRegistrationDate",
-        Shape::Moment,
+        Shaped(Shape::Moment),
         Need::Always,
     ),
-    ("Registration.LastUpdateDate", Shape::Moment, Need::Always),
+    (
+        "Registration.LastUpdateDate",
+        Shaped(Shape::Moment),
+        Need::Always,
+    ),
     (
         "Registration.RegistrationStatus",
-        Shape::RecordStatus,
+        Shaped(Shape::RecordStatus),
         Need::Always,
     ),
-    ("Registration.NextRenewalDate", Shape::Moment, Need::Always),
-    ("Registration.ManagingLOU", Shape::Code, Need::Always),
+    (
+        "Registration.NextRenewalDate",
+        Shaped(Shape::Moment),
+        Need::Always,
+    ),
+    (
+        "Registration.ManagingLOU",
+        Shaped(Shape::Code),
+        Need::Always,
+    ),
     (
         "Registration.ValidationSources",
-        Shape::Validation,
+        Shaped(Shape::Validation),
         Need::Always,
     ),
     (
         "Register.TransferTo",
-        Shape::Code,
+        Shaped(Shape::Code),
         Need::WherePendingArchival,
     ),
 ];
 
-// The fields of a record, lent.
-#[tactic(auto, unfolding(crate::specs::Fields::fields))]
-pub fn record_fields() -> &'static [Field; 28]
-    ensures { map read_field result.now ≡ fields }
+/// The fields of a relationship in order of place. The names are those of the columns of a golden copy of level 2
+/// data; shapes and needs are this project's profile.
+pub const RELATION_FIELDS: [Field; 11] = [
+    ("Relationship.StartNode", Shaped(Shape::Code), Need::Always),
+    (
+        "Relationship.RelationshipType",
+        Shaped(Shape::RelationType),
+        Need::Always,
+    ),
+    ("Relationship.EndNode", Shaped(Shape::Code), Need::Always),
+    (
+        "Relationship.RelationshipStatus",
+        Shaped(Shape::RelationStatus),
+        Need::Always,
+    ),
+    (
+        "Relationship.StartDate",
+        Shaped(Shape::Moment),
+        Need::Always,
+    ),
+    (
+        "Relationship.EndDate",
+        Shaped(Shape::Moment),
+        Need::Optional,
+    ),
+    (
+        "Registration.InitialRegistrationDate",
+        Shaped(Shape::Moment),
+        Need::Always,
+    ),
+    (
+        "Registration.LastUpdateDate",
+        Shaped(Shape::Moment),
+        Need::Always,
+    ),
+    (
+        "Registration.RegistrationStatus",
+        Shaped(Shape::RelationRegistration),
+        Need::Always,
+    ),
+    (
+        "Registration.ManagingLOU",
+        Shaped(Shape::Code),
+        Need::Always,
+    ),
+    (
+        "Registration.ValidationSources",
+        Shaped(Shape::Validation),
+        Need::Always,
+    ),
+];
+
+/// The fields of an exception in order of place: the four of its row, and what is to be done with it. The names are
+/// those of the columns of a golden copy of reporting exceptions, but for the last one; shapes and needs are this
+/// project's profile.
+pub const EXCEPTION_FIELDS: [Field; 5] = [
+    ("LEI", Shaped(Shape::Code), Need::Always),
+    (
+        "ExceptionCategory",
+        Shaped(Shape::ExceptionCategory),
+        Need::Always,
+    ),
+    (
+        "ExceptionReason",
+        Shaped(Shape::Reason),
+        Need::UnlessWithdrawn,
+    ),
+    ("ExceptionReference", Shaped(Shape::Free), Need::Optional),
+    ("Action", Action, Need::Optional),
+];
+
+// The fields of a kind of item, lent.
+#[tactic(auto, unfolding(crate::specs::Fields::fields, crate::specs::Fields::relation_fields, crate::specs::Fields::exception_fields))]
+pub fn fields_of(kind: Kind) -> &'static [Field]
+    ensures { map read_field result.now ≡ Fields.fields_of kind }
 {
-    &RECORD_FIELDS
+    match kind {
+        Kind::Record => &RECORD_FIELDS,
+        Kind::Relation => &RELATION_FIELDS,
+        Kind::Exception => &EXCEPTION_FIELDS,
+    }
+}
+
+impl Kind {
+    // How many fields an item of this kind may have.
+    pub fn field_count(self) -> usize
+        ensures { result ≡ field_count self }
+    {
+        match self {
+            Kind::Record => 28,
+            Kind::Relation => 11,
+            Kind::Exception => 5,
+        }
+    }
+
+    // How many of them stand in its row.
+    pub fn row_len(self) -> usize
+        ensures { result ≡ Fields.row_len self }
+    {
+        match self {
+            Kind::Record => 28,
+            Kind::Relation => 11,
+            Kind::Exception => 4,
+        }
+    }
+}
+
+impl Content {
+    /// Whether the text is one that the field can hold.
+    pub fn fits(self, text: &str) -> bool
+        ensures { result ≡ Fields.fits_content self text.now }
+    {
+        match self {
+            Content::Shaped(shape) => fits(shape, text),
+            Content::Action => text == "PUT" || text == "WITHDRAW",
+        }
+    }
+
+    /// Whether the field holds a code, and so has check digits.
+    pub fn is_code(self) -> bool
+        ensures { result ≡ Fields.is_code_content self }
+    {
+        self == Content::Shaped(Shape::Code)
+    }
 }
 
 impl Need {
-    /// Whether a record needs a field of this need.
-    pub fn is_needed(self, archival: bool) -> bool
-        ensures { result ≡ is_needed archival self }
+    /// Whether an item of these facts needs a field of this need.
+    pub fn is_needed(self, facts: Facts) -> bool
+        ensures { result ≡ is_needed facts self }
     {
         match self {
             Need::Always => true,
             Need::Optional => false,
-            Need::WherePendingArchival => archival,
+            Need::WherePendingArchival => facts.archival,
+            Need::UnlessWithdrawn => !facts.withdrawal,
         }
     }
 
-    /// Whether a field of this need may stand in a record.
-    pub fn may_stand(self, archival: bool) -> bool
-        ensures { result ≡ may_stand archival self }
+    /// Whether a field of this need may stand in an item of these facts.
+    pub fn may_stand(self, facts: Facts) -> bool
+        ensures { result ≡ may_stand facts self }
     {
-        match self {
-            Need::Always | Need::Optional => true,
-            Need::WherePendingArchival => archival,
-        }
+        facts.archival || self != Need::WherePendingArchival
     }
 }

@@ -1,5 +1,7 @@
 use crate::check::Check;
+use crate::exception::ExceptionItem;
 use crate::record::Record;
+use crate::relation::Relation;
 use lei_outside::{List, Text};
 use std::marker::Model;
 
@@ -71,9 +73,14 @@ impl Eq for Fields {
 pub enum RawItem {
     /// An entity's record: a member of the list `records`.
     Record(Fields),
+    /// A relationship between two entities: a member of the list `relationships`.
+    Relation(Fields),
+    /// A reporting exception or the withdrawal of one: a member of the list `exceptions`.
+    Exception(Fields),
 }
 
-/// The items of a body, in the order in which they are judged, which is the order in which they were sent.
+/// The items of a body, in the order in which they are judged: records, relationships, exceptions, and within each list
+/// in the order in which they were sent.
 #[derive(Debug, PartialEq, Eq, Drop)]
 pub struct Upload {
     pub items: List<RawItem>,
@@ -83,6 +90,8 @@ pub struct Upload {
 #[derive(Debug, PartialEq, Eq, Drop)]
 pub enum Item {
     Record(Record),
+    Relation(Relation),
+    Exception(ExceptionItem),
 }
 
 /// An item after the checks of its fields: what it is, or the first check that fails.

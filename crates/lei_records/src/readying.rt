@@ -1,16 +1,22 @@
-ghost use Rattle.std.specs.Prelude.{◌≡◌, IfOk, None, option_map, unwrap_or};
+ghost use Rattle.std.specs.Prelude.{◌≡◌, codes, length, IfOk, None, option_map, unwrap_or};
+ghost use Rattle.std.specs.Str.{bytes_eq};
 ghost use Rattle.std.specs.Option.{option_copied};
 ghost use Rattle.lei_shapes.specs.Clock.{moment_text};
 ghost use Rattle.lei_shapes.specs.Moment.{read_moment};
-ghost use Rattle.lei_records.specs.Fields.{read_field};
-ghost use Rattle.lei_records.specs.Items.{field_check, has_other_remainder, printed as printed_text, ready as ready_of, readied, failed_check, unknown_name};
-ghost use Rattle.lei_records.specs.Sheets.{archival_at, asked, failed_at, first_at, printed_at, read_texts, readied_by, texts_of};
+ghost use Rattle.lei_records.specs.Fields.{field_count, read_field};
+ghost use Rattle.lei_records.specs.Items;
+ghost use Rattle.lei_records.specs.Items.{field_check, failed_check, readied, ready_as};
+ghost use Rattle.lei_records.specs.Sheets;
+ghost use Rattle.lei_records.specs.Sheets.{archival_at, asked, failed_at, first_at, printed_at, read_texts, readied_by};
+ghost use Rattle.lei_records.specs.Spelled.{IsRowOf};
 ghost use Rattle.lei_records.specs.declared.readying.Ask.{Ask};
 
 use crate::check::{CHECK_DIGITS, Check, Detail, FIELD_MISSING, FIELD_SHAPE, FIELD_UNKNOWN};
-use crate::fields::{Field, record_fields};
+use crate::exception::ExceptionItem;
+use crate::fields::{Content, Facts, Field, Kind, fields_of};
 use crate::item::{Item, RawItem, Readied};
 use crate::record::Record;
+use crate::relation::Relation;
 use crate::sheet::sheet_of;
 use lei_code::Lei;
 use lei_outside::{NoMemory, Text};
@@ -18,59 +24,65 @@ use lei_shapes::{Moment, Shape, fits};
 use std::alloc::Global;
 
 /// Asks the checks of an item's fields in order of their numbers, up to the first that fails. Each name is looked up
-/// once, and each text of a record is copied once.
+/// once, and each text of a row is copied once.
 pub fn ready(alloc: Global, raw: &RawItem) -> Result<Readied, NoMemory>
-    ensures { IfOk result (λ item. item ≡ ready_of raw.now) }
+    ensures { IfOk result (λ item. item ≡ Items.ready raw.now) }
 {
-    let RawItem::Record(fields) = raw;
-    by_names(alloc, fields.as_slice())
+    match raw {
+        RawItem::Record(fields) => by_names(alloc, Kind::Record, fields.as_slice()),
+        RawItem::Relation(fields) => by_names(alloc, Kind::Relation, fields.as_slice()),
+        RawItem::Exception(fields) => by_names(alloc, Kind::Exception, fields.as_slice()),
+    }
 }
 
 // C01, and then the checks after it.
 #[tactic(auto, unfolding(crate::specs::Items::failed_check))]
-fn by_names(alloc: Global, pairs: &[(Text, Text)]) -> Result<Readied, NoMemory>
-    ensures { IfOk result (λ item. item ≡ readied pairs.now (failed_check pairs.now)) }
+fn by_names(alloc: Global, kind: Kind, pairs: &[(Text, Text)]) -> Result<Readied, NoMemory>
+    ensures { IfOk result (λ item. item ≡ ready_as kind pairs.now) }
 {
-    let sheet = sheet_of(pairs);
+    let sheet = sheet_of(kind, pairs);
     match sheet.unknown {
         Some(name) => bad(alloc, FIELD_UNKNOWN, name),
-        None => by_presence(alloc, &sheet.texts),
+        None => by_presence(alloc, kind, &sheet.texts[..kind.field_count()]),
     }
 }
 
 // C02, and then the checks after it.
 #[tactic(auto, unfolding(crate::specs::Sheets::failed_at))]
-fn by_presence(alloc: Global, texts: &[&str; 28]) -> Result<Readied, NoMemory>
-    ensures { let row = read_texts texts.now in IfOk result (λ item. item ≡ readied_by row (failed_at row)) }
+fn by_presence(alloc: Global, kind: Kind, texts: &[&str]) -> Result<Readied, NoMemory>
+    requires { length texts.now ≡ field_count kind }
+    ensures { let row = read_texts texts.now in IfOk result (λ item. item ≡ readied_by kind row (failed_at kind row)) }
 {
-    match first_failing(Ask::Presence, texts) {
+    match first_failing(Ask::Presence, kind, texts) {
         Some(name) => bad(alloc, FIELD_MISSING, name),
-        None => by_shapes(alloc, texts),
+        None => by_shapes(alloc, kind, texts),
     }
 }
 
 // C03, and then the check after it.
 #[tactic(auto, unfolding(crate::specs::Sheets::failed_at))]
-fn by_shapes(alloc: Global, texts: &[&str; 28]) -> Result<Readied, NoMemory>
-    requires { first_at Ask.Presence (read_texts texts.now) ≡ None }
-    ensures { let row = read_texts texts.now in IfOk result (λ item. item ≡ readied_by row (failed_at row)) }
+fn by_shapes(alloc: Global, kind: Kind, texts: &[&str]) -> Result<Readied, NoMemory>
+    requires places { length texts.now ≡ field_count kind }
+    requires present { first_at Ask.Presence kind (read_texts texts.now) ≡ None }
+    ensures { let row = read_texts texts.now in IfOk result (λ item. item ≡ readied_by kind row (failed_at kind row)) }
 {
-    match first_failing(Ask::Shape, texts) {
+    match first_failing(Ask::Shape, kind, texts) {
         Some(name) => bad(alloc, FIELD_SHAPE, name),
-        None => by_digits(alloc, texts),
+        None => by_digits(alloc, kind, texts),
     }
 }
 
-// C04, and then the record.
+// C04, and then the item.
 #[tactic(auto, unfolding(crate::specs::Sheets::failed_at))]
-fn by_digits(alloc: Global, texts: &[&str; 28]) -> Result<Readied, NoMemory>
-    requires present { first_at Ask.Presence (read_texts texts.now) ≡ None }
-    requires shaped { first_at Ask.Shape (read_texts texts.now) ≡ None }
-    ensures { let row = read_texts texts.now in IfOk result (λ item. item ≡ readied_by row (failed_at row)) }
+fn by_digits(alloc: Global, kind: Kind, texts: &[&str]) -> Result<Readied, NoMemory>
+    requires places { length texts.now ≡ field_count kind }
+    requires present { first_at Ask.Presence kind (read_texts texts.now) ≡ None }
+    requires shaped { first_at Ask.Shape kind (read_texts texts.now) ≡ None }
+    ensures { let row = read_texts texts.now in IfOk result (λ item. item ≡ readied_by kind row (failed_at kind row)) }
 {
-    match first_failing(Ask::Digits, texts) {
+    match first_failing(Ask::Digits, kind, texts) {
         Some(name) => bad(alloc, CHECK_DIGITS, name),
-        None => good(alloc, texts),
+        None => good(alloc, kind, texts),
     }
 }
 
@@ -81,17 +93,30 @@ fn bad(alloc: Global, code: u8, name: &str) -> Result<Readied, NoMemory>
     Ok(Readied::Bad(Check { code, detail }))
 }
 
-fn good(alloc: Global, texts: &[&str; 28]) -> Result<Readied, NoMemory>
-    requires present { first_at Ask.Presence (read_texts texts.now) ≡ None }
-    requires shaped { first_at Ask.Shape (read_texts texts.now) ≡ None }
-    requires checked { first_at Ask.Digits (read_texts texts.now) ≡ None }
-    ensures { IfOk result (λ item. item ≡ Readied.Good (Item.Record (printed_at (read_texts texts.now)))) }
+fn good(alloc: Global, kind: Kind, texts: &[&str]) -> Result<Readied, NoMemory>
+    requires places { length texts.now ≡ field_count kind }
+    requires present { first_at Ask.Presence kind (read_texts texts.now) ≡ None }
+    requires shaped { first_at Ask.Shape kind (read_texts texts.now) ≡ None }
+    requires checked { first_at Ask.Digits kind (read_texts texts.now) ≡ None }
+    ensures { let row = read_texts texts.now in IfOk result (λ item. item ≡ readied_by kind row None) }
 {
-    let row = printed_texts(alloc, texts)?;
-    Ok(Readied::Good(Item::Record(Record::of(row))))
+    let row = printed_texts(alloc, kind, texts)?;
+    Ok(Readied::Good(item_of(kind, facts_at(kind, texts).withdrawal, row)))
 }
 
-/// What the checks of single fields ask.
+// The item of a kind with this row. Of an exception it is said whether it is a withdrawal.
+fn item_of(kind: Kind, withdraws: bool, row: Vec<Text>) -> Item
+    requires { IsRowOf kind row.items }
+    ensures { result ≡ Items.item_of kind withdraws row.items }
+{
+    match kind {
+        Kind::Record => Item::Record(Record::of(row)),
+        Kind::Relation => Item::Relation(Relation::of(row)),
+        Kind::Exception => Item::Exception(ExceptionItem::of(row, withdraws)),
+    }
+}
+
+// What a check of single fields asks of one.
 #[derive(Clone, Copy)]
 pub enum Ask {
     /// Whether a needed field is absent.
@@ -104,60 +129,84 @@ pub enum Ask {
 
 // The first field of which the answer is yes.
 #[tactic(auto, unfolding(crate::specs::Sheets::first_at))]
-fn first_failing(ask: Ask, texts: &[&str; 28]) -> Option<&'static str>
-    ensures { option_copied result ≡ first_at ask (read_texts texts.now) }
+fn first_failing(ask: Ask, kind: Kind, texts: &[&str]) -> Option<&'static str>
+    requires { length texts.now ≡ field_count kind }
+    ensures { option_copied result ≡ first_at ask kind (read_texts texts.now) }
 {
-    let archival = is_archival(texts);
-    let table = record_fields();
+    let facts = facts_at(kind, texts);
+    let table = fields_of(kind);
     for (index, field) in table.iter().enumerate() {
-        if fails(ask, archival, field, texts[index]) {
+        if fails(ask, facts, field, texts[index]) {
             return Some(field.0);
         }
     }
     None
 }
 
-// Whether the registration status is PENDING_ARCHIVAL.
-fn is_archival(texts: &[&str; 28]) -> bool
-    ensures { result ≡ archival_at (read_texts texts.now) }
+// What the needs of an item's fields depend on.
+fn facts_at(kind: Kind, texts: &[&str]) -> Facts
+    requires { length texts.now ≡ field_count kind }
+    ensures { result ≡ Sheets.facts_at kind (read_texts texts.now) }
 {
-    texts[23] == "PENDING_ARCHIVAL"
+    match kind {
+        Kind::Record => Facts {
+            archival: is_archival(texts[23]),
+            withdrawal: false,
+        },
+        Kind::Relation => Facts {
+            archival: is_archival(texts[8]),
+            withdrawal: false,
+        },
+        Kind::Exception => Facts {
+            archival: false,
+            withdrawal: texts[4] == "WITHDRAW",
+        },
+    }
 }
 
-fn fails(ask: Ask, archival: bool, field: &Field, text: &str) -> bool
-    ensures { result ≡ asked ask archival (read_field field.now) text.now }
+// Whether a registration status is PENDING_ARCHIVAL.
+fn is_archival(status: &str) -> bool
+    ensures { result ≡ bytes_eq status.now (codes "PENDING_ARCHIVAL") }
+{
+    status == "PENDING_ARCHIVAL"
+}
+
+fn fails(ask: Ask, facts: Facts, field: &Field, text: &str) -> bool
+    ensures { result ≡ asked ask facts (read_field field.now) text.now }
 {
     match ask {
-        Ask::Presence => field.2.is_needed(archival) && text.is_empty(),
-        Ask::Shape => !text.is_empty() && !(fits(field.1, text) && field.2.may_stand(archival)),
-        Ask::Digits => field.1 == Shape::Code && has_other_remainder(text),
+        Ask::Presence => field.2.is_needed(facts) && text.is_empty(),
+        Ask::Shape => !text.is_empty() && !(field.1.fits(text) && field.2.may_stand(facts)),
+        Ask::Digits => field.1.is_code() && has_other_remainder(text),
     }
 }
 
 fn has_other_remainder(text: &str) -> bool
-    ensures { result ≡ has_other_remainder text.now }
+    ensures { result ≡ Items.has_other_remainder text.now }
 {
     fits(Shape::Code, text) && Lei::read(text.as_bytes()).is_err()
 }
 
 // The texts of the row, each a copy or, of a moment, its printed form.
 #[tactic(auto, unfolding(crate::specs::Sheets::printed_at))]
-fn printed_texts(alloc: Global, texts: &[&str; 28]) -> Result<Vec<Text>, NoMemory>
-    ensures { IfOk result (λ row. row.items ≡ printed_at (read_texts texts.now)) }
+fn printed_texts(alloc: Global, kind: Kind, texts: &[&str]) -> Result<Vec<Text>, NoMemory>
+    requires { length texts.now ≡ field_count kind }
+    ensures { IfOk result (λ row. row.items ≡ printed_at kind (read_texts texts.now)) }
 {
-    let table = record_fields();
+    let table = &fields_of(kind)[..kind.row_len()];
     let mut row = Vec::with_capacity(alloc, table.len())?;
     for (index, field) in table.iter().enumerate() {
-        row.push(printed(alloc, field.1, texts[index])?)?;
+        row.push(kept(alloc, field.1, texts[index])?)?;
     }
     Ok(row)
 }
 
-fn printed(alloc: Global, shape: Shape, text: &str) -> Result<Text, NoMemory>
-    ensures { IfOk result (λ made. made ≡ printed_text shape text.now) }
+// The text of a field as a row has it.
+fn kept(alloc: Global, content: Content, text: &str) -> Result<Text, NoMemory>
+    ensures { IfOk result (λ made. made ≡ Items.kept content text.now) }
 {
-    match shape {
-        Shape::Moment if !text.is_empty() => moment_text(alloc, text),
+    match content {
+        Content::Shaped(Shape::Moment) if !text.is_empty() => moment_text(alloc, text),
         _ => Text::copy_of(alloc, text),
     }
 }

@@ -1,5 +1,5 @@
 use Rattle.std.proofs.Common.{◌≡◌, take}
-use Rattle.lei_records.proofs.record.copied.Given as goal
+use Rattle.lei_records.proofs.texts.copied.Given as goal
 
 -- the copies so far are those of the texts so far
 abbrev pub invariant-loop-text : goal.invariant-loop-text

@@ -1,0 +1,154 @@
+ghost use Rattle.std.specs.Prelude.{◌≡◌, ◌≤◌, length, IfOk, IsSome, Some, option_and_then};
+ghost use Rattle.lei_shapes.specs.Lists.{exception_category_of, reason_of};
+ghost use Rattle.lei_records.specs.Rows.{text_at};
+ghost use Rattle.lei_records.specs.Spelled.{IsExceptionRow, present};
+
+use crate::texts::{code_at, copied, text_at};
+use lei_code::Lei;
+use lei_outside::{NoMemory, Text};
+use lei_shapes::{ExceptionCategory, Reason};
+use std::alloc::Global;
+use std::marker::Model;
+
+/// A reporting exception: why an entity reports no parent of a category. Or the withdrawal of one. Clauses see its row,
+/// its four texts in order of place, where an absent field is the empty text, and whether it is a withdrawal.
+#[derive(Debug, Drop)]
+pub struct ExceptionItem {
+    texts: Vec<Text>,
+    withdraws: bool,
+    lei: Lei,
+    category: ExceptionCategory,
+    reason: Option<Reason>,
+}
+
+impl Model for ExceptionItem {
+    ghost use Rattle.std.specs.Prelude.{Bool};
+    ghost use Rattle.lei_records.specs.Rows.{Row};
+
+    ghost Value = { Row × Bool };
+
+    ghost use Rattle.lei_records.specs.Parts.{IsExceptionSpelled};
+
+    ghost view = { λ e. (e.texts.items, e.withdraws) };
+
+    ghost invariant = { IsExceptionSpelled };
+}
+
+impl PartialEq for ExceptionItem {
+    ghost use Rattle.std.specs.Prelude.{◌==◌};
+    ghost use Rattle.std.specs.Bool.{beq};
+    ghost use Rattle.std.specs.Ordering.{eq_of_both, on};
+    ghost use Rattle.std.specs.Cmp.Lexicographic.{pointwise};
+    ghost use Rattle.std.specs.Cmp.Rules.{comparing};
+    ghost use Rattle.std.proofs.Common.{rules};
+
+    ghost eq = { eq_of_both (on (λ item. item.0) (pointwise (pointwise ◌==◌))) (on (λ item. item.1) beq) };
+
+    ghost laws = { Prim.search (comparing, rules) depth 8 };
+
+    fn eq(&self, other: &Self) -> bool {
+        self.texts == other.texts && self.withdraws == other.withdraws
+    }
+}
+
+impl Eq for ExceptionItem {
+    ghost use Rattle.std.specs.Cmp.Rules.{comparing};
+    ghost use Rattle.std.proofs.Common.{rules};
+
+    ghost laws = { Prim.search (comparing, rules) };
+}
+
+impl ExceptionItem {
+    /// The exception with these texts, which move, or its withdrawal. The condition is that they are the row of an
+    /// exception.
+    pub fn of(texts: Vec<Text>, withdraws: bool) -> Self
+        requires { IsExceptionRow texts.items }
+        ensures { result ≡ (texts.items, withdraws) }
+    {
+        ExceptionItem {
+            lei: code_at(&texts, 1),
+            category: category_at(&texts, 2),
+            reason: present_reason_at(&texts, 3),
+            texts,
+            withdraws,
+        }
+    }
+
+    /// The text of a field, by its place from 1 to 4: the empty text where the field is absent.
+    pub fn field(&self, place: u8) -> &str
+        requires first { 1 ≤ place }
+        requires last { place ≤ 4 }
+        ensures value { result.now ≡ text_at self.now.0 place }
+        ensures row { IsExceptionRow self.now.0 }
+    {
+        text_at(&self.texts, usize::from(place))
+    }
+
+    /// The entity that reports no parent: the field LEI.
+    pub fn lei(&self) -> Lei
+        ensures value { result ≡ text_at self.now.0 1 }
+        ensures row { IsExceptionRow self.now.0 }
+    {
+        self.lei
+    }
+
+    /// Which parent it doesn't report: the field ExceptionCategory.
+    pub fn category(&self) -> ExceptionCategory
+        ensures { exception_category_of (text_at self.now.0 2) ≡ Some result }
+    {
+        self.category
+    }
+
+    /// Why it doesn't: the field ExceptionReason.
+    pub fn reason(&self) -> Option<Reason>
+        ensures { result ≡ option_and_then reason_of (present (text_at self.now.0 3)) }
+    {
+        self.reason
+    }
+
+    /// Whether it takes a held exception out: the field Action is WITHDRAW.
+    pub fn withdraws(&self) -> bool
+        ensures { result ≡ self.now.1 }
+    {
+        self.withdraws
+    }
+
+    /// The exception in memory of its own.
+    pub fn copy(&self, alloc: Global) -> Result<ExceptionItem, NoMemory>
+        ensures { IfOk result (λ copy. copy ≡ self.now) }
+    {
+        let texts = copied(alloc, &self.texts)?;
+        Ok(ExceptionItem {
+            texts,
+            withdraws: self.withdraws,
+            lei: self.lei,
+            category: self.category,
+            reason: self.reason,
+        })
+    }
+}
+
+fn category_at(texts: &[Text], place: usize) -> ExceptionCategory
+    requires first { 1 ≤ place }
+    requires last { place ≤ length texts.now }
+    requires listed { IsSome (exception_category_of (text_at texts.now place)) }
+    ensures { exception_category_of (text_at texts.now place) ≡ Some result }
+{
+    match ExceptionCategory::read(text_at(texts, place)) {
+        Some(category) => category,
+        None => unreachable!(),
+    }
+}
+
+// The reason that the text at a place reads as, and none where the text is absent.
+fn present_reason_at(texts: &[Text], place: usize) -> Option<Reason>
+    requires first { 1 ≤ place }
+    requires last { place ≤ length texts.now }
+    ensures { result ≡ option_and_then reason_of (present (text_at texts.now place)) }
+{
+    let text = text_at(texts, place);
+    if text.is_empty() {
+        return None;
+    }
+    Reason::read(text)
+}
