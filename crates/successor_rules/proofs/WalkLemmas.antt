@@ -1,0 +1,238 @@
+-- Walks member by member: what the first member and the walk from the next one say of the whole.
+use Rattle.std.specs.Prelude.{◌≡◌, ◌≢◌, ◌==◌, ◌||◌, ◌+◌, ◌-◌, ◌<◌, ℕ, zero, suc, Bool, true, false, cond, if◌then◌else◌, List, [], ◌∷◌, length, find, Option, Some, None, option_map, option_and_then}
+use Rattle.std.specs.List.{Contains, list_any}
+use Rattle.std.specs.Option.{option_map_or, option_to_list}
+use Rattle.std.specs.Str.{bytes_eq}
+use Rattle.std.proofs.Common.{refl, sym, ap, subst, ◌∙◌, arith, rules}
+use Rattle.std.proofs.Math.Dec.{eqb-suc-suc, eqb-zero-suc}
+use Rattle.std.proofs.lemmas.Slice.Eq.{bytes_eq-Decides}
+use mathlib.Core.Bool.{true≢false}
+use Rattle.lei_records.specs.declared.view.CellKey.{CellKey}
+use Rattle.lei_records.specs.declared.view.Seen.{Seen}
+use Rattle.lei_records.specs.Cells.{rec_cell, successor_in}
+use Rattle.lei_records.specs.Rows.{Row}
+use Rattle.lei_records.specs.Tables.{Table, row_at, cells_of, seen}
+use Rattle.successor_rules.specs.declared.walks.Walked.{Walked}
+use Rattle.successor_rules.specs.Chains.{AllEnd, EndsClear, IsTurned, Nexts}
+use Rattle.successor_rules.specs.Successors.{named, successor_of, successor_seen, walk}
+use Rattle.successor_rules.specs.Walks.{Asked, Next, held, is_missing, known, members, unless_lacking, walk_over, walked}
+use Rattle.successor_rules.proofs.ChainLemmas.{keeps_ends}
+
+-- ---- the same for any number of members
+
+abbrev met_in : ℕ → Next → List ℕ → List ℕ → Bool
+met_in n next start first = list_any (bytes_eq start) (members n next first)
+
+abbrev long_in : ℕ → Next → List ℕ → Bool
+long_in n next first = length (members (suc n) next first) == suc n
+
+abbrev lacking_in : ℕ → Asked → List ℕ → Option (List ℕ)
+lacking_in n asked first = find (λ lei. is_missing (asked lei)) (members n (known asked) first)
+
+abbrev pub walked_in : ℕ → Next → List ℕ → List ℕ → Walked
+walked_in n next start first =
+    if met_in n next start first then Walked.Meets else if long_in n next first then Walked.Long else Walked.Ends
+
+abbrev pub walk_in : ℕ → Asked → (List ℕ → CellKey) → List ℕ → List ℕ → Walked
+walk_in n asked key start first =
+    if met_in n (known asked) start first then Walked.Meets
+    else unless_lacking key (lacking_in n asked first) (if long_in n (known asked) first then Walked.Long else Walked.Ends)
+
+-- ---- the first member and the others
+
+met_in-suc : (n : ℕ) (next : Next) (start first : List ℕ) (named : Option (List ℕ)) → next first ≡ named
+    → met_in (suc n) next start first ≡ (bytes_eq start first || option_map_or (met_in n next start) named false)
+unfolding members
+met_in-suc n next start first None is = ap (λ o. list_any (bytes_eq start) (first ∷ option_map_or (members n next) o [])) is
+met_in-suc n next start first (Some lei) is = ap (λ o. list_any (bytes_eq start) (first ∷ option_map_or (members n next) o [])) is
+
+-- one more on both sides
+also_more : (a b : ℕ) → (suc a == suc b) ≡ (a == b)
+also_more a b = eqb-suc-suc a b
+
+one_of_more : (n : ℕ) → (1 == suc (suc n)) ≡ false
+one_of_more n = eqb-suc-suc 0 (suc n) ∙ eqb-zero-suc n
+
+long_in-suc : (n : ℕ) (next : Next) (first : List ℕ) (named : Option (List ℕ)) → next first ≡ named
+    → long_in (suc n) next first ≡ option_map_or (long_in n next) named false
+unfolding members
+long_in-suc n next first None is =
+    ap (λ o. length (first ∷ option_map_or (members (suc n) next) o []) == suc (suc n)) is ∙ one_of_more n
+long_in-suc n next first (Some lei) is =
+    ap (λ o. length (first ∷ option_map_or (members (suc n) next) o []) == suc (suc n)) is
+    ∙ also_more (length (members (suc n) next lei)) (suc n)
+
+long_in-zero : (next : Next) (first : List ℕ) (named : Option (List ℕ)) → next first ≡ named → long_in zero next first ≡ true
+unfolding members
+long_in-zero next first None is = ap (λ o. length (first ∷ option_map_or (members zero next) o []) == 1) is
+long_in-zero next first (Some lei) is = ap (λ o. length (first ∷ option_map_or (members zero next) o []) == 1) is
+
+lacking_in-suc : (n : ℕ) (asked : Asked) (first : List ℕ) (named : Option (List ℕ)) → known asked first ≡ named
+    → lacking_in (suc n) asked first ≡ cond (is_missing (asked first)) (Some first) (option_map_or (lacking_in n asked) named None)
+unfolding members
+lacking_in-suc n asked first None is =
+    ap (λ o. cond (is_missing (asked first)) (Some first) (find (λ lei. is_missing (asked lei)) (option_map_or (members n (known asked)) o []))) is
+lacking_in-suc n asked first (Some lei) is =
+    ap (λ o. cond (is_missing (asked first)) (Some first) (find (λ lei. is_missing (asked lei)) (option_map_or (members n (known asked)) o []))) is
+
+-- ---- one step over a view
+
+-- what becomes of the walk, by its three questions
+shape : (List ℕ → CellKey) → Bool → Option (List ℕ) → Bool → Walked
+shape key met lacks long = if met then Walked.Meets else unless_lacking key lacks (if long then Walked.Long else Walked.Ends)
+
+pub walk_in-meets : (n : ℕ) (asked : Asked) (key : List ℕ → CellKey) (start first : List ℕ) → bytes_eq start first ≡ true
+    → walk_in (suc n) asked key start first ≡ Walked.Meets
+unfolding shape
+walk_in-meets n asked key start first is =
+    ap (λ met. shape key met (lacking_in (suc n) asked first) (long_in (suc n) (known asked) first))
+    (met_in-suc n (known asked) start first (known asked first) refl
+    ∙ ap (λ b. b || option_map_or (met_in n (known asked) start) (known asked first) false) is)
+
+pub walk_in-next : (n : ℕ) (asked : Asked) (key : List ℕ → CellKey) (start first lei : List ℕ) → bytes_eq start first ≡ false
+    → asked first ≡ Seen.Held lei → walk_in (suc n) asked key start first ≡ walk_in n asked key start lei
+unfolding shape
+walk_in-next n asked key start first lei other is =
+    let met : met_in (suc n) (known asked) start first ≡ met_in n (known asked) start lei =
+    met_in-suc n (known asked) start first (Some lei) (ap held is) ∙ ap (λ b. b || met_in n (known asked) start lei) other in
+    let lacks : lacking_in (suc n) asked first ≡ lacking_in n asked lei =
+    lacking_in-suc n asked first (Some lei) (ap held is) ∙ ap (λ s. cond (is_missing s) (Some first) (lacking_in n asked lei)) is in
+    let long : long_in (suc n) (known asked) first ≡ long_in n (known asked) lei = long_in-suc n (known asked) first (Some lei) (ap held is) in
+    λ i. shape key (met i) (lacks i) (long i)
+
+pub walk_in-ends : (n : ℕ) (asked : Asked) (key : List ℕ → CellKey) (start first : List ℕ) → bytes_eq start first ≡ false
+    → asked first ≡ Seen.Empty → walk_in (suc n) asked key start first ≡ Walked.Ends
+unfolding shape
+walk_in-ends n asked key start first other is =
+    let met : met_in (suc n) (known asked) start first ≡ false =
+    met_in-suc n (known asked) start first None (ap held is) ∙ ap (λ b. b || false) other in
+    let lacks : lacking_in (suc n) asked first ≡ None =
+    lacking_in-suc n asked first None (ap held is) ∙ ap (λ s. cond (is_missing s) (Some first) None) is in
+    let long : long_in (suc n) (known asked) first ≡ false = long_in-suc n (known asked) first None (ap held is) in
+    λ i. shape key (met i) (lacks i) (long i)
+
+pub walk_in-lacks : (n : ℕ) (asked : Asked) (key : List ℕ → CellKey) (start first : List ℕ) → bytes_eq start first ≡ false
+    → asked first ≡ Seen.Missing → walk_in (suc n) asked key start first ≡ Walked.Missing (key first)
+unfolding shape
+walk_in-lacks n asked key start first other is =
+    let met : met_in (suc n) (known asked) start first ≡ false =
+    met_in-suc n (known asked) start first None (ap held is) ∙ ap (λ b. b || false) other in
+    let lacks : lacking_in (suc n) asked first ≡ Some first =
+    lacking_in-suc n asked first None (ap held is) ∙ ap (λ s. cond (is_missing s) (Some first) None) is in
+    λ i. shape key (met i) (lacks i) (long_in (suc n) (known asked) first)
+
+pub walk_in-zero : (asked : Asked) (key : List ℕ → CellKey) (start first : List ℕ) → walk_in zero asked key start first ≡ Walked.Long
+unfolding members shape
+walk_in-zero asked key start first = ap (shape key false None) (long_in-zero (known asked) first (known asked first) refl)
+
+-- ---- the same where some of the 200 members were looked at
+
+left : (c : ℕ) → c < 200 → 200 - c ≡ suc (200 - (c + 1))
+left c less = omega arith
+
+module _ (asked : Asked) (key : List ℕ → CellKey) (start first : List ℕ) (whole : Walked) (c : ℕ) where
+  pub stop-meets : c < 200 → walk_in (200 - c) asked key start first ≡ whole → bytes_eq start first ≡ true → Walked.Meets ≡ whole
+  stop-meets less so_far met =
+      sym (walk_in-meets (200 - (c + 1)) asked key start first met) ∙ ap (λ n. walk_in n asked key start first) (sym (left c less)) ∙ so_far
+
+  pub stop-ends : c < 200 → walk_in (200 - c) asked key start first ≡ whole → bytes_eq start first ≡ false → asked first ≡ Seen.Empty
+      → Walked.Ends ≡ whole
+  stop-ends less so_far other is =
+      sym (walk_in-ends (200 - (c + 1)) asked key start first other is) ∙ ap (λ n. walk_in n asked key start first) (sym (left c less)) ∙ so_far
+
+  pub stop-lacks : c < 200 → walk_in (200 - c) asked key start first ≡ whole → bytes_eq start first ≡ false → asked first ≡ Seen.Missing
+      → Walked.Missing (key first) ≡ whole
+  stop-lacks less so_far other is =
+      sym (walk_in-lacks (200 - (c + 1)) asked key start first other is) ∙ ap (λ n. walk_in n asked key start first) (sym (left c less)) ∙ so_far
+
+  pub one_step : (lei : List ℕ) → c < 200 → walk_in (200 - c) asked key start first ≡ whole → bytes_eq start first ≡ false
+      → asked first ≡ Seen.Held lei → walk_in (200 - (c + 1)) asked key start lei ≡ whole
+  one_step lei less so_far other is =
+      sym (walk_in-next (200 - (c + 1)) asked key start first lei other is) ∙ ap (λ n. walk_in n asked key start first) (sym (left c less)) ∙ so_far
+
+-- ---- over a table, in which no cell is missing
+
+none_found : (p : List ℕ → Bool) (xs : List (List ℕ)) → ((x : List ℕ) → p x ≡ false) → find p xs ≡ None
+none_found p [] never = refl
+none_found p (x ∷ xs) never = ap (λ b. cond b (Some x) (find p xs)) (never x) ∙ none_found p xs never
+
+-- what a table answers of the successor of each code
+abbrev seen_next : Table → Asked
+seen_next table lei = successor_seen ((cells_of table).record_cell lei)
+
+is_known : (o : Option (List ℕ)) → (held (named o) ≡ o) × (is_missing (named o) ≡ false)
+is_known None = (refl, refl)
+is_known (Some lei) = (refl, refl)
+
+row_is_known : (row : Option Row)
+    → (held (successor_seen (seen (option_map rec_cell row))) ≡ option_and_then successor_in row)
+    × (is_missing (successor_seen (seen (option_map rec_cell row))) ≡ false)
+row_is_known None = (refl, refl)
+row_is_known (Some row) = is_known (successor_in row)
+
+-- the walk over a table is that of its successors
+pub walk-over_table : (table : Table) (start first : List ℕ) → walk (cells_of table) start first ≡ walked (successor_of table) start first
+unfolding shape
+walk-over_table table start first =
+    let same : known (seen_next table) ≡ successor_of table = λ i lei. (row_is_known (row_at table lei)).0 i in
+    let lacks : lacking_in 200 (seen_next table) first ≡ None =
+    none_found (λ lei. is_missing (seen_next table lei)) (members 200 (known (seen_next table)) first) (λ lei. (row_is_known (row_at table lei)).1) in
+    λ i. shape CellKey.Rec (met_in 200 (same i) start first) (lacks i) (long_in 200 (same i) first)
+
+-- ---- a walk that ends meets its start nowhere
+
+nexts : Next → Nexts
+nexts next lei = option_to_list (next lei)
+
+walked_in-meets : (n : ℕ) (next : Next) (start first : List ℕ) → bytes_eq start first ≡ true → walked_in (suc n) next start first ≡ Walked.Meets
+walked_in-meets n next start first is =
+    ap (λ met. if met then Walked.Meets else if long_in (suc n) next first then Walked.Long else Walked.Ends)
+    (met_in-suc n next start first (next first) refl ∙ ap (λ b. b || option_map_or (met_in n next start) (next first) false) is)
+
+walked_in-next : (n : ℕ) (next : Next) (start first lei : List ℕ) → bytes_eq start first ≡ false → next first ≡ Some lei
+    → walked_in (suc n) next start first ≡ walked_in n next start lei
+walked_in-next n next start first lei other is =
+    let met : met_in (suc n) next start first ≡ met_in n next start lei =
+    met_in-suc n next start first (Some lei) is ∙ ap (λ b. b || met_in n next start lei) other in
+    let long : long_in (suc n) next first ≡ long_in n next lei = long_in-suc n next first (Some lei) is in
+    λ i. if met i then Walked.Meets else if long i then Walked.Long else Walked.Ends
+
+walked_in-zero : (next : Next) (start first : List ℕ) → walked_in zero next start first ≡ Walked.Long
+unfolding members
+walked_in-zero next start first = ap (λ long. if long then Walked.Long else Walked.Ends) (long_in-zero next first (next first) refl)
+
+-- the start is another code than one that the walk goes through
+apart : (start lei : List ℕ) → bytes_eq start lei ≡ false → lei ≢ start
+apart start lei other same = true≢false (sym ((bytes_eq-Decides start lei).1 (sym same)) ∙ other)
+
+only : (lei next : List ℕ) → Contains (lei ∷ []) next → lei ≡ next
+only lei next at = search rules
+
+none : (next : List ℕ) → Contains [] next → ⊥
+none next at = search rules
+
+-- a walk that goes on from this code ends without meeting the start, if each one after it does
+goes_on : (n : ℕ) (next : Next) (start first : List ℕ) → bytes_eq start first ≡ false → walked_in (suc n) next start first ≡ Walked.Ends
+    → ((second : List ℕ) → walked_in n next start second ≡ Walked.Ends → EndsClear n (nexts next) start second)
+    → (named : Option (List ℕ)) → next first ≡ named → (lei : List ℕ) → Contains (nexts next first) lei → EndsClear n (nexts next) start lei
+unfolding nexts
+goes_on n next start first other is then_clear None named lei at =
+    absurd (none lei (subst (λ o. Contains (option_to_list o) lei) named at))
+goes_on n next start first other is then_clear (Some second) named lei at =
+    let same : second ≡ lei = only second lei (subst (λ o. Contains (option_to_list o) lei) named at) in
+    subst (EndsClear n (nexts next) start) same (then_clear second (sym (walked_in-next n next start first second other named) ∙ is))
+
+ends_clear : (n : ℕ) (next : Next) (start first : List ℕ) → walked_in n next start first ≡ Walked.Ends → EndsClear n (nexts next) start first
+ends_clear zero next start first is = let long = walked_in-zero next start first in cc
+ends_clear (suc n) next start first is =
+    elim (bytes_eq start first) as (λ b. bytes_eq start first ≡ b → EndsClear (suc n) (nexts next) start first) [
+      | true ↦ λ t. let meets = walked_in-meets n next start first t in cc
+      | false ↦ λ f. (apart start first f, goes_on n next start first f is (ends_clear n next start) (next first) refl)
+    ] refl
+
+pub ended_walk_keeps_ends : (next : Next) (after : Nexts) (start first : List ℕ) → AllEnd (λ lei. option_to_list (next lei))
+    → IsTurned (λ lei. option_to_list (next lei)) after start (first ∷ []) → walked next start first ≡ Walked.Ends → AllEnd after
+unfolding nexts
+ended_walk_keeps_ends next after start first all turned is =
+    keeps_ends (nexts next) after start (first ∷ []) 200 all turned (λ target at.
+    subst (EndsClear 200 (nexts next) start) (only first target at) (ends_clear 200 next start first is))

@@ -1,0 +1,14 @@
+//! Successors: which entity followed another one, and that no chain of them comes back. No call takes memory. This
+//! project's profile.
+#![tactic(auto)]
+
+mod laws;
+mod successors;
+mod walks;
+
+pub use laws::{clear_ways_keep_ends, ending_walks_keep_ends, ending_ways_never_return};
+pub use successors::walk;
+pub use walks::{Chain, Walked, follow};
+
+#[cfg(test)]
+mod tests;

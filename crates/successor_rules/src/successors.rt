@@ -1,0 +1,62 @@
+//! The walk of successors.
+ghost use Rattle.std.specs.Prelude.{◌≡◌, ℕ, List};
+ghost use Rattle.lei_records.specs.declared.view.CellKey.{CellKey};
+ghost use Rattle.lei_records.specs.Tables.{Table, cells_of};
+ghost use Rattle.successor_rules.specs.Successors;
+ghost use Rattle.successor_rules.specs.Walks.{walked};
+
+use crate::walks::{Chain, Walked, follow};
+use lei_code::Lei;
+use lei_records::{CellKey, RecCell, Seen, View};
+
+// A view's records, each of which names at most one successor.
+#[derive(Drop)]
+struct Records<'a, V> {
+    view: &'a V,
+}
+
+impl<'a, V: View> Chain for Records<'a, V> {
+    ghost asked = { λ records lei. Successors.successor_seen ((V.cells records.view.now).record_cell lei) };
+
+    ghost cell = { λ records lei. CellKey.Rec lei };
+
+    fn next(&self, lei: &Lei) -> Seen<Lei> {
+        successor_seen(self.view.record_cell(lei))
+    }
+
+    fn key(&self, lei: Lei) -> CellKey {
+        CellKey::Rec(lei)
+    }
+}
+
+fn successor_seen(seen: Seen<RecCell>) -> Seen<Lei>
+    ensures { result ≡ Successors.successor_seen seen }
+{
+    match seen {
+        Seen::Held(cell) => named(cell.successor),
+        Seen::Empty => Seen::Empty,
+        Seen::Missing => Seen::Missing,
+    }
+}
+
+fn named(successor: Option<Lei>) -> Seen<Lei>
+    ensures { result ≡ Successors.named successor }
+{
+    match successor {
+        Some(lei) => Seen::Held(lei),
+        None => Seen::Empty,
+    }
+}
+
+/// The walk of successors of a record whose code is `avoid`: it begins at the successor `from`, and goes from each
+/// record to the successor that it names. `Missing` where the view lacks the record of one of the first 200 members
+/// before the walk is decided, with the first such record's key.
+pub fn walk<V: View>(view: &V, from: &Lei, avoid: &Lei) -> Walked
+    ensures answers { result ≡ Successors.walk (V.cells view.now) avoid.now from.now }
+
+    // Over the cells of a table.
+    ensures over_tables { (table : Table) → V.cells view.now ≡ cells_of table
+        → result ≡ walked (Successors.successor_of table) avoid.now from.now }
+{
+    follow(&Records { view }, from, avoid)
+}
