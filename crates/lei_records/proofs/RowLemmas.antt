@@ -1,36 +1,39 @@
 -- The checks of an item by its texts in order of place, and the row that it has where they pass.
-use Rattle.std.proofs.Common.{◌≡◌, ℕ, ℤ, ◌<◌, ◌%◌, zero, suc, List, [], ◌∷◌, Bool, true, false, not, ◌&&◌, cond, length, get_or, map, Option, None, Some, unwrap_or, refl, sym, ap, subst, ◌∙◌, arith, lit<}
-use Rattle.std.specs.Prelude.{◌==◌, IsSome, IfSome, is_some, IfOk, Result, Ok, Err}
+use Rattle.std.proofs.Common.{◌≡◌, ℕ, ℤ, ◌<◌, ◌%◌, zero, suc, List, [], ◌∷◌, Bool, true, false, not, ◌&&◌, cond, length, get_or, map, take, min, Option, None, Some, unwrap_or, refl, sym, ap, subst, ◌∙◌, arith, lit<}
+use Rattle.std.specs.Prelude.{◌==◌, codes, IsSome, IfSome, is_some, IfOk, Result, Ok, Err}
 use Rattle.std.proofs.lemmas.Bool.{false≢true}
 use Rattle.std.proofs.lemmas.Int.{ints}
 use Rattle.std.specs.List.{find, zip}
 use Rattle.std.specs.Option.{option_map, option_or}
-use Rattle.std.proofs.lemmas.List.{get_or-map, length-map}
+use Rattle.std.specs.Map.{lookup}
+use Rattle.std.specs.Str.{bytes_eq}
+use Rattle.std.proofs.lemmas.List.{get_or-map, get_or-take, length-map}
+use Rattle.std.proofs.lemmas.Slice.Eq.{bytes_eq-Decides}
 use Rattle.std.proofs.lemmas.Slice.Zip.{get_or-zip, length-zip}
 use Rattle.jiff.specs.Words.{Error, parse_timestamp}
 use Rattle.lei_code.specs.Code.{IsValid}
 use Rattle.lei_code.specs.Number.{number}
 use Rattle.lei_shapes.specs.declared.shapes.Shape.{Shape}
 use Rattle.lei_shapes.specs.Clock.{moment_text}
-use Rattle.lei_shapes.specs.Lists.{category_of, entity_status_of, record_status_of}
+use Rattle.lei_shapes.specs.Lists.{category_of, entity_status_of, exception_category_of, reason_of, record_status_of, relation_registration_of, relation_status_of, relation_type_of}
 use Rattle.lei_shapes.specs.Moment.{IsMoment, is_moment, moment_of_instant, read_moment, whole_seconds}
 use Rattle.lei_shapes.specs.Shape.{is_code, fits_shape}
 use Rattle.lei_shapes.proofs.MomentLemmas.{read_moment-text}
 use Rattle.lei_records.specs.declared.check.Check.{Check}
+use Rattle.lei_records.specs.declared.fields.Content.{Content}
+use Rattle.lei_records.specs.declared.fields.Facts.{Facts}
+use Rattle.lei_records.specs.declared.fields.Kind.{Kind}
 use Rattle.lei_records.specs.declared.fields.Need.{Need}
 use Rattle.lei_records.specs.declared.item.Item.{Item}
 use Rattle.lei_records.specs.declared.item.Readied.{Readied}
 use Rattle.lei_records.specs.declared.readying.Ask.{Ask}
-use Rattle.lei_records.specs.Fields.{fields, is_needed, may_stand}
-use Rattle.lei_records.specs.Items.{failed_check, field_check, first_field, has_other_remainder, is_archival, is_code_shape, miscoded_field, misshapen_field, missing_field, printed, readied, row_of, text_of, unknown_name}
+use Rattle.lei_records.specs.Fields.{Field, exception_fields, field_count, fields, fields_of, fits_content, is_code_content, is_needed, may_stand, relation_fields, row_fields, row_len}
+use Rattle.lei_records.specs.Items.{facts_of, failed_check, field_check, first_field, has_other_remainder, is_archival, is_field, is_withdrawal, item_of, kept, miscoded_field, misshapen_field, missing_field, printed, readied, row_of, text_of, unknown_name}
 use Rattle.lei_records.specs.Rows.{Row}
-use Rattle.lei_records.specs.Sheets.{archival_at, asked, failed_at, first_at, printed_at, readied_by, texts_of}
-use Rattle.lei_records.specs.Spelled.{IsPrinted, IsRow, is_absent, present}
+use Rattle.lei_records.specs.Sheets.{asked, facts_at, failed_at, first_at, printed_at, readied_by, texts_of}
+use Rattle.lei_records.specs.Spelled.{IsExceptionRow, IsListed, IsPrinted, IsRelationRow, IsRow, IsRowOf, is_absent, present}
 use Rattle.lei_records.proofs.Codes.{IsValid-from_shape}
-use Rattle.lei_records.proofs.SheetLemmas.{find-map, map-map}
-
-abbrev Field : Type 0
-Field = List ℕ × Shape × Need
+use Rattle.lei_records.proofs.SheetLemmas.{find-map, length-fields_of, map-map}
 
 -- ---- by place as by name
 
@@ -38,39 +41,83 @@ zip-self : {X Y : Type 0} (g : X → Y) (xs : List X) → zip xs (map g xs) ≡ 
 zip-self g [] = refl
 zip-self g (x ∷ xs) = ap (λ l. (x, g x) ∷ l) (zip-self g xs)
 
-archival_at-texts_of : (pairs : List (List ℕ × List ℕ)) → archival_at (texts_of pairs) ≡ is_archival pairs
+-- of a list that is shorter
+zip-front : {X Y : Type 0} (g : X → Y) (n : ℕ) (xs : List X) → zip (take n xs) (map g xs) ≡ map (λ x. (x, g x)) (take n xs)
+zip-front g zero xs = refl
+zip-front g (suc n) [] = refl
+zip-front g (suc n) (x ∷ xs) = ap (λ l. (x, g x) ∷ l) (zip-front g n xs)
+
+none_first : {X : Type 0} (b : Bool) (x : X) (rest : Option X) → cond b (Some x) rest ≡ None → (b ≡ false) × (rest ≡ None)
+none_first true x rest none = cc
+none_first false x rest none = (refl, none)
+
+-- an item that has no unknown name has no text under one
+not_sent : (kind : Kind) (name : List ℕ) (pairs : List (List ℕ × List ℕ)) → is_field kind name ≡ false → unknown_name kind pairs ≡ None → text_of pairs name ≡ []
+not_sent kind name [] unknown known = refl
+not_sent kind name (p ∷ pairs) unknown known =
+    let parts = none_first (not (is_field kind p.0)) p.0 (unknown_name kind pairs) known in
+    elim (bytes_eq name p.0) as (λ b. bytes_eq name p.0 ≡ b → unwrap_or (cond b (Some p.1) (lookup (bytes_eq name) pairs)) [] ≡ []) [
+      | true ↦ λ is. (
+          let same : name ≡ p.0 = (bytes_eq-Decides name p.0).0 is in
+          let told : not false ≡ false = ap not (sym unknown ∙ ap (is_field kind) same) ∙ parts.0 in
+          absurd (false≢true (sym told)))
+      | false ↦ λ is. not_sent kind name pairs unknown parts.1
+    ] refl
+
+no_action : is_field Kind.Record (codes "Action") ≡ false
 unfolding fields
-archival_at-texts_of pairs = refl
+no_action = refl
+
+no_action_either : is_field Kind.Relation (codes "Action") ≡ false
+unfolding relation_fields
+no_action_either = refl
+
+no_status : is_field Kind.Exception (codes "Registration.RegistrationStatus") ≡ false
+unfolding exception_fields
+no_status = refl
+
+never_withdrawn : (kind : Kind) (pairs : List (List ℕ × List ℕ)) → is_field kind (codes "Action") ≡ false → unknown_name kind pairs ≡ None → false ≡ is_withdrawal pairs
+never_withdrawn kind pairs none known = sym (ap (λ text. bytes_eq text (codes "WITHDRAW")) (not_sent kind (codes "Action") pairs none known))
+
+-- what the needs depend on, by place as by name
+facts_at-texts_of : (kind : Kind) (pairs : List (List ℕ × List ℕ)) → unknown_name kind pairs ≡ None → facts_at kind (texts_of kind pairs) ≡ facts_of pairs
+unfolding fields relation_fields exception_fields
+facts_at-texts_of Kind.Record pairs known =
+    let same = never_withdrawn Kind.Record pairs no_action known in
+    λ i. record { archival = is_archival pairs; withdrawal = same i }
+facts_at-texts_of Kind.Relation pairs known =
+    let same = never_withdrawn Kind.Relation pairs no_action_either known in
+    λ i. record { archival = is_archival pairs; withdrawal = same i }
+facts_at-texts_of Kind.Exception pairs known =
+    let same : false ≡ is_archival pairs = sym (ap (λ text. bytes_eq text (codes "PENDING_ARCHIVAL")) (not_sent Kind.Exception (codes "Registration.RegistrationStatus") pairs no_status known)) in
+    λ i. record { archival = same i; withdrawal = is_withdrawal pairs }
 
 name_of_found : {Y : Type 0} (g : Field → Y) (found : Option Field) → option_map (λ (entry : Field × Y). entry.0.0) (option_map (λ field. (field, g field)) found) ≡ option_map (λ field. field.0) found
 name_of_found g None = refl
 name_of_found g (Some field) = refl
 
-pub first_at-texts_of : (ask : Ask) (pairs : List (List ℕ × List ℕ)) → first_at ask (texts_of pairs) ≡ first_field (asked ask (is_archival pairs)) pairs
+pub first_at-texts_of : (ask : Ask) (kind : Kind) (pairs : List (List ℕ × List ℕ)) → unknown_name kind pairs ≡ None → first_at ask kind (texts_of kind pairs) ≡ first_field (asked ask (facts_of pairs)) kind pairs
 unfolding first_at
-first_at-texts_of ask pairs =
+first_at-texts_of ask kind pairs known =
     let text : Field → List ℕ = λ field. text_of pairs field.0 in
-    let asks : Bool → Field × List ℕ → Bool = λ archival entry. asked ask archival entry.0 entry.1 in
-    ap (λ b. option_map (λ entry. entry.0.0) (find (asks b) (zip fields (texts_of pairs)))) (archival_at-texts_of pairs)
-    ∙ (ap (λ l. option_map (λ entry. entry.0.0) (find (asks (is_archival pairs)) l)) (zip-self text fields)
-    ∙ (ap (option_map (λ entry. entry.0.0)) (find-map (asks (is_archival pairs)) (λ field. (field, text field)) fields)
-    ∙ name_of_found text (find (λ field. asked ask (is_archival pairs) field (text field)) fields)))
+    let asks : Facts → Field × List ℕ → Bool = λ facts entry. asked ask facts entry.0 entry.1 in
+    ap (λ facts. option_map (λ entry. entry.0.0) (find (asks facts) (zip (fields_of kind) (texts_of kind pairs)))) (facts_at-texts_of kind pairs known)
+    ∙ (ap (λ l. option_map (λ entry. entry.0.0) (find (asks (facts_of pairs)) l)) (zip-self text (fields_of kind))
+    ∙ (ap (option_map (λ entry. entry.0.0)) (find-map (asks (facts_of pairs)) (λ field. (field, text field)) (fields_of kind))
+    ∙ name_of_found text (find (λ field. asked ask (facts_of pairs) field (text field)) (fields_of kind))))
 
-pub printed_at-texts_of : (pairs : List (List ℕ × List ℕ)) → printed_at (texts_of pairs) ≡ row_of pairs
+pub printed_at-texts_of : (kind : Kind) (pairs : List (List ℕ × List ℕ)) → printed_at kind (texts_of kind pairs) ≡ row_of kind pairs
 unfolding printed_at row_of
-printed_at-texts_of pairs =
-    let make : Field × List ℕ → List ℕ = λ entry. printed entry.0.1 entry.1 in
-    ap (map make) (zip-self (λ field. text_of pairs field.0) fields) ∙ map-map make (λ field. (field, text_of pairs field.0)) fields
+printed_at-texts_of kind pairs =
+    let make : Field × List ℕ → List ℕ = λ entry. kept entry.0.1 entry.1 in
+    ap (map make) (zip-front (λ field. text_of pairs field.0) (row_len kind) (fields_of kind)) ∙ map-map make (λ field. (field, text_of pairs field.0)) (row_fields kind)
 
-pub failed_at-texts_of : (pairs : List (List ℕ × List ℕ)) → unknown_name pairs ≡ None → failed_check pairs ≡ failed_at (texts_of pairs)
+pub failed_at-texts_of : (kind : Kind) (pairs : List (List ℕ × List ℕ)) → unknown_name kind pairs ≡ None → failed_check kind pairs ≡ failed_at kind (texts_of kind pairs)
 unfolding failed_check failed_at
-failed_at-texts_of pairs known = rw (known, first_at-texts_of Ask.Presence pairs, first_at-texts_of Ask.Shape pairs, first_at-texts_of Ask.Digits pairs) refl
+failed_at-texts_of kind pairs known =
+    rw (known, first_at-texts_of Ask.Presence kind pairs known, first_at-texts_of Ask.Shape kind pairs known, first_at-texts_of Ask.Digits kind pairs known) refl
 
 -- ---- a row of texts that pass
-
-none_first : {X : Type 0} (b : Bool) (x : X) (rest : Option X) → cond b (Some x) rest ≡ None → (b ≡ false) × (rest ≡ None)
-none_first true x rest none = cc
-none_first false x rest none = (refl, none)
 
 none_found : {X : Type 0} (p : X → Bool) (xs : List X) (k : ℕ) (d : X) → find p xs ≡ None → k < length xs → p (get_or xs k d) ≡ false
 none_found p [] k d none within = absurd (omega arith)
@@ -82,44 +129,64 @@ unmapped f None is = refl
 unmapped f (Some x) is = cc
 
 abbrev blank : Field
-blank = ([], Shape.Code, Need.Always)
+blank = ([], Content.Action, Need.Always)
 
 -- the field and the text at an index
-abbrev field_at : ℕ → Field
-field_at k = get_or fields k blank
+abbrev field_at : Kind → ℕ → Field
+field_at kind k = get_or (fields_of kind) k blank
 
 abbrev sent : Row → ℕ → List ℕ
 sent texts k = get_or texts k []
 
-length-fields : length fields ≡ 28
-unfolding fields
-length-fields = refl
+row-within : (kind : Kind) (k : ℕ) → k < row_len kind → k < field_count kind
+row-within Kind.Record k bound = bound
+row-within Kind.Relation k bound = bound
+row-within Kind.Exception k bound = omega (arith, bound)
 
-entry_at : (texts : Row) → length texts ≡ 28 → (k : ℕ) → k < 28 → get_or (zip fields texts) k (blank, []) ≡ (field_at k, sent texts k)
-entry_at texts len k bound = get_or-zip fields texts k (blank, []) (rw length-fields bound) (rw len bound)
+length-row_fields : (kind : Kind) → length (row_fields kind) ≡ row_len kind
+unfolding fields relation_fields exception_fields
+length-row_fields Kind.Record = refl
+length-row_fields Kind.Relation = refl
+length-row_fields Kind.Exception = refl
 
-length-entries : (texts : Row) → length texts ≡ 28 → length (zip fields texts) ≡ 28
-length-entries texts len = length-zip fields texts ∙ rw (length-fields, len) refl
+entry_at : (kind : Kind) (texts : Row) → length texts ≡ field_count kind → (k : ℕ) → k < field_count kind → get_or (zip (fields_of kind) texts) k (blank, []) ≡ (field_at kind k, sent texts k)
+entry_at kind texts len k bound = get_or-zip (fields_of kind) texts k (blank, []) (rw (length-fields_of kind) bound) (rw len bound)
+
+-- the same of the fields that stand in a row
+row_entry_at : (kind : Kind) (texts : Row) → length texts ≡ field_count kind → (k : ℕ) → k < row_len kind → get_or (zip (row_fields kind) texts) k (blank, []) ≡ (field_at kind k, sent texts k)
+row_entry_at kind texts len k bound =
+    get_or-zip (row_fields kind) texts k (blank, []) (rw (length-row_fields kind) bound) (rw len (row-within kind k bound))
+    ∙ ap (λ field. (field, sent texts k)) (get_or-take (row_len kind) (fields_of kind) k blank bound)
+
+within_entries : (fs : List Field) (texts : Row) (k : ℕ) → k < length fs → k < length texts → k < length (zip fs texts)
+within_entries [] texts k first second = absurd (omega (arith, first))
+within_entries (f ∷ fs) [] k first second = absurd (omega (arith, second))
+within_entries (f ∷ fs) (t ∷ texts) zero first second = omega arith
+within_entries (f ∷ fs) (t ∷ texts) (suc k) first second = let rest = within_entries fs texts k (omega (arith, first)) (omega (arith, second)) in omega (arith, rest)
 
 -- what a check that finds no field says of each
-asked_at : (ask : Ask) (texts : Row) → length texts ≡ 28 → first_at ask texts ≡ None → (k : ℕ) → k < 28 → asked ask (archival_at texts) (field_at k) (sent texts k) ≡ false
+asked_at : (ask : Ask) (kind : Kind) (texts : Row) → length texts ≡ field_count kind → first_at ask kind texts ≡ None → (k : ℕ) → k < field_count kind
+    → asked ask (facts_at kind texts) (field_at kind k) (sent texts k) ≡ false
 unfolding first_at
-asked_at ask texts len none k bound =
-    let asks : Field × List ℕ → Bool = λ entry. asked ask (archival_at texts) entry.0 entry.1 in
-    ap asks (sym (entry_at texts len k bound)) ∙ none_found asks (zip fields texts) k (blank, []) (unmapped (λ entry. entry.0.0) (find asks (zip fields texts)) none) (rw (length-entries texts len) bound)
+asked_at ask kind texts len none k bound =
+    let asks : Field × List ℕ → Bool = λ entry. asked ask (facts_at kind texts) entry.0 entry.1 in
+    ap asks (sym (entry_at kind texts len k bound))
+    ∙ none_found asks (zip (fields_of kind) texts) k (blank, []) (unmapped (λ entry. entry.0.0) (find asks (zip (fields_of kind) texts)) none)
+    (within_entries (fields_of kind) texts k (rw (length-fields_of kind) bound) (rw len bound))
 
-row_at : (texts : Row) → length texts ≡ 28 → (k : ℕ) → k < 28 → get_or (printed_at texts) k [] ≡ printed (field_at k).1 (sent texts k)
+row_at : (kind : Kind) (texts : Row) → length texts ≡ field_count kind → (k : ℕ) → k < row_len kind → get_or (printed_at kind texts) k [] ≡ kept (field_at kind k).1 (sent texts k)
 unfolding printed_at
-row_at texts len k bound =
-    let make : Field × List ℕ → List ℕ = λ entry. printed entry.0.1 entry.1 in
-    get_or-map make (zip fields texts) k (blank, []) [] (rw (length-entries texts len) bound) ∙ ap make (entry_at texts len k bound)
+row_at kind texts len k bound =
+    let make : Field × List ℕ → List ℕ = λ entry. kept entry.0.1 entry.1 in
+    get_or-map make (zip (row_fields kind) texts) k (blank, []) [] (within_entries (row_fields kind) texts k (rw (length-row_fields kind) bound) (rw len (row-within kind k bound)))
+    ∙ ap make (row_entry_at kind texts len k bound)
 
--- what the texts at the places of a record have passed
-record Passed (texts : Row) : Type 0 where
-  len : length texts ≡ 28
-  presence : (k : ℕ) → k < 28 → asked Ask.Presence (archival_at texts) (field_at k) (sent texts k) ≡ false
-  shape : (k : ℕ) → k < 28 → asked Ask.Shape (archival_at texts) (field_at k) (sent texts k) ≡ false
-  digits : (k : ℕ) → k < 28 → asked Ask.Digits (archival_at texts) (field_at k) (sent texts k) ≡ false
+-- what the texts at the places of a kind of item have passed
+record Passed (kind : Kind) (texts : Row) : Type 0 where
+  len : length texts ≡ field_count kind
+  presence : (k : ℕ) → k < field_count kind → asked Ask.Presence (facts_at kind texts) (field_at kind k) (sent texts k) ≡ false
+  shape : (k : ℕ) → k < field_count kind → asked Ask.Shape (facts_at kind texts) (field_at kind k) (sent texts k) ≡ false
+  digits : (k : ℕ) → k < field_count kind → asked Ask.Digits (facts_at kind texts) (field_at kind k) (sent texts k) ≡ false
 
 fit : (absent fits may : Bool) → absent ≡ false → not absent && not (fits && may) ≡ false → fits ≡ true
 fit true fits may stands passes = cc
@@ -177,76 +244,129 @@ absent_stays text stands =
       | false ↦ λ is other. refl
     ] refl stands
 
-same_at : (texts : Row) → Passed texts → (k : ℕ) → k < 28 → (shape : Shape) → (field_at k).1 ≡ shape → get_or (printed_at texts) k [] ≡ printed shape (sent texts k)
-same_at texts passed k bound shape is = row_at texts passed.len k bound ∙ ap (λ s. printed s (sent texts k)) is
+same_at : (kind : Kind) (texts : Row) → Passed kind texts → (k : ℕ) → k < row_len kind → (shape : Shape) → (field_at kind k).1 ≡ Content.Shaped shape
+    → get_or (printed_at kind texts) k [] ≡ printed shape (sent texts k)
+same_at kind texts passed k bound shape is = row_at kind texts passed.len k bound ∙ ap (λ content. kept content (sent texts k)) is
 
-stands_at : (texts : Row) → Passed texts → (k : ℕ) → k < 28 → (field_at k).2 ≡ Need.Always → is_absent (sent texts k) ≡ false
-stands_at texts passed k bound is =
-    let P : Need → Type 0 = λ need. is_needed (archival_at texts) need && is_absent (sent texts k) ≡ false in subst P is (passed.presence k bound)
+stands_at : (kind : Kind) (texts : Row) → Passed kind texts → (k : ℕ) → k < row_len kind → (field_at kind k).2 ≡ Need.Always → is_absent (sent texts k) ≡ false
+stands_at kind texts passed k bound is =
+    let P : Need → Type 0 = λ need. is_needed (facts_at kind texts) need && is_absent (sent texts k) ≡ false in subst P is (passed.presence k (row-within kind k bound))
 
-shaped_at : (texts : Row) → Passed texts → (k : ℕ) → k < 28 → (shape : Shape) → (field_at k).1 ≡ shape
-    → not (is_absent (sent texts k)) && not (fits_shape shape (sent texts k) && may_stand (archival_at texts) (field_at k).2) ≡ false
-shaped_at texts passed k bound shape is =
-    let P : Shape → Type 0 = λ s. not (is_absent (sent texts k)) && not (fits_shape s (sent texts k) && may_stand (archival_at texts) (field_at k).2) ≡ false in
-    subst P is (passed.shape k bound)
+shaped_at : (kind : Kind) (texts : Row) → Passed kind texts → (k : ℕ) → k < row_len kind → (shape : Shape) → (field_at kind k).1 ≡ Content.Shaped shape
+    → not (is_absent (sent texts k)) && not (fits_shape shape (sent texts k) && may_stand (facts_at kind texts) (field_at kind k).2) ≡ false
+shaped_at kind texts passed k bound shape is =
+    let P : Content → Type 0 = λ content. not (is_absent (sent texts k)) && not (fits_content content (sent texts k) && may_stand (facts_at kind texts) (field_at kind k).2) ≡ false in
+    subst P is (passed.shape k (row-within kind k bound))
 
-fits_at : (texts : Row) → Passed texts → (k : ℕ) → k < 28 → (shape : Shape) → (field_at k).1 ≡ shape → (field_at k).2 ≡ Need.Always → fits_shape shape (sent texts k) ≡ true
-fits_at texts passed k bound shape is needed =
-    fit (is_absent (sent texts k)) (fits_shape shape (sent texts k)) (may_stand (archival_at texts) (field_at k).2) (stands_at texts passed k bound needed) (shaped_at texts passed k bound shape is)
+fits_at : (kind : Kind) (texts : Row) → Passed kind texts → (k : ℕ) → k < row_len kind → (shape : Shape) → (field_at kind k).1 ≡ Content.Shaped shape → is_absent (sent texts k) ≡ false → fits_shape shape (sent texts k) ≡ true
+fits_at kind texts passed k bound shape is stands =
+    fit (is_absent (sent texts k)) (fits_shape shape (sent texts k)) (may_stand (facts_at kind texts) (field_at kind k).2) stands (shaped_at kind texts passed k bound shape is)
 
-code_at : (texts : Row) → Passed texts → (k : ℕ) → k < 28 → (field_at k).1 ≡ Shape.Code → is_absent (sent texts k) ≡ false → IsValid (get_or (printed_at texts) k [])
-code_at texts passed k bound is stands =
-    let P : Shape → Type 0 = λ s. is_code_shape s && has_other_remainder (sent texts k) ≡ false in
-    subst IsValid (sym (same_at texts passed k bound Shape.Code is))
-    (valid_code (sent texts k) (may_stand (archival_at texts) (field_at k).2) stands (shaped_at texts passed k bound Shape.Code is) (subst P is (passed.digits k bound)))
+code_at : (kind : Kind) (texts : Row) → Passed kind texts → (k : ℕ) → k < row_len kind → (field_at kind k).1 ≡ Content.Shaped Shape.Code → is_absent (sent texts k) ≡ false → IsValid (get_or (printed_at kind texts) k [])
+code_at kind texts passed k bound is stands =
+    let P : Content → Type 0 = λ content. is_code_content content && has_other_remainder (sent texts k) ≡ false in
+    subst IsValid (sym (same_at kind texts passed k bound Shape.Code is))
+    (valid_code (sent texts k) (may_stand (facts_at kind texts) (field_at kind k).2) stands (shaped_at kind texts passed k bound Shape.Code is) (subst P is (passed.digits k (row-within kind k bound))))
 
-code_if_present : (texts : Row) → Passed texts → (k : ℕ) → k < 28 → (field_at k).1 ≡ Shape.Code → IfSome (present (get_or (printed_at texts) k [])) IsValid
-code_if_present texts passed k bound is =
-    if_present IsValid (get_or (printed_at texts) k []) (λ stands. code_at texts passed k bound is (ap is_absent (sym (same_at texts passed k bound Shape.Code is)) ∙ stands))
+code_if_present : (kind : Kind) (texts : Row) → Passed kind texts → (k : ℕ) → k < row_len kind → (field_at kind k).1 ≡ Content.Shaped Shape.Code → IfSome (present (get_or (printed_at kind texts) k [])) IsValid
+code_if_present kind texts passed k bound is =
+    if_present IsValid (get_or (printed_at kind texts) k []) (λ stands. code_at kind texts passed k bound is (ap is_absent (sym (same_at kind texts passed k bound Shape.Code is)) ∙ stands))
 
-moment_at : (texts : Row) → Passed texts → (k : ℕ) → k < 28 → (field_at k).1 ≡ Shape.Moment → is_absent (sent texts k) ≡ false → IsPrinted (get_or (printed_at texts) k [])
-moment_at texts passed k bound is stands =
-    subst IsPrinted (sym (same_at texts passed k bound Shape.Moment is))
-    (moment_stands (sent texts k) (may_stand (archival_at texts) (field_at k).2) stands (shaped_at texts passed k bound Shape.Moment is))
+moment_at : (kind : Kind) (texts : Row) → Passed kind texts → (k : ℕ) → k < row_len kind → (field_at kind k).1 ≡ Content.Shaped Shape.Moment → is_absent (sent texts k) ≡ false → IsPrinted (get_or (printed_at kind texts) k [])
+moment_at kind texts passed k bound is stands =
+    subst IsPrinted (sym (same_at kind texts passed k bound Shape.Moment is))
+    (moment_stands (sent texts k) (may_stand (facts_at kind texts) (field_at kind k).2) stands (shaped_at kind texts passed k bound Shape.Moment is))
 
-moment_if_present : (texts : Row) → Passed texts → (k : ℕ) → k < 28 → (field_at k).1 ≡ Shape.Moment → IfSome (present (get_or (printed_at texts) k [])) IsPrinted
-moment_if_present texts passed k bound is =
-    if_present IsPrinted (get_or (printed_at texts) k [])
-    (λ stands. moment_at texts passed k bound is (absent_stays (sent texts k) (ap is_absent (sym (same_at texts passed k bound Shape.Moment is)) ∙ stands)))
+moment_if_present : (kind : Kind) (texts : Row) → Passed kind texts → (k : ℕ) → k < row_len kind → (field_at kind k).1 ≡ Content.Shaped Shape.Moment → IfSome (present (get_or (printed_at kind texts) k [])) IsPrinted
+moment_if_present kind texts passed k bound is =
+    if_present IsPrinted (get_or (printed_at kind texts) k [])
+    (λ stands. moment_at kind texts passed k bound is (absent_stays (sent texts k) (ap is_absent (sym (same_at kind texts passed k bound Shape.Moment is)) ∙ stands)))
 
-length-printed_at : (texts : Row) → length texts ≡ 28 → length (printed_at texts) ≡ 28
+-- what a field that is always needed is
+always_code : (kind : Kind) (texts : Row) → Passed kind texts → (k : ℕ) → k < row_len kind → (field_at kind k).1 ≡ Content.Shaped Shape.Code → (field_at kind k).2 ≡ Need.Always → IsValid (get_or (printed_at kind texts) k [])
+always_code kind texts passed k bound is needed = code_at kind texts passed k bound is (stands_at kind texts passed k bound needed)
+
+always_moment : (kind : Kind) (texts : Row) → Passed kind texts → (k : ℕ) → k < row_len kind → (field_at kind k).1 ≡ Content.Shaped Shape.Moment → (field_at kind k).2 ≡ Need.Always → IsPrinted (get_or (printed_at kind texts) k [])
+always_moment kind texts passed k bound is needed = moment_at kind texts passed k bound is (stands_at kind texts passed k bound needed)
+
+always_fits : (kind : Kind) (texts : Row) → Passed kind texts → (k : ℕ) → k < row_len kind → (shape : Shape) → (field_at kind k).1 ≡ Content.Shaped shape → (field_at kind k).2 ≡ Need.Always → fits_shape shape (sent texts k) ≡ true
+always_fits kind texts passed k bound shape is needed = fits_at kind texts passed k bound shape is (stands_at kind texts passed k bound needed)
+
+least : (kind : Kind) → min (row_len kind) (field_count kind) ≡ row_len kind
+least Kind.Record = refl
+least Kind.Relation = refl
+least Kind.Exception = refl
+
+length-printed_at : (kind : Kind) (texts : Row) → length texts ≡ field_count kind → length (printed_at kind texts) ≡ row_len kind
 unfolding printed_at
-length-printed_at texts len = length-map (zip fields texts) (λ entry. printed entry.0.1 entry.1) ∙ length-entries texts len
+length-printed_at kind texts len =
+    length-map (zip (row_fields kind) texts) (λ entry. kept entry.0.1 entry.1)
+    ∙ (length-zip (row_fields kind) texts ∙ rw (length-row_fields kind, len) (least kind))
 
-rowed : (texts : Row) → Passed texts → IsRow (printed_at texts)
+rowed : (texts : Row) → Passed Kind.Record texts → IsRow (printed_at Kind.Record texts)
 unfolding fields
 rowed texts passed =
-    let IsCategory : List ℕ → Type 0 = λ text. IsSome (category_of text) in
-    let IsEntityStatus : List ℕ → Type 0 = λ text. IsSome (entity_status_of text) in
-    let IsStatus : List ℕ → Type 0 = λ text. IsSome (record_status_of text) in
+    let r = Kind.Record in
     record {
-      places = length-printed_at texts passed.len;
-      lei = code_at texts passed 0 (lit< tt) refl (stands_at texts passed 0 (lit< tt) refl);
-      category = subst IsCategory (sym (same_at texts passed 16 (lit< tt) Shape.Category refl)) (fits_at texts passed 16 (lit< tt) Shape.Category refl refl);
-      entity_status = subst IsEntityStatus (sym (same_at texts passed 18 (lit< tt) Shape.EntityStatus refl)) (fits_at texts passed 18 (lit< tt) Shape.EntityStatus refl refl);
-      created = moment_if_present texts passed 19 (lit< tt) refl;
-      successor = code_if_present texts passed 20 (lit< tt) refl;
-      initial = moment_at texts passed 21 (lit< tt) refl (stands_at texts passed 21 (lit< tt) refl);
-      updated = moment_at texts passed 22 (lit< tt) refl (stands_at texts passed 22 (lit< tt) refl);
-      status = subst IsStatus (sym (same_at texts passed 23 (lit< tt) Shape.RecordStatus refl)) (fits_at texts passed 23 (lit< tt) Shape.RecordStatus refl refl);
-      renewal = moment_at texts passed 24 (lit< tt) refl (stands_at texts passed 24 (lit< tt) refl);
-      manager = code_at texts passed 25 (lit< tt) refl (stands_at texts passed 25 (lit< tt) refl);
-      transfer_to = code_if_present texts passed 27 (lit< tt) refl;
+      places = length-printed_at r texts passed.len;
+      lei = always_code r texts passed 0 (lit< tt) refl refl;
+      category = subst (IsListed category_of) (sym (same_at r texts passed 16 (lit< tt) Shape.Category refl)) (always_fits r texts passed 16 (lit< tt) Shape.Category refl refl);
+      entity_status = subst (IsListed entity_status_of) (sym (same_at r texts passed 18 (lit< tt) Shape.EntityStatus refl)) (always_fits r texts passed 18 (lit< tt) Shape.EntityStatus refl refl);
+      created = moment_if_present r texts passed 19 (lit< tt) refl;
+      successor = code_if_present r texts passed 20 (lit< tt) refl;
+      initial = always_moment r texts passed 21 (lit< tt) refl refl;
+      updated = always_moment r texts passed 22 (lit< tt) refl refl;
+      status = subst (IsListed record_status_of) (sym (same_at r texts passed 23 (lit< tt) Shape.RecordStatus refl)) (always_fits r texts passed 23 (lit< tt) Shape.RecordStatus refl refl);
+      renewal = always_moment r texts passed 24 (lit< tt) refl refl;
+      manager = always_code r texts passed 25 (lit< tt) refl refl;
+      transfer_to = code_if_present r texts passed 27 (lit< tt) refl;
     }
 
+relation_rowed : (texts : Row) → Passed Kind.Relation texts → IsRelationRow (printed_at Kind.Relation texts)
+unfolding relation_fields
+relation_rowed texts passed =
+    let r = Kind.Relation in
+    record {
+      places = length-printed_at r texts passed.len;
+      start = always_code r texts passed 0 (lit< tt) refl refl;
+      kind = subst (IsListed relation_type_of) (sym (same_at r texts passed 1 (lit< tt) Shape.RelationType refl)) (always_fits r texts passed 1 (lit< tt) Shape.RelationType refl refl);
+      end = always_code r texts passed 2 (lit< tt) refl refl;
+      status = subst (IsListed relation_status_of) (sym (same_at r texts passed 3 (lit< tt) Shape.RelationStatus refl)) (always_fits r texts passed 3 (lit< tt) Shape.RelationStatus refl refl);
+      started = always_moment r texts passed 4 (lit< tt) refl refl;
+      ended = moment_if_present r texts passed 5 (lit< tt) refl;
+      initial = always_moment r texts passed 6 (lit< tt) refl refl;
+      updated = always_moment r texts passed 7 (lit< tt) refl refl;
+      registration = subst (IsListed relation_registration_of) (sym (same_at r texts passed 8 (lit< tt) Shape.RelationRegistration refl)) (always_fits r texts passed 8 (lit< tt) Shape.RelationRegistration refl refl);
+      manager = always_code r texts passed 9 (lit< tt) refl refl;
+    }
+
+exception_rowed : (texts : Row) → Passed Kind.Exception texts → IsExceptionRow (printed_at Kind.Exception texts)
+unfolding exception_fields
+exception_rowed texts passed =
+    let r = Kind.Exception in
+    let same = same_at r texts passed 2 (lit< tt) Shape.Reason refl in
+    record {
+      places = length-printed_at r texts passed.len;
+      lei = always_code r texts passed 0 (lit< tt) refl refl;
+      category = subst (IsListed exception_category_of) (sym (same_at r texts passed 1 (lit< tt) Shape.ExceptionCategory refl)) (always_fits r texts passed 1 (lit< tt) Shape.ExceptionCategory refl refl);
+      reason = if_present (IsListed reason_of) (get_or (printed_at r texts) 2 [])
+          (λ stands. subst (IsListed reason_of) (sym same) (fits_at r texts passed 2 (lit< tt) Shape.Reason refl (ap is_absent (sym same) ∙ stands)));
+    }
+
+rowed_as : (kind : Kind) (texts : Row) → Passed kind texts → IsRowOf kind (printed_at kind texts)
+rowed_as Kind.Record = rowed
+rowed_as Kind.Relation = relation_rowed
+rowed_as Kind.Exception = exception_rowed
+
 -- texts that pass the checks are a row
-pub IsRow-printed_at : (texts : Row) → length texts ≡ 28 → first_at Ask.Presence texts ≡ None → first_at Ask.Shape texts ≡ None → first_at Ask.Digits texts ≡ None → IsRow (printed_at texts)
-IsRow-printed_at texts len presence shape digits =
-    rowed texts (record {
+pub IsRowOf-printed_at : (kind : Kind) (texts : Row) → length texts ≡ field_count kind → first_at Ask.Presence kind texts ≡ None → first_at Ask.Shape kind texts ≡ None → first_at Ask.Digits kind texts ≡ None
+    → IsRowOf kind (printed_at kind texts)
+IsRowOf-printed_at kind texts len presence shape digits =
+    rowed_as kind texts (record {
       len = len;
-      presence = asked_at Ask.Presence texts len presence;
-      shape = asked_at Ask.Shape texts len shape;
-      digits = asked_at Ask.Digits texts len digits;
+      presence = asked_at Ask.Presence kind texts len presence;
+      shape = asked_at Ask.Shape kind texts len shape;
+      digits = asked_at Ask.Digits kind texts len digits;
     })
 
 none_failed : {X Y : Type 0} (a b c d : Option X) (f g h k : X → Y) → option_or (option_map f a) (option_or (option_map g b) (option_or (option_map h c) (option_map k d))) ≡ None
@@ -257,24 +377,28 @@ none_failed None None (Some x) d f g h k is = cc
 none_failed None (Some x) c d f g h k is = cc
 none_failed (Some x) b c d f g h k is = cc
 
-length-texts_of : (pairs : List (List ℕ × List ℕ)) → length (texts_of pairs) ≡ 28
-length-texts_of pairs = length-map fields (λ field. text_of pairs field.0) ∙ length-fields
+length-texts_of : (kind : Kind) (pairs : List (List ℕ × List ℕ)) → length (texts_of kind pairs) ≡ field_count kind
+length-texts_of kind pairs = length-map (fields_of kind) (λ field. text_of pairs field.0) ∙ length-fields_of kind
 
--- an item that passes its checks has the row of a record
-pub IsRow-row_of : (pairs : List (List ℕ × List ℕ)) → failed_check pairs ≡ None → IsRow (row_of pairs)
+-- an item that passes its checks has the row of an item of its kind
+pub IsRowOf-row_of : (kind : Kind) (pairs : List (List ℕ × List ℕ)) → failed_check kind pairs ≡ None → IsRowOf kind (row_of kind pairs)
 unfolding failed_check
-IsRow-row_of pairs is =
-    let none = none_failed (unknown_name pairs) (missing_field pairs) (misshapen_field pairs) (miscoded_field pairs) (field_check 1) (field_check 2) (field_check 3) (field_check 4) is in
-    subst IsRow (printed_at-texts_of pairs)
-    (IsRow-printed_at (texts_of pairs) (length-texts_of pairs) (first_at-texts_of Ask.Presence pairs ∙ none.1) (first_at-texts_of Ask.Shape pairs ∙ none.2) (first_at-texts_of Ask.Digits pairs ∙ none.3))
+IsRowOf-row_of kind pairs is =
+    let none = none_failed (unknown_name kind pairs) (missing_field kind pairs) (misshapen_field kind pairs) (miscoded_field kind pairs) (field_check 1) (field_check 2) (field_check 3) (field_check 4) is in
+    subst (IsRowOf kind) (printed_at-texts_of kind pairs)
+    (IsRowOf-printed_at kind (texts_of kind pairs) (length-texts_of kind pairs)
+    (first_at-texts_of Ask.Presence kind pairs none.0 ∙ none.1) (first_at-texts_of Ask.Shape kind pairs none.0 ∙ none.2) (first_at-texts_of Ask.Digits kind pairs none.0 ∙ none.3))
 
-readied_same : (pairs : List (List ℕ × List ℕ)) (failed : Option Check) → readied_by (texts_of pairs) failed ≡ readied pairs failed
-readied_same pairs None = ap (λ row. Readied.Good (Item.Record row)) (printed_at-texts_of pairs)
-readied_same pairs (Some check) = refl
+readied_same : (kind : Kind) (pairs : List (List ℕ × List ℕ)) (failed : Option Check) → unknown_name kind pairs ≡ None → readied_by kind (texts_of kind pairs) failed ≡ readied kind pairs failed
+readied_same kind pairs None known =
+    ap (λ row. Readied.Good (item_of kind (facts_at kind (texts_of kind pairs)).withdrawal row)) (printed_at-texts_of kind pairs)
+    ∙ ap (λ (facts : Facts). Readied.Good (item_of kind facts.withdrawal (row_of kind pairs))) (facts_at-texts_of kind pairs known)
+readied_same kind pairs (Some check) known = refl
 
 -- what the checks by place answer is what the item's checks do
-pub readied-by_place : {E : Type 0} (pairs : List (List ℕ × List ℕ)) (texts : Row) (r : Result Readied E) → unknown_name pairs ≡ None → texts ≡ texts_of pairs
-    → IfOk r (λ item. item ≡ readied_by texts (failed_at texts)) → IfOk r (λ item. item ≡ readied pairs (failed_check pairs))
-readied-by_place pairs texts (Ok item) known same is =
-    is ∙ (ap (λ t. readied_by t (failed_at t)) same ∙ (readied_same pairs (failed_at (texts_of pairs)) ∙ ap (readied pairs) (sym (failed_at-texts_of pairs known))))
-readied-by_place pairs texts (Err e) known same is = tt
+pub readied-by_place : {E : Type 0} (kind : Kind) (pairs : List (List ℕ × List ℕ)) (texts : Row) (r : Result Readied E) → unknown_name kind pairs ≡ None → texts ≡ texts_of kind pairs
+    → IfOk r (λ item. item ≡ readied_by kind texts (failed_at kind texts)) → IfOk r (λ item. item ≡ readied kind pairs (failed_check kind pairs))
+readied-by_place kind pairs texts (Ok item) known same is =
+    is ∙ (ap (λ t. readied_by kind t (failed_at kind t)) same
+    ∙ (readied_same kind pairs (failed_at kind (texts_of kind pairs)) known ∙ ap (readied kind pairs) (sym (failed_at-texts_of kind pairs known))))
+readied-by_place kind pairs texts (Err e) known same is = tt

@@ -1,68 +1,84 @@
 -- The table of fields and the texts at its places, entry by entry.
-use Rattle.std.proofs.Common.{◌≡◌, ℕ, ◌+◌, ◌-◌, add-one, ◌++◌, append_assoc, append-nil, ◌<◌, ◌≤◌, zero, suc, List, [], ◌∷◌, Bool, true, false, not, ◌&&◌, ◌||◌, cond, length, get_or, set, drop, map, Bor, Option, None, Some, unwrap_or, refl, sym, ap, subst, ◌∙◌, arith}
+use Rattle.std.proofs.Common.{◌≡◌, ℕ, ◌+◌, ◌-◌, add-one, ◌++◌, append_assoc, append-nil, ◌<◌, ◌≤◌, zero, suc, List, [], ◌∷◌, Bool, true, false, not, ◌&&◌, ◌||◌, cond, length, get_or, set, take, drop, map, Bor, Option, None, Some, unwrap_or, refl, sym, ap, subst, ◌∙◌, arith}
 use Rattle.std.specs.List.{find, list_any, zip}
 use Rattle.std.specs.Option.{option_map}
 use Rattle.std.specs.Map.{lookup}
 use Rattle.std.specs.Str.{bytes_eq}
 use Rattle.std.proofs.Math.ListN.{drop_of_length-le}
-use Rattle.std.proofs.Math.Seq.{drop-cons}
+use Rattle.std.proofs.Math.Seq.{drop-cons, take-set-lt}
 use Rattle.std.proofs.lemmas.Bool.{and_parts, false≢true, false_from_ne_true, not-true, or_parts}
-use Rattle.std.proofs.lemmas.List.{length-map, map-set}
+use Rattle.std.proofs.lemmas.List.{length-map, length-take, length-take-le, map-set, take-map}
 use Rattle.std.proofs.lemmas.List.Folds.{list_any_at}
 use Rattle.std.proofs.lemmas.Slice.Eq.{bytes_eq-Decides}
-use Rattle.lei_shapes.specs.declared.shapes.Shape.{Shape}
+use Rattle.lei_records.specs.declared.fields.Content.{Content}
+use Rattle.lei_records.specs.declared.fields.Facts.{Facts}
+use Rattle.lei_records.specs.declared.fields.Kind.{Kind}
 use Rattle.lei_records.specs.declared.fields.Need.{Need}
 use Rattle.lei_records.specs.declared.readying.Ask.{Ask}
-use Rattle.lei_records.specs.Fields.{fields, field_names, read_field}
-use Rattle.lei_records.specs.Items.{is_field, printed, text_of, unknown_name}
+use Rattle.lei_records.specs.Fields.{Field, field_count, fields, fields_of, exception_fields, names_of, read_field, relation_fields, row_fields, row_len}
+use Rattle.lei_records.specs.Items.{is_field, kept, text_of, unknown_name}
 use Rattle.lei_records.specs.Rows.{Row}
-use Rattle.lei_records.specs.Sheets.{archival_at, asked, first_at, printed_at, read_texts, texts_of}
+use Rattle.lei_records.specs.Sheets.{asked, facts_at, first_at, printed_at, read_texts, texts_of}
 
 -- the table as code lends it
 abbrev pub Lent : Type 0
-Lent = List (Bor (List ℕ) × Shape × Need)
+Lent = List (Bor (List ℕ) × Content × Need)
 
-name_at : (table : Lent) (i : ℕ) (d : Bor (List ℕ) × Shape × Need) (name : List ℕ) → i < length table → get_or (map (λ field. field.0) (map read_field table)) i name ≡ (get_or table i d).0.now
+name_at : (table : Lent) (i : ℕ) (d : Bor (List ℕ) × Content × Need) (name : List ℕ) → i < length table → get_or (map (λ field. field.0) (map read_field table)) i name ≡ (get_or table i d).0.now
 name_at [] i d name within = absurd (omega arith)
 name_at (f ∷ table) zero d name within = refl
 name_at (f ∷ table) (suc i) d name within = name_at table i d name (omega arith)
 
 -- the name at an index of the table
-pub field_name-at : (table : Lent) → map read_field table ≡ fields → (i : ℕ) (d : Bor (List ℕ) × Shape × Need) (name : List ℕ) → i < length table → get_or field_names i name ≡ (get_or table i d).0.now
-field_name-at table same i d name within = ap (λ fs. get_or (map (λ field. field.0) fs) i name) (sym same) ∙ name_at table i d name within
+pub field_name-at : (kind : Kind) (table : Lent) → map read_field table ≡ fields_of kind → (i : ℕ) (d : Bor (List ℕ) × Content × Need) (name : List ℕ) → i < length table → get_or (names_of kind) i name ≡ (get_or table i d).0.now
+field_name-at kind table same i d name within = ap (λ fs. get_or (map (λ field. field.0) fs) i name) (sym same) ∙ name_at table i d name within
 
 list_any-map : {X Y : Type 0} (p : Y → Bool) (f : X → Y) (xs : List X) → list_any p (map f xs) ≡ list_any (λ x. p (f x)) xs
 list_any-map p f [] = refl
 list_any-map p f (x ∷ xs) = ap (λ b. p (f x) || b) (list_any-map p f xs)
 
-pub any_of_fields : (p : List ℕ × Shape × Need → Bool) (table : Lent) → map read_field table ≡ fields → list_any (λ field. p (read_field field)) table ≡ list_any p fields
-any_of_fields p table same = sym (list_any-map p read_field table) ∙ ap (list_any p) same
+pub any_of_fields : (kind : Kind) (p : Field → Bool) (table : Lent) → map read_field table ≡ fields_of kind → list_any (λ field. p (read_field field)) table ≡ list_any p (fields_of kind)
+any_of_fields kind p table same = sym (list_any-map p read_field table) ∙ ap (list_any p) same
 
-length-field_names : length field_names ≡ 28
-unfolding fields
-length-field_names = refl
+pub length-fields_of : (kind : Kind) → length (fields_of kind) ≡ field_count kind
+unfolding fields relation_fields exception_fields
+length-fields_of Kind.Record = refl
+length-fields_of Kind.Relation = refl
+length-fields_of Kind.Exception = refl
+
+length-names_of : (kind : Kind) → length (names_of kind) ≡ field_count kind
+length-names_of kind = length-map (fields_of kind) (λ field. field.0) ∙ length-fields_of kind
 
 -- ---- a search for a name
 
 length-mapped : {X Y : Type 0} (f : X → Y) (xs : List X) (ys : List Y) → map f xs ≡ ys → length xs ≡ length ys
 length-mapped f xs ys same = sym (length-map xs f) ∙ ap length same
 
-pub length-lent : (table : Lent) → map read_field table ≡ fields → length table ≡ 28
-unfolding fields
-length-lent table same = length-mapped read_field table fields same
+pub length-lent : (kind : Kind) (table : Lent) → map read_field table ≡ fields_of kind → length table ≡ field_count kind
+length-lent kind table same = length-mapped read_field table (fields_of kind) same ∙ length-fields_of kind
 
-pub field_found : (table : Lent) → map read_field table ≡ fields → (i : ℕ) (d : Bor (List ℕ) × Shape × Need) (name : List ℕ) → i < 28 → bytes_eq (get_or table i d).0.now name ≡ true
-    → (is_field name ≡ true) × (get_or field_names i name ≡ name)
-field_found table same i d name bound is =
-    let within : i < length table = rw (length-lent table same) bound in (
-      sym (any_of_fields (λ field. bytes_eq field.0 name) table same) ∙ list_any_at (λ field. bytes_eq field.0.now name) table i d within is,
-      field_name-at table same i d name within ∙ (bytes_eq-Decides _ name).0 is,
-    )
+count-small : (kind : Kind) → field_count kind ≤ 28
+count-small Kind.Record = omega arith
+count-small Kind.Relation = omega arith
+count-small Kind.Exception = omega arith
 
-pub no_field_found : (table : Lent) → map read_field table ≡ fields → (i : ℕ) (name : List ℕ) → 28 ≤ i → list_any (λ field. bytes_eq field.0.now name) (drop i table) ≡ list_any (λ field. bytes_eq field.0.now name) table → is_field name ≡ false
-no_field_found table same i name bound rest =
-    let past : length table ≤ i = rw (length-lent table same) bound in
-    sym (any_of_fields (λ field. bytes_eq field.0 name) table same) ∙ (sym rest ∙ ap (list_any (λ field. bytes_eq field.0.now name)) (drop_of_length-le table past))
+-- an index of the table is below the number of fields, and so below that of the places
+pub within_count : (kind : Kind) (table : Lent) (i : ℕ) → map read_field table ≡ fields_of kind → i < length table → i < field_count kind
+within_count kind table i same bound = rw (sym (length-lent kind table same)) bound
+
+pub below_28 : (kind : Kind) (i : ℕ) → i < field_count kind → i < 28
+below_28 kind i bound = omega (arith, bound, count-small kind)
+
+pub field_found : (kind : Kind) (table : Lent) → map read_field table ≡ fields_of kind → (i : ℕ) (d : Bor (List ℕ) × Content × Need) (name : List ℕ) → i < length table → bytes_eq (get_or table i d).0.now name ≡ true
+    → (is_field kind name ≡ true) × (get_or (names_of kind) i name ≡ name)
+field_found kind table same i d name within is = (
+  sym (any_of_fields kind (λ field. bytes_eq field.0 name) table same) ∙ list_any_at (λ field. bytes_eq field.0.now name) table i d within is,
+  field_name-at kind table same i d name within ∙ (bytes_eq-Decides _ name).0 is,
+)
+
+pub no_field_found : (kind : Kind) (table : Lent) → map read_field table ≡ fields_of kind → (i : ℕ) (name : List ℕ) → length table ≤ i → list_any (λ field. bytes_eq field.0.now name) (drop i table) ≡ list_any (λ field. bytes_eq field.0.now name) table → is_field kind name ≡ false
+no_field_found kind table same i name past rest =
+    sym (any_of_fields kind (λ field. bytes_eq field.0 name) table same) ∙ (sym rest ∙ ap (list_any (λ field. bytes_eq field.0.now name)) (drop_of_length-le table past))
 
 -- ---- each text goes to the place of its name
 
@@ -81,9 +97,11 @@ abbrev are_apart : List (List ℕ) → Bool
 are_apart [] = true
 are_apart (name ∷ names) = not (list_any (λ other. bytes_eq other name) names) && are_apart names
 
-fields_apart : are_apart field_names ≡ true
-unfolding fields
-fields_apart = refl
+fields_apart : (kind : Kind) → are_apart (names_of kind) ≡ true
+unfolding fields relation_fields exception_fields
+fields_apart Kind.Record = refl
+fields_apart Kind.Relation = refl
+fields_apart Kind.Exception = refl
 
 -- the texts under the names when one more pair stands before the others
 abbrev with_pair : List ℕ → List ℕ → (List ℕ → Option (List ℕ)) → List ℕ → List ℕ
@@ -112,38 +130,42 @@ touched name text others (n ∷ ns) (suc k) apart within is =
     let other : bytes_eq n name ≡ false = apart_turned name n (ap (λ m. bytes_eq m n) (sym is) ∙ at) in
     rw other (ap (λ ts. without others n ∷ ts) (touched name text others ns k parts.1 (omega arith) is))
 
-texts_by_name : (pairs : List (List ℕ × List ℕ)) (fs : List (List ℕ × Shape × Need)) → map (λ field. text_of pairs field.0) fs ≡ map (text_of pairs) (map (λ field. field.0) fs)
+texts_by_name : (pairs : List (List ℕ × List ℕ)) (fs : List (Field)) → map (λ field. text_of pairs field.0) fs ≡ map (text_of pairs) (map (λ field. field.0) fs)
 texts_by_name pairs [] = refl
 texts_by_name pairs (f ∷ fs) = ap (λ ts. text_of pairs f.0 ∷ ts) (texts_by_name pairs fs)
 
-any_by_name : (name : List ℕ) (fs : List (List ℕ × Shape × Need)) → list_any (λ field. bytes_eq field.0 name) fs ≡ list_any (λ n. bytes_eq n name) (map (λ field. field.0) fs)
+any_by_name : (name : List ℕ) (fs : List (Field)) → list_any (λ field. bytes_eq field.0 name) fs ≡ list_any (λ n. bytes_eq n name) (map (λ field. field.0) fs)
 any_by_name name [] = refl
 any_by_name name (f ∷ fs) = ap (λ b. bytes_eq f.0 name || b) (any_by_name name fs)
 
 -- a known name's text goes to its place
-pub texts_of-known : (name text : List ℕ) (rest : List (List ℕ × List ℕ)) (k : ℕ) → k < 28 → get_or field_names k name ≡ name → texts_of ((name, text) ∷ rest) ≡ set (texts_of rest) k text
-texts_of-known name text rest k within is =
-    texts_by_name ((name, text) ∷ rest) fields
-    ∙ (touched name text (λ n. lookup (bytes_eq n) rest) field_names k fields_apart (rw length-field_names within) is
-    ∙ ap (λ ts. set ts k text) (sym (texts_by_name rest fields)))
+pub texts_of-known : (kind : Kind) (name text : List ℕ) (rest : List (List ℕ × List ℕ)) (k : ℕ) → k < field_count kind → get_or (names_of kind) k name ≡ name
+    → texts_of kind ((name, text) ∷ rest) ≡ set (texts_of kind rest) k text
+texts_of-known kind name text rest k within is =
+    texts_by_name ((name, text) ∷ rest) (fields_of kind)
+    ∙ (touched name text (λ n. lookup (bytes_eq n) rest) (names_of kind) k (fields_apart kind) (rw (length-names_of kind) within) is
+    ∙ ap (λ ts. set ts k text) (sym (texts_by_name rest (fields_of kind))))
 
 -- an unknown one's goes nowhere
-pub texts_of-unknown : (name text : List ℕ) (rest : List (List ℕ × List ℕ)) → is_field name ≡ false → texts_of ((name, text) ∷ rest) ≡ texts_of rest
-texts_of-unknown name text rest unknown =
-    texts_by_name ((name, text) ∷ rest) fields
-    ∙ (untouched name text (λ n. lookup (bytes_eq n) rest) field_names (sym (any_by_name name fields) ∙ unknown)
-    ∙ sym (texts_by_name rest fields))
+pub texts_of-unknown : (kind : Kind) (name text : List ℕ) (rest : List (List ℕ × List ℕ)) → is_field kind name ≡ false → texts_of kind ((name, text) ∷ rest) ≡ texts_of kind rest
+texts_of-unknown kind name text rest unknown =
+    texts_by_name ((name, text) ∷ rest) (fields_of kind)
+    ∙ (untouched name text (λ n. lookup (bytes_eq n) rest) (names_of kind) (sym (any_by_name name (fields_of kind)) ∙ unknown)
+    ∙ sym (texts_by_name rest (fields_of kind)))
 
-pub unknown_name-known : (name text : List ℕ) (rest : List (List ℕ × List ℕ)) → is_field name ≡ true → unknown_name ((name, text) ∷ rest) ≡ unknown_name rest
-unknown_name-known name text rest known = rw known refl
+pub unknown_name-known : (kind : Kind) (name text : List ℕ) (rest : List (List ℕ × List ℕ)) → is_field kind name ≡ true → unknown_name kind ((name, text) ∷ rest) ≡ unknown_name kind rest
+unknown_name-known kind name text rest known = rw known refl
 
-pub unknown_name-unknown : (name text : List ℕ) (rest : List (List ℕ × List ℕ)) → is_field name ≡ false → unknown_name ((name, text) ∷ rest) ≡ Some name
-unknown_name-unknown name text rest unknown = rw unknown refl
+pub unknown_name-unknown : (kind : Kind) (name text : List ℕ) (rest : List (List ℕ × List ℕ)) → is_field kind name ≡ false → unknown_name kind ((name, text) ∷ rest) ≡ Some name
+unknown_name-unknown kind name text rest unknown = rw unknown refl
 
 -- no pair, no text
-pub texts_of-none : texts_of [] ≡ [] ∷ [] ∷ [] ∷ [] ∷ [] ∷ [] ∷ [] ∷ [] ∷ [] ∷ [] ∷ [] ∷ [] ∷ [] ∷ [] ∷ [] ∷ [] ∷ [] ∷ [] ∷ [] ∷ [] ∷ [] ∷ [] ∷ [] ∷ [] ∷ [] ∷ [] ∷ [] ∷ [] ∷ []
-unfolding fields
-texts_of-none = refl
+pub texts_of-none : (kind : Kind)
+    → take (field_count kind) ([] ∷ [] ∷ [] ∷ [] ∷ [] ∷ [] ∷ [] ∷ [] ∷ [] ∷ [] ∷ [] ∷ [] ∷ [] ∷ [] ∷ [] ∷ [] ∷ [] ∷ [] ∷ [] ∷ [] ∷ [] ∷ [] ∷ [] ∷ [] ∷ [] ∷ [] ∷ [] ∷ [] ∷ []) ≡ texts_of kind []
+unfolding fields relation_fields exception_fields
+texts_of-none Kind.Record = refl
+texts_of-none Kind.Relation = refl
+texts_of-none Kind.Exception = refl
 
 -- the pair before an index, and those from the index on
 drop_before : (pairs : List (List ℕ × List ℕ)) (i : ℕ) (p : List ℕ × List ℕ) → 0 < i → i ≤ length pairs → p ≡ get_or pairs (i - 1) p → drop (i - 1) pairs ≡ p ∷ drop i pairs
@@ -151,48 +173,64 @@ drop_before pairs i p low high is =
     let next : suc (i - 1) ≡ i = omega arith in
     drop-cons pairs (i - 1) p (omega arith) ∙ (ap (λ q. q ∷ drop (suc (i - 1)) pairs) (sym is) ∙ ap (λ k. p ∷ drop k pairs) next)
 
-pub placed_known : (pairs : List (List ℕ × List ℕ)) (i : ℕ) (p : List ℕ × List ℕ) (name : List ℕ) (k : ℕ) (text : Bor (List ℕ)) (texts : List (Bor (List ℕ)))
-    → 0 < i → i ≤ length pairs → p ≡ get_or pairs (i - 1) p → name ≡ p.0 → text.now ≡ p.1 → k < 28 → get_or field_names k name ≡ name
-    → read_texts texts ≡ texts_of (drop i pairs) → read_texts (set texts k text) ≡ texts_of (drop (i - 1) pairs)
-placed_known pairs i p name k text texts low high is is_name is_text within at sofar =
-    let P : List ℕ → Type 0 = λ n. get_or field_names k n ≡ n in
-    map-set (λ t. t.now) texts k text
-    ∙ (ap (λ t. set (read_texts texts) k t) is_text ∙ (ap (λ ts. set ts k p.1) sofar
-    ∙ (sym (texts_of-known p.0 p.1 (drop i pairs) k within (subst P is_name at)) ∙ ap texts_of (sym (drop_before pairs i p low high is)))))
+pub placed_known : (kind : Kind) (pairs : List (List ℕ × List ℕ)) (i : ℕ) (p : List ℕ × List ℕ) (name : List ℕ) (k : ℕ) (text : Bor (List ℕ)) (texts : List (Bor (List ℕ)))
+    → 0 < i → i ≤ length pairs → p ≡ get_or pairs (i - 1) p → name ≡ p.0 → text.now ≡ p.1 → k < field_count kind → get_or (names_of kind) k name ≡ name
+    → take (field_count kind) (read_texts texts) ≡ texts_of kind (drop i pairs) → take (field_count kind) (read_texts (set texts k text)) ≡ texts_of kind (drop (i - 1) pairs)
+placed_known kind pairs i p name k text texts low high is is_name is_text within at sofar =
+    let P : List ℕ → Type 0 = λ n. get_or (names_of kind) k n ≡ n in
+    ap (take (field_count kind)) (map-set (λ t. t.now) texts k text)
+    ∙ (take-set-lt (field_count kind) (read_texts texts) k text.now within
+    ∙ (ap (λ t. set (take (field_count kind) (read_texts texts)) k t) is_text ∙ (ap (λ ts. set ts k p.1) sofar
+    ∙ (sym (texts_of-known kind p.0 p.1 (drop i pairs) k within (subst P is_name at)) ∙ ap (texts_of kind) (sym (drop_before pairs i p low high is))))))
 
-pub placed_unknown : (pairs : List (List ℕ × List ℕ)) (i : ℕ) (p : List ℕ × List ℕ) (name : List ℕ) (texts : List (Bor (List ℕ)))
-    → 0 < i → i ≤ length pairs → p ≡ get_or pairs (i - 1) p → name ≡ p.0 → is_field name ≡ false
-    → read_texts texts ≡ texts_of (drop i pairs) → read_texts texts ≡ texts_of (drop (i - 1) pairs)
-placed_unknown pairs i p name texts low high is is_name unknown sofar =
-    sofar ∙ (sym (texts_of-unknown p.0 p.1 (drop i pairs) (ap is_field (sym is_name) ∙ unknown)) ∙ ap texts_of (sym (drop_before pairs i p low high is)))
+pub placed_unknown : (kind : Kind) (pairs : List (List ℕ × List ℕ)) (i : ℕ) (p : List ℕ × List ℕ) (name : List ℕ) (texts : List (Bor (List ℕ)))
+    → 0 < i → i ≤ length pairs → p ≡ get_or pairs (i - 1) p → name ≡ p.0 → is_field kind name ≡ false
+    → take (field_count kind) (read_texts texts) ≡ texts_of kind (drop i pairs) → take (field_count kind) (read_texts texts) ≡ texts_of kind (drop (i - 1) pairs)
+placed_unknown kind pairs i p name texts low high is is_name unknown sofar =
+    sofar ∙ (sym (texts_of-unknown kind p.0 p.1 (drop i pairs) (ap (is_field kind) (sym is_name) ∙ unknown)) ∙ ap (texts_of kind) (sym (drop_before pairs i p low high is)))
 
-pub told_known : (pairs : List (List ℕ × List ℕ)) (i : ℕ) (p : List ℕ × List ℕ) (name : List ℕ) (unknown : Option (List ℕ))
-    → 0 < i → i ≤ length pairs → p ≡ get_or pairs (i - 1) p → name ≡ p.0 → is_field name ≡ true
-    → unknown ≡ unknown_name (drop i pairs) → unknown ≡ unknown_name (drop (i - 1) pairs)
-told_known pairs i p name unknown low high is is_name known sofar =
-    sofar ∙ (sym (unknown_name-known p.0 p.1 (drop i pairs) (ap is_field (sym is_name) ∙ known)) ∙ ap unknown_name (sym (drop_before pairs i p low high is)))
+pub told_known : (kind : Kind) (pairs : List (List ℕ × List ℕ)) (i : ℕ) (p : List ℕ × List ℕ) (name : List ℕ) (unknown : Option (List ℕ))
+    → 0 < i → i ≤ length pairs → p ≡ get_or pairs (i - 1) p → name ≡ p.0 → is_field kind name ≡ true
+    → unknown ≡ unknown_name kind (drop i pairs) → unknown ≡ unknown_name kind (drop (i - 1) pairs)
+told_known kind pairs i p name unknown low high is is_name known sofar =
+    sofar ∙ (sym (unknown_name-known kind p.0 p.1 (drop i pairs) (ap (is_field kind) (sym is_name) ∙ known)) ∙ ap (unknown_name kind) (sym (drop_before pairs i p low high is)))
 
-pub told_unknown : (pairs : List (List ℕ × List ℕ)) (i : ℕ) (p : List ℕ × List ℕ) (name : List ℕ)
-    → 0 < i → i ≤ length pairs → p ≡ get_or pairs (i - 1) p → name ≡ p.0 → is_field name ≡ false
-    → Some name ≡ unknown_name (drop (i - 1) pairs)
-told_unknown pairs i p name low high is is_name unknown =
-    ap Some is_name ∙ (sym (unknown_name-unknown p.0 p.1 (drop i pairs) (ap is_field (sym is_name) ∙ unknown)) ∙ ap unknown_name (sym (drop_before pairs i p low high is)))
+pub told_unknown : (kind : Kind) (pairs : List (List ℕ × List ℕ)) (i : ℕ) (p : List ℕ × List ℕ) (name : List ℕ)
+    → 0 < i → i ≤ length pairs → p ≡ get_or pairs (i - 1) p → name ≡ p.0 → is_field kind name ≡ false
+    → Some name ≡ unknown_name kind (drop (i - 1) pairs)
+told_unknown kind pairs i p name low high is is_name unknown =
+    ap Some is_name ∙ (sym (unknown_name-unknown kind p.0 p.1 (drop i pairs) (ap (is_field kind) (sym is_name) ∙ unknown)) ∙ ap (unknown_name kind) (sym (drop_before pairs i p low high is)))
 
 -- ---- the entries of the table with their texts, one by one
 
-pub within : {X : Type 0} (xs : List X) (i : ℕ) → length xs ≡ 28 → i < 28 → i < length xs
-within xs i is bound = rw is bound
+-- an index of the table is one of the texts
+pub has_text : (kind : Kind) (table : Lent) (texts : List (Bor (List ℕ))) (i : ℕ) → map read_field table ≡ fields_of kind → length texts ≡ field_count kind → i < length table → i < length texts
+has_text kind table texts i same len bound = rw len (within_count kind table i same bound)
 
-pub past : {X : Type 0} (xs : List X) (i : ℕ) → length xs ≡ 28 → 28 ≤ i → length xs ≤ i
-past xs i is bound = rw is bound
+-- the table of a row's fields, of which there are n
+pub row_table : (kind : Kind) (n : ℕ) (table : Lent) → n ≡ row_len kind → map read_field table ≡ fields_of kind → map read_field (take n table) ≡ row_fields kind
+row_table kind n table is same = sym (take-map read_field n table) ∙ (ap (take n) same ∙ ap (λ m. take m (fields_of kind)) is)
+
+row-short : (kind : Kind) → row_len kind ≤ field_count kind
+row-short Kind.Record = omega arith
+row-short Kind.Relation = omega arith
+row-short Kind.Exception = omega arith
+
+pub row_table-length : (kind : Kind) (n : ℕ) (table : Lent) → n ≡ row_len kind → map read_field table ≡ fields_of kind → n ≡ length (take n table)
+row_table-length kind n table is same = sym (length-take-le n table (rw (is, length-lent kind table same) (row-short kind)))
+
+pub has_row_text : (kind : Kind) (n : ℕ) (table : Lent) (texts : List (Bor (List ℕ))) (i : ℕ) → n ≡ row_len kind → length texts ≡ field_count kind → i < length (take n table) → i < length texts
+has_row_text kind n table texts i is len bound =
+    let short : i < n = omega (arith, bound, length-take n table) in
+    omega (arith, len, short, is, row-short kind)
 
 -- the first field of which the answer is yes, and its name
-abbrev pub first_in : Ask → Bool → Lent → List (Bor (List ℕ)) → Option (List ℕ)
-first_in ask archival table texts = option_map (λ entry. entry.0.0.now) (find (λ entry. asked ask archival (read_field entry.0) entry.1.now) (zip table texts))
+abbrev pub first_in : Ask → Facts → Lent → List (Bor (List ℕ)) → Option (List ℕ)
+first_in ask facts table texts = option_map (λ entry. entry.0.0.now) (find (λ entry. asked ask facts (read_field entry.0) entry.1.now) (zip table texts))
 
 -- the texts of the row
 abbrev pub printed_in : Lent → List (Bor (List ℕ)) → Row
-printed_in table texts = map (λ entry. printed entry.0.1 entry.1.now) (zip table texts)
+printed_in table texts = map (λ entry. kept entry.0.1 entry.1.now) (zip table texts)
 
 zip-at : {X Y : Type 0} (xs : List X) (ys : List Y) (i : ℕ) (d : X) (e : Y) → i < length xs → i < length ys
     → zip (drop i xs) (drop i ys) ≡ (get_or xs i d, get_or ys i e) ∷ zip (drop (i + 1) xs) (drop (i + 1) ys)
@@ -219,51 +257,52 @@ map-map f g [] = refl
 map-map f g (x ∷ xs) = ap (λ zs. f (g x) ∷ zs) (map-map f g xs)
 
 -- the table and the texts as the definitions see them
-abbrev read_entry : (Bor (List ℕ) × Shape × Need) × Bor (List ℕ) → (List ℕ × Shape × Need) × List ℕ
+abbrev read_entry : (Bor (List ℕ) × Content × Need) × Bor (List ℕ) → (Field) × List ℕ
 read_entry entry = (read_field entry.0, entry.1.now)
 
-entries-read : (table : Lent) (texts : List (Bor (List ℕ))) → map read_field table ≡ fields → zip fields (read_texts texts) ≡ map read_entry (zip table texts)
-entries-read table texts same = ap (λ fs. zip fs (read_texts texts)) (sym same) ∙ zip-map read_field (λ text. text.now) table texts
+entries-read : (table : Lent) (texts : List (Bor (List ℕ))) (fs : List Field) → map read_field table ≡ fs → zip fs (read_texts texts) ≡ map read_entry (zip table texts)
+entries-read table texts fs same = ap (λ l. zip l (read_texts texts)) (sym same) ∙ zip-map read_field (λ text. text.now) table texts
 
-name_of_found : (found : Option ((Bor (List ℕ) × Shape × Need) × Bor (List ℕ))) → option_map (λ entry. entry.0.0) (option_map read_entry found) ≡ option_map (λ entry. entry.0.0.now) found
+name_of_found : (found : Option ((Bor (List ℕ) × Content × Need) × Bor (List ℕ))) → option_map (λ entry. entry.0.0) (option_map read_entry found) ≡ option_map (λ entry. entry.0.0.now) found
 name_of_found None = refl
 name_of_found (Some entry) = refl
 
-pub first_in-all : (ask : Ask) (table : Lent) (texts : List (Bor (List ℕ))) → map read_field table ≡ fields → first_in ask (archival_at (read_texts texts)) table texts ≡ first_at ask (read_texts texts)
+pub first_in-all : (ask : Ask) (kind : Kind) (table : Lent) (texts : List (Bor (List ℕ))) → map read_field table ≡ fields_of kind
+    → first_in ask (facts_at kind (read_texts texts)) table texts ≡ first_at ask kind (read_texts texts)
 unfolding first_at
-first_in-all ask table texts same =
-    let asks : (List ℕ × Shape × Need) × List ℕ → Bool = λ entry. asked ask (archival_at (read_texts texts)) entry.0 entry.1 in
-    sym (ap (λ entries. option_map (λ entry. entry.0.0) (find asks entries)) (entries-read table texts same)
+first_in-all ask kind table texts same =
+    let asks : Field × List ℕ → Bool = λ entry. asked ask (facts_at kind (read_texts texts)) entry.0 entry.1 in
+    sym (ap (λ entries. option_map (λ entry. entry.0.0) (find asks entries)) (entries-read table texts (fields_of kind) same)
     ∙ (ap (option_map (λ entry. entry.0.0)) (find-map asks read_entry (zip table texts)) ∙ name_of_found (find (λ entry. asks (read_entry entry)) (zip table texts))))
 
-pub first_in-yes : (ask : Ask) (archival : Bool) (table : Lent) (texts : List (Bor (List ℕ))) (i : ℕ) (d : Bor (List ℕ) × Shape × Need) (e : Bor (List ℕ)) → i < length table → i < length texts
-    → asked ask archival (read_field (get_or table i d)) (get_or texts i e).now ≡ true → Some (get_or table i d).0.now ≡ first_in ask archival (drop i table) (drop i texts)
-first_in-yes ask archival table texts i d e first second asks =
-    sym (ap (λ entries. option_map (λ entry. entry.0.0.now) (find (λ entry. asked ask archival (read_field entry.0) entry.1.now) entries)) (zip-at table texts i d e first second) ∙ rw asks refl)
+pub first_in-yes : (ask : Ask) (facts : Facts) (table : Lent) (texts : List (Bor (List ℕ))) (i : ℕ) (d : Bor (List ℕ) × Content × Need) (e : Bor (List ℕ)) → i < length table → i < length texts
+    → asked ask facts (read_field (get_or table i d)) (get_or texts i e).now ≡ true → Some (get_or table i d).0.now ≡ first_in ask facts (drop i table) (drop i texts)
+first_in-yes ask facts table texts i d e first second asks =
+    sym (ap (λ entries. option_map (λ entry. entry.0.0.now) (find (λ entry. asked ask facts (read_field entry.0) entry.1.now) entries)) (zip-at table texts i d e first second) ∙ rw asks refl)
 
-pub first_in-no : (ask : Ask) (archival : Bool) (table : Lent) (texts : List (Bor (List ℕ))) (i : ℕ) (d : Bor (List ℕ) × Shape × Need) (e : Bor (List ℕ)) → i < length table → i < length texts
-    → asked ask archival (read_field (get_or table i d)) (get_or texts i e).now ≡ false → first_in ask archival (drop (i + 1) table) (drop (i + 1) texts) ≡ first_in ask archival (drop i table) (drop i texts)
-first_in-no ask archival table texts i d e first second asks =
-    sym (ap (λ entries. option_map (λ entry. entry.0.0.now) (find (λ entry. asked ask archival (read_field entry.0) entry.1.now) entries)) (zip-at table texts i d e first second) ∙ rw asks refl)
+pub first_in-no : (ask : Ask) (facts : Facts) (table : Lent) (texts : List (Bor (List ℕ))) (i : ℕ) (d : Bor (List ℕ) × Content × Need) (e : Bor (List ℕ)) → i < length table → i < length texts
+    → asked ask facts (read_field (get_or table i d)) (get_or texts i e).now ≡ false → first_in ask facts (drop (i + 1) table) (drop (i + 1) texts) ≡ first_in ask facts (drop i table) (drop i texts)
+first_in-no ask facts table texts i d e first second asks =
+    sym (ap (λ entries. option_map (λ entry. entry.0.0.now) (find (λ entry. asked ask facts (read_field entry.0) entry.1.now) entries)) (zip-at table texts i d e first second) ∙ rw asks refl)
 
-pub first_in-past : (ask : Ask) (archival : Bool) (table : Lent) (texts : List (Bor (List ℕ))) (i : ℕ) → length table ≤ i → None ≡ first_in ask archival (drop i table) (drop i texts)
-first_in-past ask archival table texts i past =
-    sym (ap (λ entries. option_map (λ entry. entry.0.0.now) (find (λ entry. asked ask archival (read_field entry.0) entry.1.now) entries)) (zip-past table (drop i texts) i past))
+pub first_in-past : (ask : Ask) (facts : Facts) (table : Lent) (texts : List (Bor (List ℕ))) (i : ℕ) → length table ≤ i → None ≡ first_in ask facts (drop i table) (drop i texts)
+first_in-past ask facts table texts i past =
+    sym (ap (λ entries. option_map (λ entry. entry.0.0.now) (find (λ entry. asked ask facts (read_field entry.0) entry.1.now) entries)) (zip-past table (drop i texts) i past))
 
-pub printed_in-all : (table : Lent) (texts : List (Bor (List ℕ))) → map read_field table ≡ fields → printed_in table texts ≡ printed_at (read_texts texts)
+pub printed_in-all : (kind : Kind) (table : Lent) (texts : List (Bor (List ℕ))) → map read_field table ≡ row_fields kind → printed_in table texts ≡ printed_at kind (read_texts texts)
 unfolding printed_at
-printed_in-all table texts same =
-    let make : (List ℕ × Shape × Need) × List ℕ → List ℕ = λ entry. printed entry.0.1 entry.1 in
-    sym (ap (map make) (entries-read table texts same) ∙ map-map make read_entry (zip table texts))
+printed_in-all kind table texts same =
+    let make : Field × List ℕ → List ℕ = λ entry. kept entry.0.1 entry.1 in
+    sym (ap (map make) (entries-read table texts (row_fields kind) same) ∙ map-map make read_entry (zip table texts))
 
 -- one text more
-pub printed_in-more : (made : Row) (text : List ℕ) (table : Lent) (texts : List (Bor (List ℕ))) (i : ℕ) (d : Bor (List ℕ) × Shape × Need) (e : Bor (List ℕ)) → i < length table → i < length texts
-    → text ≡ printed (get_or table i d).1 (get_or texts i e).now → (made ++ text ∷ []) ++ printed_in (drop (i + 1) table) (drop (i + 1) texts) ≡ made ++ printed_in (drop i table) (drop i texts)
+pub printed_in-more : (made : Row) (text : List ℕ) (table : Lent) (texts : List (Bor (List ℕ))) (i : ℕ) (d : Bor (List ℕ) × Content × Need) (e : Bor (List ℕ)) → i < length table → i < length texts
+    → text ≡ kept (get_or table i d).1 (get_or texts i e).now → (made ++ text ∷ []) ++ printed_in (drop (i + 1) table) (drop (i + 1) texts) ≡ made ++ printed_in (drop i table) (drop i texts)
 printed_in-more made text table texts i d e first second is =
     append_assoc made (text ∷ []) (printed_in (drop (i + 1) table) (drop (i + 1) texts))
     ∙ ap (λ rest. made ++ rest) (ap (λ t. t ∷ printed_in (drop (i + 1) table) (drop (i + 1) texts)) is
-    ∙ sym (ap (map (λ entry. printed entry.0.1 entry.1.now)) (zip-at table texts i d e first second)))
+    ∙ sym (ap (map (λ entry. kept entry.0.1 entry.1.now)) (zip-at table texts i d e first second)))
 
 pub printed_in-past : (made : Row) (table : Lent) (texts : List (Bor (List ℕ))) (i : ℕ) → length table ≤ i → made ≡ made ++ printed_in (drop i table) (drop i texts)
 printed_in-past made table texts i past =
-    sym (ap (λ entries. made ++ map (λ entry. printed entry.0.1 entry.1.now) entries) (zip-past table (drop i texts) i past) ∙ append-nil made)
+    sym (ap (λ entries. made ++ map (λ entry. kept entry.0.1 entry.1.now) entries) (zip-past table (drop i texts) i past) ∙ append-nil made)

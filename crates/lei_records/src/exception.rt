@@ -44,7 +44,7 @@ impl PartialEq for ExceptionItem {
 
     ghost eq = { eq_of_both (on (λ item. item.0) (pointwise (pointwise ◌==◌))) (on (λ item. item.1) beq) };
 
-    ghost laws = { Prim.search (comparing, rules) };
+    ghost laws = { Prim.search (comparing, rules) depth 8 };
 
     fn eq(&self, other: &Self) -> bool {
         self.texts == other.texts && self.withdraws == other.withdraws

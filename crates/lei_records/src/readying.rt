@@ -36,6 +36,7 @@ pub fn ready(alloc: Global, raw: &RawItem) -> Result<Readied, NoMemory>
 }
 
 // C01, and then the checks after it.
+#[tactic(auto, unfolding(crate::specs::Items::failed_check))]
 fn by_names(alloc: Global, kind: Kind, pairs: &[(Text, Text)]) -> Result<Readied, NoMemory>
     ensures { IfOk result (λ item. item ≡ ready_as kind pairs.now) }
 {

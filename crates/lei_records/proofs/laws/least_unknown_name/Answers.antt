@@ -9,6 +9,7 @@ use Rattle.std.proofs.lemmas.Map.Keys.{sorted_tail}
 use Rattle.std.proofs.lemmas.Map.Made.{Contains-tail}
 use Rattle.std.proofs.lemmas.Map.Views.{All-after_first}
 use Rattle.lei_records.specs.Names.{names}
+use Rattle.lei_records.specs.declared.fields.Kind.{Kind}
 use Rattle.lei_records.specs.Items.{IsLeastUnknown, is_field}
 use Rattle.lei_records.proofs.laws.least_unknown_name.Goals as goal
 
@@ -71,16 +72,16 @@ passes_by : (b : Bool) → ¬ (b ≡ true) → not b ≡ true
 passes_by true unknown = absurd (unknown refl)
 passes_by false unknown = refl
 
-least_of : (pairs : List (Name × Name)) (o : Option Name) → IfSome o (IsLeastOf (λ name. not (is_field name)) (names pairs)) → IfSome o (IsLeastUnknown pairs)
-least_of pairs None found = tt
-least_of pairs (Some name) found = record {
+least_of : (kind : Kind) (pairs : List (Name × Name)) (o : Option Name) → IfSome o (IsLeastOf (λ name. not (is_field kind name)) (names pairs)) → IfSome o (IsLeastUnknown kind pairs)
+least_of kind pairs None found = tt
+least_of kind pairs (Some name) found = record {
   stands = found.stands;
-  unknown = unknown_by (is_field name) found.passes;
-  least = λ other has unknown below. found.least other has (passes_by (is_field other) unknown) below;
+  unknown = unknown_by (is_field kind name) found.passes;
+  least = λ other has unknown below. found.least other has (passes_by (is_field kind other) unknown) below;
 }
 
 pub returns-clause-least : goal.returns-clause-least
-returns-clause-least c = λ pairs rise. least_of pairs _ (least_found (λ name. not (is_field name)) (names pairs) rise)
+returns-clause-least c = λ kind pairs rise. least_of kind pairs _ (least_found (λ name. not (is_field kind name)) (names pairs) rise)
 
 none_of : (b : Bool) (first : Name) (rest : Option Name) → cond b (Some first) rest ≡ None → (b ≡ false) × (rest ≡ None)
 none_of true first rest none = cc
@@ -96,4 +97,4 @@ known_by true is = refl
 known_by false is = cc
 
 pub returns-clause-all_known : goal.returns-clause-all_known
-returns-clause-all_known c = λ pairs none name has. known_by (is_field name) (none_passes (λ n. not (is_field n)) (names pairs) none name has)
+returns-clause-all_known c = λ kind pairs none name has. known_by (is_field kind name) (none_passes (λ n. not (is_field kind n)) (names pairs) none name has)

@@ -1,8 +1,13 @@
-use Rattle.std.proofs.Common.{sym, ap, ◌∙◌}
+use Rattle.std.proofs.Common.{sym, ap, ◌∙◌, take}
+use Rattle.std.proofs.lemmas.List.{take-map}
 use Rattle.std.specs.Option.{option_copied}
+use Rattle.lei_records.specs.Fields.{field_count}
+use Rattle.lei_records.specs.Sheets.{read_texts}
 use Rattle.lei_records.proofs.RowLemmas.{readied-by_place}
 use Rattle.lei_records.proofs.readying.by_names.Goals as goal
 
 pub returns-in-None : goal.returns-in-None
 returns-in-None c =
-    readied-by_place c.args.pairs.now _ c.by_presence.result (sym c.sheet_of-sheet.ensures.unknown ∙ ap option_copied c.in-None.is) c.sheet_of-sheet.ensures.texts c.by_presence.ensures
+    let texts = c.sheet_of-sheet.result.texts in
+    let same = ap (λ n. read_texts (take n texts)) c.field_count.ensures ∙ (sym (take-map (λ text. text.now) (field_count c.args.kind) texts) ∙ c.sheet_of-sheet.ensures.texts) in
+    readied-by_place c.args.kind c.args.pairs.now _ c.by_presence.result (sym c.sheet_of-sheet.ensures.unknown ∙ ap option_copied c.in-None.is) same c.by_presence.ensures

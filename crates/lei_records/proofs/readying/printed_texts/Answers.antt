@@ -1,18 +1,26 @@
-use Rattle.std.proofs.Common.{◌∙◌}
-use Rattle.lei_records.proofs.SheetLemmas.{printed_in-all, printed_in-more, printed_in-past, length-lent, within, past}
+use Rattle.std.proofs.Common.{◌∙◌, take}
+use Rattle.lei_records.proofs.SheetLemmas.{printed_in-all, printed_in-more, printed_in-past, has_row_text, row_table, row_table-length}
 use Rattle.lei_records.proofs.readying.printed_texts.Goals as goal
+
+pub slice_bounds-table-end : goal.slice_bounds-table-end
+slice_bounds-table-end c = row_table-length c.args.kind c.row_len.result c.fields_of.result.now c.row_len.ensures c.fields_of.ensures
+
+pub bounds-texts-index : goal.bounds-texts-index
+bounds-texts-index c = has_row_text c.args.kind c.row_len.result c.fields_of.result.now c.args.texts.now c.loop-index.index c.row_len.ensures c.requires c.loop-index-test.true
 
 pub loop-index-preserved : goal.loop-index-preserved
 loop-index-preserved c =
-    let table = c.record_fields-table.result.now in
+    let n = c.row_len.result in
+    let table = c.fields_of.result.now in
     let index = c.loop-index.index in
+    let bound = c.loop-index-test.true in
     rw c.in_ok-push.ensures.items
-    (printed_in-more c.loop-index.row.items _ table c.args.texts.now index _ _ (within table index (length-lent table c.record_fields-table.ensures) c.loop-index-test.true) (within c.args.texts.now index c.told-texts c.loop-index-test.true) c.in_ok-printed.ensures
+    (printed_in-more c.loop-index.row.items _ (take n table) c.args.texts.now index _ _ bound (has_row_text c.args.kind n table c.args.texts.now index c.row_len.ensures c.requires bound) c.in_ok-kept.ensures
     ∙ c.loop-index.invariant)
 
 pub returns : goal.returns
 returns c =
-    let table = c.record_fields-table.result.now in
-    let index = c.loop-index.index in
-    printed_in-past c.loop-index.row.items table c.args.texts.now index (past table index (length-lent table c.record_fields-table.ensures) c.loop-index-test.false)
-    ∙ (c.loop-index.invariant ∙ printed_in-all table c.args.texts.now c.record_fields-table.ensures)
+    let n = c.row_len.result in
+    let table = c.fields_of.result.now in
+    printed_in-past c.loop-index.row.items (take n table) c.args.texts.now c.loop-index.index c.loop-index-test.false
+    ∙ (c.loop-index.invariant ∙ printed_in-all c.args.kind (take n table) c.args.texts.now (row_table c.args.kind n table c.row_len.ensures c.fields_of.ensures))

@@ -7,22 +7,22 @@ use Rattle.lei_records.proofs.sheet.sheet_of.Goals as goal
 
 pub loop-index-init : goal.loop-index-init
 loop-index-init c = record {
-  texts = sym (ap texts_of (drop-length c.args.pairs.now) ∙ texts_of-none);
-  unknown = sym (ap unknown_name (drop-length c.args.pairs.now));
+  texts = texts_of-none c.args.kind ∙ sym (ap (texts_of c.args.kind) (drop-length c.args.pairs.now));
+  unknown = sym (ap (unknown_name c.args.kind) (drop-length c.args.pairs.now));
 }
 
 pub loop-index-preserved-in-Some : goal.loop-index-preserved-in-Some
 loop-index-preserved-in-Some c = record {
-  texts = placed_known c.args.pairs.now c.loop-index.index c.index-pairs-index.result c.as_str-name.result.now c.in-Some.place c.as_str.result c.loop-index.texts
+  texts = placed_known c.args.kind c.args.pairs.now c.loop-index.index c.index-pairs-index.result c.as_str-name.result.now c.in-Some.place c.as_str.result c.loop-index.texts
       c.loop-index-test.true c.loop-index.auto.index c.index-pairs-index.is c.as_str-name.ensures c.as_str.ensures c.in-Some.ensures.place.0 c.in-Some.ensures.place.1 c.loop-index.invariant.texts;
-  unknown = told_known c.args.pairs.now c.loop-index.index c.index-pairs-index.result c.as_str-name.result.now _
+  unknown = told_known c.args.kind c.args.pairs.now c.loop-index.index c.index-pairs-index.result c.as_str-name.result.now _
       c.loop-index-test.true c.loop-index.auto.index c.index-pairs-index.is c.as_str-name.ensures (sym c.in-Some.ensures.known) c.loop-index.invariant.unknown;
 }
 
 pub loop-index-preserved : goal.loop-index-preserved
 loop-index-preserved c = record {
-  texts = placed_unknown c.args.pairs.now c.loop-index.index c.index-pairs-index.result c.as_str-name.result.now c.loop-index.texts
+  texts = placed_unknown c.args.kind c.args.pairs.now c.loop-index.index c.index-pairs-index.result c.as_str-name.result.now c.loop-index.texts
       c.loop-index-test.true c.loop-index.auto.index c.index-pairs-index.is c.as_str-name.ensures (sym c.in-None.ensures.known) c.loop-index.invariant.texts;
-  unknown = told_unknown c.args.pairs.now c.loop-index.index c.index-pairs-index.result c.as_str-name.result.now
+  unknown = told_unknown c.args.kind c.args.pairs.now c.loop-index.index c.index-pairs-index.result c.as_str-name.result.now
       c.loop-index-test.true c.loop-index.auto.index c.index-pairs-index.is c.as_str-name.ensures (sym c.in-None.ensures.known);
 }
