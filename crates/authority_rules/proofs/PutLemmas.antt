@@ -110,6 +110,11 @@ IsSound-put table row sound is_row free = record {
   keyed = IsKeyed-put table row sound.keyed;
   holders = HasHolders-put table row sound.keyed sound.holders free;
   rows = HasRows-put table row is_row sound.rows;
+  relations_keyed = sound.relations_keyed;
+  relation_rows = sound.relation_rows;
+  actives = sound.actives;
+  exceptions_keyed = sound.exceptions_keyed;
+  exception_rows = sound.exception_rows;
 }
 
 -- ---- holders
