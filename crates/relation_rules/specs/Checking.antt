@@ -1,6 +1,6 @@
 -- The same over any view: what a view's cells make of a relationship and of an exception, or the first cell that its
 -- checks ask for and the view lacks.
-use Rattle.std.specs.Prelude.{ℕ, List, [], ◌∷◌, Bool, true, false, if◌then◌else◌, Option, Some, None, is_some, ⊤}
+use Rattle.std.specs.Prelude.{ℕ, List, [], ◌∷◌, Bool, if◌then◌else◌, Option, Some, None, is_some}
 use Rattle.std.specs.Str.{bytes_eq}
 use Rattle.lei_shapes.specs.declared.lists.ExceptionCategory.{ExceptionCategory}
 use Rattle.lei_shapes.specs.declared.lists.RelationType.{RelationType}
@@ -91,18 +91,23 @@ check_active cells item =
 abbrev pub check_held : Cells → Row → Option RelCell → Checked
 check_held cells item held = unless_failed (first_failing (c36 held item ∷ [])) (check_active cells item)
 
--- from C33 on, with the records of the start and the end
-abbrev pub check_ends : Cells → List ℕ → Row → Option RecCell → Option RecCell → Checked
-check_ends cells office item start end =
-    unless_failed (first_failing (c33 end ∷ c34 start office item ∷ c35 start item ∷ []))
+-- from C34 on, with the record of the start
+abbrev pub check_managed : Cells → List ℕ → Row → Option RecCell → Checked
+check_managed cells office item start =
+    unless_failed (first_failing (c34 start office item ∷ c35 start item ∷ []))
     (on_seen (cells.relation (start_in item) (kind_in item) (end_in item)) (CellKey.Rel (start_in item) (kind_in item) (end_in item))
     (check_held cells item))
+
+-- from C33 on, with the record of the end too
+abbrev pub check_end : Cells → List ℕ → Row → Option RecCell → Option RecCell → Checked
+check_end cells office item start end =
+    unless_failed (first_failing (c33 end ∷ [])) (check_managed cells office item start)
 
 -- from C32 on, with the record of the start
 abbrev pub check_start : Cells → List ℕ → Row → Option RecCell → Checked
 check_start cells office item start =
     unless_failed (first_failing (c32 start ∷ []))
-    (on_seen (cells.record_cell (end_in item)) (CellKey.Rec (end_in item)) (check_ends cells office item start))
+    (on_seen (cells.record_cell (end_in item)) (CellKey.Rec (end_in item)) (check_end cells office item start))
 
 -- from C30 on
 unfoldable pub check_relation : Cells → List ℕ → Row → Checked

@@ -1,5 +1,5 @@
 //! The checks of relationships and exceptions, each as a test. This project's profile.
-ghost use Rattle.std.specs.Prelude.{◌≡◌, ◌∷◌, [], ℤ, false, int_lt, Some};
+ghost use Rattle.std.specs.Prelude.{◌≡◌, ◌∷◌, [], true, false, int_lt, Some};
 ghost use Rattle.std.specs.Option.{option_map_or};
 ghost use Rattle.lei_records.specs.Exceptions.{exception_category_in};
 ghost use Rattle.lei_records.specs.Lines.{first_failing};
@@ -72,18 +72,21 @@ pub fn category_of(item: &ExceptionItem) -> ExceptionCategory
     item.category()
 }
 
+#[tactic(auto, using(crate::proofs::Parts::moments_of_relations))]
 fn started(item: &Relation) -> Moment
     ensures { result ≡ Relations.started_in item.now }
 {
     item.start_date()
 }
 
+#[tactic(auto, using(crate::proofs::Parts::moments_of_relations))]
 fn initial(item: &Relation) -> Moment
     ensures { result ≡ Relations.relation_initial_in item.now }
 {
     item.initial()
 }
 
+#[tactic(auto, using(crate::proofs::Parts::moments_of_relations))]
 fn updated(item: &Relation) -> Moment
     ensures { result ≡ Relations.relation_updated_in item.now }
 {

@@ -18,13 +18,19 @@ use lei_shapes::{ExceptionCategory, RelationType};
 /// the first that fails. `Missing` where none fails before one that asks for a cell that the view lacks, with the key of
 /// the first such cell: the record of its code, and then the active parent of its category with a put, and the
 /// exception itself with a withdrawal.
-#[tactic(auto, unfolding(crate::specs::Checking::check_exception))]
 pub fn exception_check<V: View>(view: &V, office: &Lei, item: &ExceptionItem) -> Checked
     ensures answers { result ≡ Checking.check_exception (V.cells view.now) office.now item.now }
 
     // Over the cells of a sound table: the first that fails of all checks, each asked over all rows.
     ensures over_tables { (table : Table) → IsSound table → V.cells view.now ≡ cells_of table
         → result ≡ Checking.checked_of (first_failing (exception_checks table office.now item.now)) }
+{
+    check_exception(view, office, item)
+}
+
+#[tactic(auto, unfolding(crate::specs::Checking::check_exception))]
+fn check_exception<V: View>(view: &V, office: &Lei, item: &ExceptionItem) -> Checked
+    ensures { result ≡ Checking.check_exception (V.cells view.now) office.now item.now }
 {
     match view.record_cell(&item.lei()) {
         Seen::Held(held) => check_subject(view, office, item, &held),

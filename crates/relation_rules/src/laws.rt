@@ -38,6 +38,6 @@ pub fn records_and_exceptions_keep_parents()
 pub fn accepted_items_keep_apart()
     ensures relations { (table : Table) (office : List ℕ) (row : Row) → IsSound table → AreApart table
         → first_failing (relation_checks table office row) ≡ None → AreApart (put table (Item.Relation row)) }
-    ensures exceptions { (table : Table) (office : List ℕ) (item : Row × Bool) → IsSound table → AreApart table
+    ensures exceptions { (table : Table) (office : List ℕ) (item : Row × Bool) → AreApart table
         → first_failing (exception_checks table office item) ≡ None → AreApart (put table (Item.Exception item)) }
 {}

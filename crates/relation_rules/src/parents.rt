@@ -1,5 +1,5 @@
 //! Parents: the walk from one direct parent to the next, and the exceptions that stand in their place.
-ghost use Rattle.std.specs.Prelude.{◌≡◌, ℕ, List};
+ghost use Rattle.std.specs.Prelude.{◌≡◌};
 ghost use Rattle.lei_records.specs.declared.view.CellKey.{CellKey};
 ghost use Rattle.lei_shapes.specs.declared.lists.RelationType.{RelationType};
 ghost use Rattle.relation_rules.specs.Checking;
@@ -42,7 +42,7 @@ pub fn parent_type(category: ExceptionCategory) -> RelationType
 pub fn is_direct(kind: RelationType) -> bool
     ensures { result ≡ Kinds.is_direct kind }
 {
-    kind == RelationType::IsDirectlyConsolidatedBy
+    matches!(kind, RelationType::IsDirectlyConsolidatedBy)
 }
 
 // A view's active relationships, by which an entity has at most one direct parent.

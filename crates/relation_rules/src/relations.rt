@@ -24,13 +24,19 @@ use successor_rules::Walked;
 /// The cells are asked for in the order of the checks: the records of start and end, the relationship held under the
 /// item's key, and, of an active item, the active one of its start and type, the direct parents of a direct parent, and
 /// the exception in a parent's place.
-#[tactic(auto, unfolding(crate::specs::Checking::check_relation))]
 pub fn relation_check<V: View>(view: &V, office: &Lei, item: &Relation) -> Checked
     ensures answers { result ≡ Checking.check_relation (V.cells view.now) office.now item.now }
 
     // Over the cells of a sound table: the first that fails of all checks, each asked over all rows.
     ensures over_tables { (table : Table) → IsSound table → V.cells view.now ≡ cells_of table
         → result ≡ Checking.checked_of (first_failing (relation_checks table office.now item.now)) }
+{
+    check_relation(view, office, item)
+}
+
+#[tactic(auto, unfolding(crate::specs::Checking::check_relation))]
+fn check_relation<V: View>(view: &V, office: &Lei, item: &Relation) -> Checked
+    ensures { result ≡ Checking.check_relation (V.cells view.now) office.now item.now }
 {
     if let Some(check) = own_check(item) {
         return Checked::Fails(check);
@@ -47,15 +53,15 @@ fn check_start<V: View>(view: &V, office: &Lei, item: &Relation, start: &RecCell
     ensures { result ≡ Checking.check_start (V.cells view.now) office.now item.now (Some start.now) }
 {
     match view.record_cell(&item.end()) {
-        Seen::Held(_) => check_ends(view, office, item, start),
+        Seen::Held(_) => check_managed(view, office, item, start),
         Seen::Empty => failed(END_UNKNOWN),
         Seen::Missing => Checked::Missing(CellKey::Rec(item.end())),
     }
 }
 
 // From C34 on: the end has a record too.
-fn check_ends<V: View>(view: &V, office: &Lei, item: &Relation, start: &RecCell) -> Checked
-    ensures { (end : RecCell) → result ≡ Checking.check_ends (V.cells view.now) office.now item.now (Some start.now) (Some end) }
+fn check_managed<V: View>(view: &V, office: &Lei, item: &Relation, start: &RecCell) -> Checked
+    ensures { result ≡ Checking.check_managed (V.cells view.now) office.now item.now (Some start.now) }
 {
     if let Some(check) = start_check(start, office, item) {
         return Checked::Fails(check);
