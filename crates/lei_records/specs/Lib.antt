@@ -9,3 +9,4 @@ pub mod Exceptions
 pub mod Cells
 pub mod Tables
 pub mod Sheets
+pub mod Lines

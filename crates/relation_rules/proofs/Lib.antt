@@ -1,0 +1,9 @@
+pub mod Parts
+pub mod RowLemmas
+pub mod ActiveLemmas
+pub mod ParentLemmas
+pub mod CheckLemmas
+pub mod PassLemmas
+pub mod PutLemmas
+pub mod ChainLemmas
+pub mod ApartLemmas

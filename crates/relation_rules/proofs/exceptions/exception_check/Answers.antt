@@ -1,0 +1,9 @@
+use Rattle.std.proofs.Common.{ap, ◌∙◌}
+use Rattle.relation_rules.specs.Checking as Checking
+use Rattle.relation_rules.proofs.CheckLemmas.{check_exception-cells}
+use Rattle.relation_rules.proofs.exceptions.exception_check.Goals as goal
+
+pub returns-clause-over_tables : goal.returns-clause-over_tables
+returns-clause-over_tables g c = λ table sound same.
+    c.check_exception.ensures ∙ (ap (λ cells. Checking.check_exception cells c.args.office.now c.args.item.now) same
+    ∙ check_exception-cells table c.args.office.now c.args.item.now)

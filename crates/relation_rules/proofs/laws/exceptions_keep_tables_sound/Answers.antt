@@ -1,0 +1,5 @@
+use Rattle.relation_rules.proofs.PutLemmas.{IsSound-put_exception}
+use Rattle.relation_rules.proofs.laws.exceptions_keep_tables_sound.Goals as goal
+
+pub returns : goal.returns
+returns c = IsSound-put_exception

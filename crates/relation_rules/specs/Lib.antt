@@ -1,0 +1,4 @@
+pub mod Statuses
+pub mod Parents
+pub mod Checks
+pub mod Checking

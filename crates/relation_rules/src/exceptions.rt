@@ -1,0 +1,76 @@
+//! The checks of an exception, over any view.
+ghost use Rattle.std.specs.Prelude.{◌≡◌, Some, false, true};
+ghost use Rattle.lei_shapes.specs.declared.lists.ExceptionCategory.{ExceptionCategory};
+ghost use Rattle.lei_shapes.specs.declared.lists.RelationType.{RelationType};
+ghost use Rattle.lei_records.specs.Lines.{first_failing};
+ghost use Rattle.lei_records.specs.Tables.{IsSound, Table, cells_of};
+ghost use Rattle.relation_rules.specs.Checking;
+ghost use Rattle.relation_rules.specs.Checks.{exception_checks};
+
+use crate::checked::{Checked, failed, telling};
+use crate::checks::{LEI_UNKNOWN, NOTHING_TO_WITHDRAW, PARENT_STANDS, category_of, manager_check};
+use crate::parents::parent_type;
+use lei_code::Lei;
+use lei_records::{CellKey, ExceptionItem, RecCell, Seen, View};
+use lei_shapes::{ExceptionCategory, RelationType};
+
+/// The checks C50 to C53 of an exception, or of its withdrawal, that an office uploads, beside what the view answers:
+/// the first that fails. `Missing` where none fails before one that asks for a cell that the view lacks, with the key of
+/// the first such cell: the record of its code, and then the active parent of its category with a put, and the
+/// exception itself with a withdrawal.
+pub fn exception_check<V: View>(view: &V, office: &Lei, item: &ExceptionItem) -> Checked
+    ensures answers { result ≡ Checking.check_exception (V.cells view.now) office.now item.now }
+
+    // Over the cells of a sound table: the first that fails of all checks, each asked over all rows.
+    ensures over_tables { (table : Table) → IsSound table → V.cells view.now ≡ cells_of table
+        → result ≡ Checking.checked_of (first_failing (exception_checks table office.now item.now)) }
+{
+    check_exception(view, office, item)
+}
+
+#[tactic(auto, unfolding(crate::specs::Checking::check_exception))]
+fn check_exception<V: View>(view: &V, office: &Lei, item: &ExceptionItem) -> Checked
+    ensures { result ≡ Checking.check_exception (V.cells view.now) office.now item.now }
+{
+    match view.record_cell(&item.lei()) {
+        Seen::Held(held) => check_subject(view, office, item, &held),
+        Seen::Empty => failed(LEI_UNKNOWN),
+        Seen::Missing => Checked::Missing(CellKey::Rec(item.lei())),
+    }
+}
+
+// From C51 on, with the record of the exception's code.
+fn check_subject<V: View>(view: &V, office: &Lei, item: &ExceptionItem, held: &RecCell) -> Checked
+    ensures { result ≡ Checking.check_subject (V.cells view.now) office.now item.now (Some held.now) }
+{
+    if let Some(check) = manager_check(held, office) {
+        return Checked::Fails(check);
+    }
+    if item.withdraws() {
+        check_withdrawal(view, item, category_of(item))
+    } else {
+        check_put(view, item, parent_type(category_of(item)))
+    }
+}
+
+// C52 of a put: no parent may stand beside it.
+fn check_put<V: View>(view: &V, item: &ExceptionItem, kind: RelationType) -> Checked
+    ensures { item.now.1 ≡ false → result ≡ Checking.check_put (V.cells view.now) item.now kind }
+{
+    match view.active(&item.lei(), kind) {
+        Seen::Held(parent) => Checked::Fails(telling(PARENT_STANDS, parent)),
+        Seen::Empty => Checked::Passes,
+        Seen::Missing => Checked::Missing(CellKey::Act(item.lei(), kind)),
+    }
+}
+
+// C53 of a withdrawal: there has to be such an exception.
+fn check_withdrawal<V: View>(view: &V, item: &ExceptionItem, category: ExceptionCategory) -> Checked
+    ensures { item.now.1 ≡ true → result ≡ Checking.check_withdrawal (V.cells view.now) item.now category }
+{
+    match view.exception(&item.lei(), category) {
+        Seen::Held(()) => Checked::Passes,
+        Seen::Empty => failed(NOTHING_TO_WITHDRAW),
+        Seen::Missing => Checked::Missing(CellKey::Exc(item.lei(), category)),
+    }
+}

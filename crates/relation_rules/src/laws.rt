@@ -1,0 +1,43 @@
+//! Laws of relationships and exceptions, each as the contract of an empty function.
+ghost use Rattle.std.specs.Prelude.{◌≡◌, ℕ, List, Bool, None, false};
+ghost use Rattle.lei_records.specs.declared.item.Item.{Item};
+ghost use Rattle.lei_records.specs.Lines.{first_failing};
+ghost use Rattle.lei_records.specs.Rows.{Row};
+ghost use Rattle.lei_records.specs.Spelled.{IsExceptionRow, IsRelationRow};
+ghost use Rattle.lei_records.specs.Tables.{IsSound, Table, put};
+ghost use Rattle.relation_rules.specs.Checks.{c37, exception_checks, other_end, relation_checks};
+ghost use Rattle.relation_rules.specs.Parents.{AreApart, HasParents};
+
+/// A relationship beside which no active one of its start and type has another end, or that isn't active, can be put
+/// into a sound table, which stays sound.
+pub fn fitting_relations_keep_tables_sound()
+    ensures { (table : Table) (row : Row) → IsSound table → IsRelationRow row
+        → (c37 (other_end table row) row).fails ≡ false → IsSound (put table (Item.Relation row)) }
+{}
+
+/// An exception can be put into a sound table and withdrawn from it, and the table stays sound.
+pub fn exceptions_keep_tables_sound()
+    ensures { (table : Table) (row : Row) (withdraws : Bool) → IsSound table → IsExceptionRow row
+        → IsSound (put table (Item.Exception (row, withdraws))) }
+{}
+
+/// A relationship that passes its checks on a sound table leaves each chain of direct parents with an end.
+pub fn accepted_relations_keep_parents()
+    ensures { (table : Table) (office : List ℕ) (row : Row) → IsSound table → HasParents table
+        → first_failing (relation_checks table office row) ≡ None → HasParents (put table (Item.Relation row)) }
+{}
+
+/// A record and an exception leave the chains of direct parents as they are, and a record the exceptions too.
+pub fn records_and_exceptions_keep_parents()
+    ensures records { (table : Table) (row : Row) → HasParents table → HasParents (put table (Item.Record row)) }
+    ensures apart { (table : Table) (row : Row) → AreApart table → AreApart (put table (Item.Record row)) }
+    ensures exceptions { (table : Table) (item : Row × Bool) → HasParents table → HasParents (put table (Item.Exception item)) }
+{}
+
+/// Items that pass their checks on a sound table leave no active parent beside the exception of its category.
+pub fn accepted_items_keep_apart()
+    ensures relations { (table : Table) (office : List ℕ) (row : Row) → IsSound table → AreApart table
+        → first_failing (relation_checks table office row) ≡ None → AreApart (put table (Item.Relation row)) }
+    ensures exceptions { (table : Table) (office : List ℕ) (item : Row × Bool) → AreApart table
+        → first_failing (exception_checks table office item) ≡ None → AreApart (put table (Item.Exception item)) }
+{}

@@ -1,0 +1,74 @@
+//! Parents: the walk from one direct parent to the next, and the exceptions that stand in their place.
+ghost use Rattle.std.specs.Prelude.{◌≡◌};
+ghost use Rattle.lei_records.specs.declared.view.CellKey.{CellKey};
+ghost use Rattle.lei_shapes.specs.declared.lists.RelationType.{RelationType};
+ghost use Rattle.relation_rules.specs.Checking;
+ghost use Rattle.relation_rules.specs.Parents as Kinds;
+
+use lei_code::Lei;
+use lei_records::{CellKey, Seen, View};
+use lei_shapes::{ExceptionCategory, RelationType};
+use successor_rules::{Chain, Walked, follow};
+
+// The exceptions that speak of the parents of a type, and none where the type is no parent's.
+pub fn parent_category(kind: RelationType) -> Option<ExceptionCategory>
+    ensures { result ≡ Kinds.parent_category kind }
+{
+    match kind {
+        RelationType::IsDirectlyConsolidatedBy => {
+            Some(ExceptionCategory::DirectAccountingConsolidationParent)
+        }
+        RelationType::IsUltimatelyConsolidatedBy => {
+            Some(ExceptionCategory::UltimateAccountingConsolidationParent)
+        }
+        _ => None,
+    }
+}
+
+// The type of the parents that exceptions of a category speak of.
+pub fn parent_type(category: ExceptionCategory) -> RelationType
+    ensures { result ≡ Kinds.parent_type category }
+{
+    match category {
+        ExceptionCategory::DirectAccountingConsolidationParent => {
+            RelationType::IsDirectlyConsolidatedBy
+        }
+        ExceptionCategory::UltimateAccountingConsolidationParent => {
+            RelationType::IsUltimatelyConsolidatedBy
+        }
+    }
+}
+
+pub fn is_direct(kind: RelationType) -> bool
+    ensures { result ≡ Kinds.is_direct kind }
+{
+    matches!(kind, RelationType::IsDirectlyConsolidatedBy)
+}
+
+// A view's active relationships, by which an entity has at most one direct parent.
+#[derive(Drop)]
+struct DirectParents<'a, V> {
+    view: &'a V,
+}
+
+impl<'a, V: View> Chain for DirectParents<'a, V> {
+    ghost asked = { λ parents lei. (V.cells parents.view.now).active lei RelationType.IsDirectlyConsolidatedBy };
+
+    ghost cell = { λ parents lei. CellKey.Act lei RelationType.IsDirectlyConsolidatedBy };
+
+    fn next(&self, lei: &Lei) -> Seen<Lei> {
+        self.view
+            .active(lei, RelationType::IsDirectlyConsolidatedBy)
+    }
+
+    fn key(&self, lei: Lei) -> CellKey {
+        CellKey::Act(lei, RelationType::IsDirectlyConsolidatedBy)
+    }
+}
+
+// The walk of an entity whose code is `start`: it begins at its parent `first`, and goes on to the direct parent of each.
+pub fn walk<V: View>(view: &V, start: &Lei, first: &Lei) -> Walked
+    ensures { result ≡ Checking.walk_parents (V.cells view.now) start.now first.now }
+{
+    follow(&DirectParents { view }, first, start)
+}

@@ -1,0 +1,146 @@
+//! The checks of a relationship, over any view.
+ghost use Rattle.std.specs.Prelude.{◌≡◌, Some, true};
+ghost use Rattle.lei_shapes.specs.declared.lists.ExceptionCategory.{ExceptionCategory};
+ghost use Rattle.lei_records.specs.Lines.{first_failing};
+ghost use Rattle.lei_records.specs.Relations;
+ghost use Rattle.lei_records.specs.Tables.{IsSound, Table, cells_of};
+ghost use Rattle.relation_rules.specs.Checking;
+ghost use Rattle.relation_rules.specs.Checks.{relation_checks};
+ghost use Rattle.relation_rules.specs.Parents;
+
+use crate::checked::{Checked, checked_of, failed};
+use crate::checks::{
+    END_UNKNOWN, EXCEPTION_STANDS, PARENT_CHAIN_LONG, PARENT_CYCLE, START_UNKNOWN, end_check,
+    held_check, is_active, kind_of, own_check, start_check,
+};
+use crate::parents::{is_direct, parent_category, walk};
+use lei_code::Lei;
+use lei_records::{CellKey, RecCell, RelCell, Relation, Seen, View};
+use lei_shapes::ExceptionCategory;
+use successor_rules::Walked;
+
+/// The checks C30 to C40 of a relationship that an office uploads, beside what the view answers: the first that fails.
+/// `Missing` where none fails before one that asks for a cell that the view lacks, with the key of the first such cell.
+/// The cells are asked for in the order of the checks: the records of start and end, the relationship held under the
+/// item's key, and, of an active item, the active one of its start and type, the direct parents of a direct parent, and
+/// the exception in a parent's place.
+pub fn relation_check<V: View>(view: &V, office: &Lei, item: &Relation) -> Checked
+    ensures answers { result ≡ Checking.check_relation (V.cells view.now) office.now item.now }
+
+    // Over the cells of a sound table: the first that fails of all checks, each asked over all rows.
+    ensures over_tables { (table : Table) → IsSound table → V.cells view.now ≡ cells_of table
+        → result ≡ Checking.checked_of (first_failing (relation_checks table office.now item.now)) }
+{
+    check_relation(view, office, item)
+}
+
+#[tactic(auto, unfolding(crate::specs::Checking::check_relation))]
+fn check_relation<V: View>(view: &V, office: &Lei, item: &Relation) -> Checked
+    ensures { result ≡ Checking.check_relation (V.cells view.now) office.now item.now }
+{
+    if let Some(check) = own_check(item) {
+        return Checked::Fails(check);
+    }
+    match view.record_cell(&item.start()) {
+        Seen::Held(start) => check_start(view, office, item, &start),
+        Seen::Empty => failed(START_UNKNOWN),
+        Seen::Missing => Checked::Missing(CellKey::Rec(item.start())),
+    }
+}
+
+// From C33 on, with the start's record.
+fn check_start<V: View>(view: &V, office: &Lei, item: &Relation, start: &RecCell) -> Checked
+    ensures { result ≡ Checking.check_start (V.cells view.now) office.now item.now (Some start.now) }
+{
+    match view.record_cell(&item.end()) {
+        Seen::Held(_) => check_managed(view, office, item, start),
+        Seen::Empty => failed(END_UNKNOWN),
+        Seen::Missing => Checked::Missing(CellKey::Rec(item.end())),
+    }
+}
+
+// From C34 on: the end has a record too.
+fn check_managed<V: View>(view: &V, office: &Lei, item: &Relation, start: &RecCell) -> Checked
+    ensures { result ≡ Checking.check_managed (V.cells view.now) office.now item.now (Some start.now) }
+{
+    if let Some(check) = start_check(start, office, item) {
+        return Checked::Fails(check);
+    }
+    match view.relation(&item.start(), kind_of(item), &item.end()) {
+        Seen::Held(held) => check_held(view, item, Some(held)),
+        Seen::Empty => check_held(view, item, None),
+        Seen::Missing => { Checked::Missing(CellKey::Rel(item.start(), kind_of(item), item.end())) }
+    }
+}
+
+// From C36 on, with the relationship that is held under the item's key.
+fn check_held<V: View>(view: &V, item: &Relation, held: Option<RelCell>) -> Checked
+    ensures { result ≡ Checking.check_held (V.cells view.now) item.now held }
+{
+    if let Some(check) = held_check(held, item) {
+        return Checked::Fails(check);
+    }
+    check_active(view, item)
+}
+
+// From C37 on: a relationship that isn't active asks for no further cell.
+fn check_active<V: View>(view: &V, item: &Relation) -> Checked
+    ensures { result ≡ Checking.check_active (V.cells view.now) item.now }
+{
+    if !is_active(item) {
+        return Checked::Passes;
+    }
+    match view.active(&item.start(), kind_of(item)) {
+        Seen::Held(end) => check_end_taken(view, item, end),
+        Seen::Empty => check_parents(view, item),
+        Seen::Missing => Checked::Missing(CellKey::Act(item.start(), kind_of(item))),
+    }
+}
+
+// C37 of an active item, with the end of the active relationship of its start and type, and the checks behind it.
+fn check_end_taken<V: View>(view: &V, item: &Relation, end: Lei) -> Checked
+    ensures { Relations.is_active item.now ≡ true
+        → result ≡ Checking.check_end_taken (V.cells view.now) item.now (Some end) }
+{
+    if let Some(check) = end_check(end, item) {
+        return Checked::Fails(check);
+    }
+    check_parents(view, item)
+}
+
+// From C38 on, of an active item: only a direct parent is followed.
+fn check_parents<V: View>(view: &V, item: &Relation) -> Checked
+    ensures { Relations.is_active item.now ≡ true → result ≡ Checking.check_parents (V.cells view.now) item.now }
+{
+    if !is_direct(kind_of(item)) {
+        return check_exception(view, item);
+    }
+    match walk(view, &item.start(), &item.end()) {
+        Walked::Meets => failed(PARENT_CYCLE),
+        Walked::Long => failed(PARENT_CHAIN_LONG),
+        Walked::Ends => check_exception(view, item),
+        Walked::Missing(key) => Checked::Missing(key),
+    }
+}
+
+// C40 of an active item: a relationship that is no parent asks for no exception.
+fn check_exception<V: View>(view: &V, item: &Relation) -> Checked
+    ensures { Relations.is_active item.now ≡ true
+        → result ≡ Checking.check_category (V.cells view.now) item.now (Parents.parent_category (Relations.kind_in item.now)) }
+{
+    match parent_category(kind_of(item)) {
+        None => Checked::Passes,
+        Some(category) => check_category(view, item, category),
+    }
+}
+
+fn check_category<V: View>(view: &V, item: &Relation, category: ExceptionCategory) -> Checked
+    ensures { Relations.is_active item.now ≡ true
+        → result ≡ Checking.check_category (V.cells view.now) item.now (Some category) }
+{
+    match view.exception(&item.start(), category) {
+        Seen::Held(()) => failed(EXCEPTION_STANDS),
+        Seen::Empty => Checked::Passes,
+        Seen::Missing => Checked::Missing(CellKey::Exc(item.start(), category)),
+    }
+}
