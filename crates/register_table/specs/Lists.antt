@@ -1,41 +1,125 @@
--- Lists: a table as a list of records, and which tables are kept.
-use Rattle.std.specs.Prelude.{◌≡◌, ℕ, ◌≤◌, Bool, List, length, map, refl}
-use Rattle.std.specs.Coded.{Coded, code_by, coded_list, coded_ℕ}
+-- Lists: a table as lists of rows, and which tables are kept.
+use Rattle.std.specs.Prelude.{◌≡◌, ℕ, suc, ◌≤◌, Bool, false, ◌&&◌, List, ◌++◌, map, length, take, drop, set, slice_get, Option, Some, None, option_and_then, option_to_list, refl}
+use Rattle.std.specs.Coded.{Coded, code_by, coded_list, coded_ℕ, coded×}
 use Rattle.std.specs.Str.{bytes_eq}
-use Rattle.std.specs.FinMap.{code, empty, from_entries}
+use Rattle.std.specs.FinMap.{code, empty, from_entries, len}
+use Rattle.std.specs.List.{AllByRecursion}
+use Rattle.lei_shapes.specs.declared.lists.ExceptionCategory.{ExceptionCategory}
+use Rattle.lei_shapes.specs.declared.lists.RelationType.{RelationType}
+use Rattle.lei_shapes.specs.Lists.{exception_category_text}
 use Rattle.lei_records.specs.Cells.{lei_in}
+use Rattle.lei_records.specs.Exceptions.{exception_category_in, subject_in}
+use Rattle.lei_records.specs.Relations.{end_in, is_same_type, kind_in, start_in}
 use Rattle.lei_records.specs.Rows.{Row}
-use Rattle.lei_records.specs.Tables.{KeyTexts, Rows, Table, record_key, record_count, IsSound}
+use Rattle.lei_records.specs.Tables.{KeyTexts, Rows, Table, exception_key_in, record_key, record_count, relation_key_in, IsSound}
 
--- the row's code is this one
+-- ---- the row of a key
+
+-- this record is of the entity
 abbrev pub is_of : List ℕ → Row → Bool
 is_of lei row = bytes_eq (lei_in row) lei
 
--- a row under its own key
-abbrev pub under_key : Row → KeyTexts × Row
-under_key row = (record_key (lei_in row), row)
+-- this relationship has the start, the type and the end
+abbrev pub is_relation_of : List ℕ → RelationType → List ℕ → Row → Bool
+is_relation_of start kind end row = bytes_eq (start_in row) start && is_same_type (kind_in row) kind && bytes_eq (end_in row) end
 
--- the table that a list of records is: each under its own code, and of two with one code the first
-unfoldable pub table_of : List Row → Table
-table_of rows = record { records = from_entries (map under_key rows) }
+-- two categories are one: they have one text
+abbrev pub is_same_category : ExceptionCategory → ExceptionCategory → Bool
+is_same_category a b = bytes_eq (exception_category_text a) (exception_category_text b)
 
--- the table without records
-abbrev pub no_records : Table
-no_records = record { records = empty }
+-- this exception has the entity and the category
+abbrev pub is_exception_of : List ℕ → ExceptionCategory → Row × Bool → Bool
+is_exception_of lei category item = bytes_eq (subject_in item.0) lei && is_same_category (exception_category_in item.0) category
 
--- no code stands twice in the list
-abbrev pub HasCodesOnce : List Row → Type 0
-HasCodesOnce rows = record_count (table_of rows) ≡ length rows
+-- ---- rows by place
+
+-- what stands at a place, if there is one
+abbrev pub standing : {X : Type 0} → Option ℕ → List X → Option X
+standing place xs = option_and_then (slice_get xs) place
+
+-- a list without what stands at a place
+abbrev pub without : {X : Type 0} → List X → ℕ → List X
+without xs at = take at xs ++ drop (suc at) xs
+
+-- the same where there may be no place
+abbrev pub remaining : {X : Type 0} → Option ℕ → List X → List X
+remaining None xs = xs
+remaining (Some at) xs = without xs at
+
+-- what stands at a place is changed for this, or for nothing; without a place this comes behind all
+abbrev pub exchanged : {X : Type 0} → Option ℕ → Option X → List X → List X
+exchanged None new xs = xs ++ option_to_list new
+exchanged (Some at) None xs = without xs at
+exchanged (Some at) (Some x) xs = set xs at x
+
+-- ---- lists as a table
+
+-- the key that a record's row has by its texts, and those of an exception that stands with whether it is a withdrawal
+abbrev pub record_key_in : Row → KeyTexts
+record_key_in row = record_key (lei_in row)
+
+abbrev pub exception_item_key : Row × Bool → KeyTexts
+exception_item_key item = exception_key_in item.0
+
+-- the rows of a list under their own keys, and of two with one key the first
+unfoldable pub rows_under : {X : Type 0} → (X → KeyTexts) → (X → Row) → List X → Rows
+rows_under key row xs = from_entries (map (λ x. (key x, row x)) xs)
+
+abbrev pub record_rows : List Row → Rows
+record_rows = rows_under record_key_in (λ row. row)
+
+abbrev pub relation_rows : List Row → Rows
+relation_rows = rows_under relation_key_in (λ row. row)
+
+abbrev pub exception_rows : List (Row × Bool) → Rows
+exception_rows = rows_under exception_item_key (λ item. item.0)
+
+-- Three lists: of records, of relationships, and of exceptions. An exception stands with whether it is a withdrawal.
+pub record Listed : Type 0 where
+  pub records : List Row
+  pub relations : List Row
+  pub exceptions : List (Row × Bool)
+
+-- the table that they are
+abbrev pub table_of : Listed → Table
+table_of lists = record {
+  records = record_rows lists.records;
+  relations = relation_rows lists.relations;
+  exceptions = exception_rows lists.exceptions;
+}
+
+-- the table without rows
+abbrev pub no_rows : Table
+no_rows = record { records = empty; relations = empty; exceptions = empty }
+
+-- how many exceptions are held
+abbrev pub exception_count : Table → ℕ
+exception_count table = len table.exceptions
+
+-- No key stands twice in a list: there are as many rows under keys as the list has.
+pub record HasKeysOnce (lists : Listed) : Type 0 where
+  pub records : len (record_rows lists.records) ≡ length lists.records
+  pub relations : len (relation_rows lists.relations) ≡ length lists.relations
+  pub exceptions : len (exception_rows lists.exceptions) ≡ length lists.exceptions
+
+-- no withdrawal stands among exceptions
+abbrev pub HasNoWithdrawal : List (Row × Bool) → Type 0
+HasNoWithdrawal = AllByRecursion (λ item. item.1 ≡ false)
 
 -- The table is sound, and has at most 4,294,967,295 records.
 pub record IsKept (table : Table) : Type 0 where
   pub sound : IsSound table
   pub count : record_count table ≤ 4294967295
 
--- A list of records has no code twice, and the table that it is is kept.
-pub record IsKeptList (rows : List Row) : Type 0 where
-  pub once : HasCodesOnce rows
-  pub kept : IsKept (table_of rows)
+-- Lists have no key twice and no withdrawal.
+pub record AreListed (lists : Listed) : Type 0 where
+  pub once : HasKeysOnce lists
+  pub held : HasNoWithdrawal lists.exceptions
+
+-- The same, and the table that they are is kept.
+pub record AreKept (lists : Listed) : Type 0 where
+  pub listed : AreListed lists
+  pub kept : IsKept (table_of lists)
 
 -- rows under their keys, stored as a map is
 abbrev rows_code : Coded Rows
@@ -43,4 +127,7 @@ rows_code = code (coded_list (coded_list coded_ℕ)) (coded_list (coded_list cod
 
 -- a table is stored as its rows
 abbrev pub table_code : Coded Table
-table_code = code_by Rows rows_code (λ table. table.records) (λ rows. record { records = rows }) (λ _. refl)
+table_code = code_by (Rows × Rows × Rows) (coded× rows_code (coded× rows_code rows_code))
+    (λ table. (table.records, table.relations, table.exceptions))
+    (λ rows. record { records = rows.0; relations = rows.1.0; exceptions = rows.1.1 })
+    (λ _. refl)

@@ -1,11 +1,11 @@
 -- Undos: what writes do to a table, noted, and how the notes undo it.
-use Rattle.std.specs.Prelude.{◌≡◌, List, [], ◌∷◌, Option, Some, None, option_map, ⊤}
+use Rattle.std.specs.Prelude.{◌≡◌, ◌+◌, ◌^◌, ◌<◌, Bool, false, List, [], ◌∷◌, length, Option, Some, None, option_map, ⊤}
 use Rattle.std.specs.FinMap.{insert, remove}
 use Rattle.lei_records.specs.declared.item.Item.{Item}
 use Rattle.lei_records.specs.declared.view.RowKey.{RowKey}
-use Rattle.lei_records.specs.Cells.{lei_in}
-use Rattle.lei_records.specs.Tables.{Table, record_key, put_write, put_all, row_at}
-use Rattle.register_table.specs.Lists.{IsKept}
+use Rattle.lei_records.specs.Rows.{Row}
+use Rattle.lei_records.specs.Tables.{KeyTexts, Rows, Table, exception_key, exception_row, put_all, put_write, record_key, relation_key, relation_row, row_at, row_key, with_exceptions, with_records, with_relations}
+use Rattle.register_table.specs.Lists.{IsKept, exception_count}
 
 -- writes, in order: a key with its item, or with none for a withdrawal
 abbrev pub WriteList : Type 0
@@ -17,17 +17,18 @@ Notes = List (RowKey × Option Item)
 
 -- ---- which writes may be applied
 
--- the write has an item, and the key is that of the item
+-- the item is an exception that takes out the one of its key
+abbrev pub is_withdrawal : Item → Bool
+is_withdrawal (Item.Exception item) = item.1
+is_withdrawal item = false
+
+-- the write has the key of its item, which is no withdrawal, or it has no item under the key of an exception
 abbrev pub IsOwn : RowKey × Option Item → Type 0
-IsOwn (key, Some (Item.Record row)) = key ≡ RowKey.Rec (lei_in row)
+IsOwn (key, Some item) = (key ≡ row_key item) × (is_withdrawal item ≡ false)
+IsOwn (RowKey.Exc lei category, None) = ⊤
 IsOwn (key, None) = ⊥
 
--- the same, or no item
-abbrev pub IsOwnOrNone : RowKey × Option Item → Type 0
-IsOwnOrNone (key, Some (Item.Record row)) = key ≡ RowKey.Rec (lei_in row)
-IsOwnOrNone (key, None) = ⊤
-
--- each write has the key of its item
+-- each write is so
 abbrev pub AreOwn : WriteList → Type 0
 AreOwn [] = ⊤
 AreOwn (write ∷ writes) = IsOwn write × AreOwn writes
@@ -37,33 +38,53 @@ abbrev pub StaysKept : WriteList → Table → Type 0
 StaysKept [] table = ⊤
 StaysKept (write ∷ writes) table = IsKept (put_write table write) × StaysKept writes (put_write table write)
 
--- Each write has the key of its item, and after each of them the table is sound and not too large.
+-- Each write has the key of its item, which is no withdrawal, or none under the key of an exception; and after each of
+-- them the table is sound and not too large.
 pub record MayApply (writes : WriteList) (table : Table) : Type 0 where
   pub own : AreOwn writes
   pub kept : StaysKept writes table
 
 -- ---- notes
 
+-- an exception that is held, as an item
+abbrev pub held_exception : Row → Item
+held_exception row = Item.Exception (row, false)
+
 -- what is held under a key
 abbrev pub item_at : Table → RowKey → Option Item
 item_at table (RowKey.Rec lei) = option_map Item.Record (row_at table lei)
+item_at table (RowKey.Rel start kind end) = option_map Item.Relation (relation_row table start kind end)
+item_at table (RowKey.Exc lei category) = option_map held_exception (exception_row table lei category)
 
 -- the key of each write with what was held under it before that write
 abbrev pub notes_of : WriteList → Table → Notes
 notes_of [] table = []
 notes_of (write ∷ writes) table = (write.0, item_at table write.0) ∷ notes_of writes (put_write table write)
 
--- the table with this under the key again: the item, or nothing
+-- the row of an item
+abbrev pub row_of : Item → Row
+row_of (Item.Record row) = row
+row_of (Item.Relation row) = row
+row_of (Item.Exception item) = item.0
+
+-- rows with this one under the key, or with none
+abbrev pub with_under : Rows → KeyTexts → Option Row → Rows
+with_under rows key (Some row) = insert rows key row
+with_under rows key None = remove rows key
+
+-- the table with this under the key again: the item's row, or nothing
 abbrev pub put_back : Table → RowKey × Option Item → Table
-put_back table (RowKey.Rec lei, Some (Item.Record row)) = record table { records = insert table.records (record_key lei) row }
-put_back table (RowKey.Rec lei, None) = record table { records = remove table.records (record_key lei) }
+put_back table (RowKey.Rec lei, item) = with_records table (with_under table.records (record_key lei) (option_map row_of item))
+put_back table (RowKey.Rel start kind end, item) = with_relations table (with_under table.relations (relation_key start kind end) (option_map row_of item))
+put_back table (RowKey.Exc lei category, item) = with_exceptions table (with_under table.exceptions (exception_key lei category) (option_map row_of item))
 
 -- the table with all of this put back, from the last note to the first
 abbrev pub undone : Notes → Table → Table
 undone [] table = table
 undone (note ∷ notes) table = put_back (undone notes table) note
 
--- The table was made by writes that were applied to a table that was kept, and these are the notes of it.
+-- The table was made by writes that were applied to a table that was kept, and these are the notes of it. Its exceptions
+-- and the notes are few enough to be counted together, and so are the exceptions with those that come back.
 pub record IsOfLast (notes : Notes) (table : Table) : Type 0 where
   pub before : Table
   pub kept : IsKept before
@@ -71,3 +92,4 @@ pub record IsOfLast (notes : Notes) (table : Table) : Type 0 where
   pub own : AreOwn writes
   pub noted : notes ≡ notes_of writes before
   pub made : table ≡ put_all writes before
+  pub few : exception_count table + length notes < 2 ^ 63

@@ -1,11 +1,16 @@
-//! The records that are held, as a plain list. Writes are put in order, and the last ones can be
-//! taken back without memory.
+//! The records, the relationships and the exceptions that are held, as plain lists. Writes are put in order, and the last
+//! ones can be taken back without memory.
 #![tactic(auto)]
 
 mod laws;
+mod lists;
+mod places;
 mod rows;
+mod single;
+mod slot;
 mod table;
 mod undo;
+mod writes;
 
 pub use laws::undone_writes_leave_the_table;
 pub use table::Table;

@@ -1,0 +1,71 @@
+//! What is put under a key, or was held there.
+ghost use Rattle.std.specs.Prelude.{◌≡◌, IfOk, map};
+ghost use Rattle.std.specs.List.{AllByRecursion};
+ghost use Rattle.register_table.specs.Slots.{IsSlot, note_of};
+ghost use Rattle.register_table.specs.Undos.{AreOwn, IsOwn};
+
+use crate::single::Single;
+use lei_code::Lei;
+use lei_outside::NoMemory;
+use lei_records::{ExceptionItem, Item, Record, Relation, RowKey};
+use lei_shapes::{ExceptionCategory, RelationType};
+use std::alloc::Global;
+
+/// A key with the row that is put under it, or that was held there, or with none. A withdrawn exception keeps its place in
+/// memory here, and so comes back without taking any.
+#[derive(Drop)]
+pub enum Slot {
+    Record(Lei, Option<Record>),
+    Relation(Lei, RelationType, Lei, Option<Relation>),
+    Exception(Lei, ExceptionCategory, Single<ExceptionItem>),
+}
+
+/// The slots of writes, in memory of their own.
+pub fn slots_of(alloc: Global, writes: &[(RowKey, Option<Item>)]) -> Result<Vec<Slot>, NoMemory>
+    requires own { AreOwn writes.now }
+    ensures slots { IfOk result (λ slots. map note_of slots.items ≡ writes.now) }
+    ensures own { IfOk result (λ slots. AllByRecursion IsSlot slots.items) }
+{
+    let mut slots = Vec::with_capacity(alloc, writes.len())?;
+    for (key, item) in writes {
+        slots.push(slot_of(alloc, key, item)?)?;
+    }
+    Ok(slots)
+}
+
+fn slot_of(alloc: Global, key: &RowKey, item: &Option<Item>) -> Result<Slot, NoMemory>
+    requires own { IsOwn (key.now, item.now) }
+    ensures slot { IfOk result (λ slot. note_of slot ≡ (key.now, item.now)) }
+    ensures own { IfOk result IsSlot }
+{
+    match item {
+        Some(item) => slot_of_item(alloc, item),
+        None => slot_of_none(alloc, key),
+    }
+}
+
+// An item under its own key.
+fn slot_of_item(alloc: Global, item: &Item) -> Result<Slot, NoMemory> {
+    match item {
+        Item::Record(record) => Ok(Slot::Record(record.lei(), Some(record.copy(alloc)?))),
+        Item::Relation(relation) => Ok(Slot::Relation(
+            relation.start(),
+            relation.kind(),
+            relation.end(),
+            Some(relation.copy(alloc)?),
+        )),
+        Item::Exception(exception) => Ok(Slot::Exception(
+            exception.lei(),
+            exception.category(),
+            Single::some(alloc, exception.copy(alloc)?)?,
+        )),
+    }
+}
+
+// Nothing under the key of an exception.
+fn slot_of_none(alloc: Global, key: &RowKey) -> Result<Slot, NoMemory> {
+    match key {
+        RowKey::Exc(lei, category) => Ok(Slot::Exception(*lei, *category, Single::none(alloc))),
+        _ => unreachable!(),
+    }
+}
