@@ -2,3 +2,4 @@ pub mod CellLemmas
 pub mod SheetLemmas
 pub mod Codes
 pub mod RowLemmas
+pub mod NameLemmas

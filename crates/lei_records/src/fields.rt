@@ -331,9 +331,6 @@ impl Need {
     pub fn may_stand(self, facts: Facts) -> bool
         ensures { result ≡ may_stand facts self }
     {
-        match self {
-            Need::WherePendingArchival => facts.archival,
-            _ => true,
-        }
+        facts.archival || self != Need::WherePendingArchival
     }
 }

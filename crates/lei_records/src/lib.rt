@@ -12,6 +12,8 @@ mod readying;
 mod record;
 mod relation;
 mod sheet;
+#[cfg(test)]
+mod tests;
 mod texts;
 mod view;
 
