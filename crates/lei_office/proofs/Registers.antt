@@ -76,7 +76,7 @@ put-fits : (table : Table) (limit : ℕ) (today : ℤ) (office : List ℕ) (item
     → record_count (put table (Item.Record item)) ≤ limit
 put-fits table limit today office item fits passes =
     let from_c20 = passing_behind (earlier_checks table today office item) (c20 (record_of table (lei_in item)) (is_full table limit) ∷ [])
-        (passing (checks table limit today office item) passes) in
+    (passing (checks table limit today office item) passes) in
     fits_with (row_at table (lei_in item)) (record_count table) limit (record_count (put table (Item.Record item))) fits (len-insert keys_total table.records (record_key (lei_in item)) item) from_c20.first
 
 -- ---- the items of an upload
@@ -147,8 +147,8 @@ none-named : (lei next : List ℕ) → Contains (successors_of no_records lei) n
 none-named lei next at =
     let empty : successors_of no_records lei ≡ [] = ap (λ row. option_to_list (option_and_then successor_in row)) (get-empty key_cmp (record_key lei)) in
     nothing next (subst (λ nexts. Contains nexts next) empty at) where
-  nothing : (next : List ℕ) → Contains [] next → ⊥
-  nothing next at = search rules
+      nothing : (next : List ℕ) → Contains [] next → ⊥
+      nothing next at = search rules
 
 none-fit : (limit : ℕ) → IsFit limit no_records
 none-fit limit = record {

@@ -247,7 +247,12 @@ fn a_retired_record_frees_its_authority_key(rt: HostRuntime) -> Result<(), Fail>
     let mut session = Session::new(rt.alloc());
     session.accredit(OFFICE)?;
     session.upload(OFFICE, 1, &[issued(A, "1001")], r#""ACCEPTED""#)?;
-    session.upload(OFFICE, 2, &[retired(issued(A, "1001"), "")], r#""ACCEPTED""#)?;
+    session.upload(
+        OFFICE,
+        2,
+        &[retired(issued(A, "1001"), "")],
+        r#""ACCEPTED""#,
+    )?;
     session.upload(OFFICE, 3, &[issued(B, "1001")], r#""ACCEPTED""#)?;
     session.upload(
         OFFICE,
@@ -338,7 +343,11 @@ fn a_successor_is_another_record_that_is_held(rt: HostRuntime) -> Result<(), Fai
 #[test]
 fn successors_do_not_go_round(rt: HostRuntime) -> Result<(), Fail> {
     let alloc = rt.alloc();
-    let (to_a, to_b, to_c) = (successor(alloc, A)?, successor(alloc, B)?, successor(alloc, C)?);
+    let (to_a, to_b, to_c) = (
+        successor(alloc, A)?,
+        successor(alloc, B)?,
+        successor(alloc, C)?,
+    );
     let held = [issued(A, "1001"), issued(B, "1002"), issued(C, "1003")];
     let turned = [
         retired(held[0], to_b.as_str()),
