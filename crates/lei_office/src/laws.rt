@@ -2,6 +2,7 @@
 ghost use Rattle.std.specs.Prelude.{◌≡◌, ℤ, List, Contains};
 ghost use Rattle.lei_records.specs.Tables.{IsSound};
 ghost use Rattle.successor_rules.specs.Successors.{HasChains};
+ghost use Rattle.relation_rules.specs.Parents.{AreApart, HasParents};
 ghost use Rattle.lei_office.specs.declared.reply.Refusal.TheVariants.{NoMemory};
 ghost use Rattle.lei_office.specs.declared.reply.Reply.{Reply};
 ghost use Rattle.lei_office.specs.declared.reply.Reply.TheVariants.{Words};
@@ -21,7 +22,8 @@ pub fn uploads_are_numbered()
     ensures { (office : OfficeState) → Legal office → UploadsAreNumbered office.history }
 {}
 
-/// In a register that can come about no two live records have the same authority key.
+/// In a register that can come about no two live records have the same authority key, and no two active relationships
+/// the same start and type.
 pub fn registers_are_sound()
     ensures { (office : OfficeState) → Legal office → IsSound (after office.limits office.history) }
 {}
@@ -29,6 +31,17 @@ pub fn registers_are_sound()
 /// In a register that can come about each successor that a record names is held, and each chain of successors ends.
 pub fn successors_are_chained()
     ensures { (office : OfficeState) → Legal office → HasChains (after office.limits office.history) }
+{}
+
+/// In a register that can come about each chain of direct parents ends. For one start and type at most one relationship
+/// is active, which is part of a sound table.
+pub fn parents_are_chained()
+    ensures { (office : OfficeState) → Legal office → HasParents (after office.limits office.history) }
+{}
+
+/// In a register that can come about no active parent stands beside the exception of its category.
+pub fn exceptions_stand_apart()
+    ensures { (office : OfficeState) → Legal office → AreApart (after office.limits office.history) }
 {}
 
 /// In a history that can come about each change of a record was permitted to the office that sent it.

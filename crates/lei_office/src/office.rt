@@ -4,6 +4,7 @@ ghost use Rattle.lei_code.specs.Code.{IsValid};
 ghost use Rattle.lei_shapes.specs.Moment.{IsMoment};
 ghost use Rattle.lei_records.specs.Tables.{IsSound, row_at};
 ghost use Rattle.successor_rules.specs.Successors.{HasChains};
+ghost use Rattle.relation_rules.specs.Parents.{AreApart, HasParents};
 ghost use Rattle.upload_format.specs.Bodies.{upload as items_of};
 ghost use Rattle.lei_office.specs.History.{History, accredited};
 ghost use Rattle.lei_office.specs.Replies.{Comes, Step, json_reply, outcome_at, show_outcome, accreditation, accredit_outcome, upload_entry, body_outcome, upload_outcome};
@@ -85,6 +86,8 @@ impl Office {
         ensures legal { Legal self.new }
         ensures sound { IsSound (after self.new.limits self.new.history) }
         ensures chained { HasChains (after self.new.limits self.new.history) }
+        ensures parents { HasParents (after self.new.limits self.new.history) }
+        ensures apart { AreApart (after self.new.limits self.new.history) }
         ensures permitted { ChangesArePermitted self.new }
     {
         let moment = stamp(self.entries.as_slice(), moment);

@@ -37,5 +37,11 @@ returns-clause-sound g c = (after-fit c.self.inside.limits c.reply_to.new.entrie
 pub returns-clause-chained : goal.returns-clause-chained
 returns-clause-chained g c = (after-fit c.self.inside.limits c.reply_to.new.entries.items).chains
 
+pub returns-clause-parents : goal.returns-clause-parents
+returns-clause-parents g c = (after-fit c.self.inside.limits c.reply_to.new.entries.items).parents
+
+pub returns-clause-apart : goal.returns-clause-apart
+returns-clause-apart g c = (after-fit c.self.inside.limits c.reply_to.new.entries.items).apart
+
 pub returns-clause-permitted : goal.returns-clause-permitted
 returns-clause-permitted g c = all_permitted (office_of c.self.inside.limits c.reply_to.new.entries.items)
