@@ -106,6 +106,10 @@ fn run_lines<R: Threads + Sync, S: Source, W: Sink, C: Clock>(
 }
 
 #[cfg(test)]
+mod parents;
+#[cfg(test)]
 mod rows;
+#[cfg(test)]
+mod sessions;
 #[cfg(test)]
 mod tests;
