@@ -14,7 +14,7 @@ mod texts;
 
 pub use laws::{
     changes_are_permitted, moments_never_fall, registers_are_sound, sessions_are_exact,
-    uploads_are_numbered,
+    successors_are_chained, uploads_are_numbered,
 };
 pub use ledger::{ACCREDIT, RULES, UPLOAD};
 pub use limits::Limits;
