@@ -16,7 +16,7 @@ use Rattle.lei_shapes.specs.Moment.{IsMoment, day_of}
 use Rattle.register_judge.specs.Taking.{take}
 use Rattle.register_judge.specs.declared.outcome.Verdict.{Verdict}
 use Rattle.register_judge.proofs.TakingLemmas.{take-written}
-use Rattle.register_table.specs.Lists.{no_records}
+use Rattle.register_table.specs.Lists.{no_rows}
 use Rattle.lei_office.specs.declared.limits.Limits.{Limits}
 use Rattle.lei_office.specs.declared.request.Call.{Call}
 use Rattle.lei_office.specs.declared.request.Request.{Request}
@@ -34,7 +34,7 @@ use Rattle.lei_office.specs.State.{OfficeState, office_of, opened}
 
 pub after-push : (limits : Limits) (history : History) (e : KeptEntry) → after limits (history ++ e ∷ []) ≡ after_entry limits (after limits history) e
 unfolding after
-after-push limits history e = fold-append (after_entry limits) no_records history (e ∷ [])
+after-push limits history e = fold-append (after_entry limits) no_rows history (e ∷ [])
 
 -- the entry of an upload puts what its items write
 pub after-upload : (limits : Limits) (history : History) (call : Call) (moment : ℤ) (raws : List RawItem) (verdicts : List Verdict) → upload call.body ≡ Ok raws

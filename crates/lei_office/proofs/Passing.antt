@@ -12,7 +12,8 @@ use Rattle.lei_records.specs.declared.view.RecCell.{RecCell}
 use Rattle.status_rules.specs.Statuses.{is_issued}
 use Rattle.status_rules.specs.Transitions.{party}
 use Rattle.status_rules.specs.declared.transitions.Party.{Party}
-use Rattle.register_judge.specs.Checks.{Line, first_failing, checks, is_another, c09, c10, c11, c12}
+use Rattle.lei_records.specs.Lines.{Line, first_failing}
+use Rattle.register_judge.specs.Checks.{checks, is_another, c09, c10, c11, c12}
 use Rattle.register_judge.specs.Taking.{verdict_of}
 use Rattle.register_judge.specs.declared.outcome.Verdict.{Verdict}
 use Rattle.lei_office.specs.Parties.{IsPermitted, ChangesArePermitted}

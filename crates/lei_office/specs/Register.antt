@@ -9,7 +9,7 @@ use Rattle.lei_records.specs.Tables.{Table}
 use Rattle.lei_records.specs.declared.item.RawItem.{RawItem}
 use Rattle.lei_records.specs.declared.item.Readied.{Readied}
 use Rattle.register_judge.specs.Taking.{Taken, take}
-use Rattle.register_table.specs.Lists.{no_records}
+use Rattle.register_table.specs.Lists.{no_rows}
 use Rattle.lei_office.specs.declared.ledger.TheConstants.{UPLOAD}
 use Rattle.lei_office.specs.declared.limits.Limits.{Limits}
 use Rattle.lei_office.specs.History.{History}
@@ -33,4 +33,4 @@ after_entry limits table e = if e.kind == UPLOAD then (take_items limits table e
 
 -- the table after a history, from the one without records
 unfoldable pub after : Limits → History → Table
-after limits history = fold (after_entry limits) no_records history
+after limits history = fold (after_entry limits) no_rows history
