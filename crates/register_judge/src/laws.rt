@@ -21,14 +21,15 @@ pub fn writes_make_the_table()
         → (take table limit today office items).table ≡ put_all (take table limit today office items).writes table }
 {}
 
-/// A record that passes the checks of its successor on a table leaves each successor held and each chain ending.
+/// Where each successor that a table's records name is held and each chain ends, this still holds after a record was put
+/// that passes the checks of its successor.
 pub fn accepted_successors_keep_chains()
     ensures { (table : Table) (row : Row) → HasChains table
         → first_failing (successor_checks table row (successor_in row)) ≡ None
         → HasChains (put table (Item.Record row)) }
 {}
 
-/// So do items, whatever they are.
+/// It still holds behind items, whatever they are.
 pub fn items_keep_chains()
     ensures { (table : Table) (limit : ℕ) (today : ℤ) (office : List ℕ) (items : List Readied)
         → HasChains table → HasChains (take table limit today office items).table }
