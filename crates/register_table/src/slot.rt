@@ -1,8 +1,9 @@
 //! What is put under a key, or was held there.
-ghost use Rattle.std.specs.Prelude.{◌≡◌, IfOk, map};
+ghost use Rattle.std.specs.Prelude.{◌≡◌, Some, None, false, IfOk, map};
 ghost use Rattle.std.specs.List.{AllByRecursion};
+ghost use Rattle.lei_records.specs.Tables.{row_key};
 ghost use Rattle.register_table.specs.Slots.{IsSlot, note_of};
-ghost use Rattle.register_table.specs.Undos.{AreOwn, IsOwn};
+ghost use Rattle.register_table.specs.Undos.{AreOwn, IsOwn, is_withdrawal};
 
 use crate::single::Single;
 use lei_code::Lei;
@@ -45,7 +46,11 @@ fn slot_of(alloc: Global, key: &RowKey, item: &Option<Item>) -> Result<Slot, NoM
 }
 
 // An item under its own key.
-fn slot_of_item(alloc: Global, item: &Item) -> Result<Slot, NoMemory> {
+fn slot_of_item(alloc: Global, item: &Item) -> Result<Slot, NoMemory>
+    requires put { is_withdrawal item.now ≡ false }
+    ensures slot { IfOk result (λ slot. note_of slot ≡ (row_key item.now, Some item.now)) }
+    ensures own { IfOk result IsSlot }
+{
     match item {
         Item::Record(record) => Ok(Slot::Record(record.lei(), Some(record.copy(alloc)?))),
         Item::Relation(relation) => Ok(Slot::Relation(
@@ -63,7 +68,11 @@ fn slot_of_item(alloc: Global, item: &Item) -> Result<Slot, NoMemory> {
 }
 
 // Nothing under the key of an exception.
-fn slot_of_none(alloc: Global, key: &RowKey) -> Result<Slot, NoMemory> {
+fn slot_of_none(alloc: Global, key: &RowKey) -> Result<Slot, NoMemory>
+    requires own { IsOwn (key.now, None) }
+    ensures slot { IfOk result (λ slot. note_of slot ≡ (key.now, None)) }
+    ensures own { IfOk result IsSlot }
+{
     match key {
         RowKey::Exc(lei, category) => Ok(Slot::Exception(*lei, *category, Single::none(alloc))),
         _ => unreachable!(),
