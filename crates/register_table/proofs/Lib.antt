@@ -7,3 +7,5 @@ mod ValueLemmas
 mod PartLemmas
 mod TableLemmas
 pub mod UndoLemmas
+mod WriteLemmas
+pub mod KeptLemmas
