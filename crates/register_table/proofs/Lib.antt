@@ -1,7 +1,11 @@
-mod ListLemmas
+mod KeyLemmas
 mod MapLemmas
-pub mod TableLemmas
-mod HolderLemmas
+mod ListLemmas
+mod ExchangeLemmas
+mod HeldLemmas
+mod ValueLemmas
+mod PartLemmas
+mod TableLemmas
 pub mod UndoLemmas
+mod WriteLemmas
 pub mod KeptLemmas
-mod TestLemmas

@@ -1,15 +1,20 @@
--- Lists whose items have a key each, seen as maps: what is found, put in its place, pushed and taken out.
-use Rattle.std.specs.Prelude.{◌≡◌, ℕ, suc, ◌+◌, ◌-◌, ◌<◌, ◌≤◌, Bool, true, false, not, cond, List, [], ◌∷◌, ◌++◌, map, length, take, drop, set, find, position, slice_index_or, Option, Some, None, is_some}
-use Rattle.std.specs.Cmp.{IsTotalOrder, tied_itself}
-use Rattle.std.specs.FinMap.{FinMap, IsAntisymmetric, get, insert, remove, len, contains_key, from_entries, get-empty, get-insert, get-remove, len-empty, len-insert, len-remove, same_map}
+-- Lists whose items have a key each, seen as rows under their keys: what is found, changed, added and taken out.
+use Rattle.std.specs.Prelude.{◌≡◌, ℕ, suc, ◌+◌, ◌-◌, ◌<◌, ◌≤◌, Bool, true, false, not, cond, List, [], ◌∷◌, ◌++◌, map, length, take, drop, set, find, position, slice_get, Option, Some, None, IfSome, is_some, option_map, option_to_list}
+use Rattle.std.specs.FinMap.{get, insert, remove, len, contains_key, from_entries, get-empty, get-insert, len-empty, len-insert, len-remove, same_map, values}
 use Rattle.std.specs.List.{position_or_len}
-use Rattle.std.specs.Ordering.{eq_by_cmp, is_eq}
-use Rattle.std.specs.declared.cmp.Ordering.{Ordering}
-use Rattle.std.specs.declared.cmp.Ordering.TheVariants.{Less, Equal, Greater}
+use Rattle.std.specs.Ordering.{eq_by_cmp}
 use Rattle.std.proofs.Common.{refl, sym, ap, subst, ◌∙◌, arith, rules, ltb}
 use Rattle.std.proofs.lemmas.Grind.{common_steps}
 use Rattle.std.proofs.lemmas.Bool.Decides.{nat_tests}
 use mathlib.Core.Bool.{true≢false}
+use Rattle.lei_records.specs.Rows.{Row}
+use Rattle.lei_records.specs.Tables.{KeyTexts, Rows, key_cmp}
+use Rattle.authority_rules.proofs.HolderLemmas.{keys_total, same_key}
+use Rattle.authority_rules.proofs.MapLemmas.{find-values, values-find}
+use Rattle.register_table.specs.Lists.{exchanged, remaining, rows_under, standing, without}
+use Rattle.register_table.specs.Undos.{with_under}
+use Rattle.register_table.proofs.KeyLemmas.{has_key, keys_antisymmetric}
+use Rattle.register_table.proofs.MapLemmas.{get-with_under, own_key}
 
 -- ---- places
 
@@ -57,23 +62,22 @@ some_found test (x ∷ xs) within =
       | false ↦ λ below. some_found test xs (omega arith)
     ] within
 
-get_behind : {X : Type 0} (x d : X) (xs : List X) (n : ℕ) → slice_index_or (x ∷ xs) (1 + n) d ≡ slice_index_or xs n d
-get_behind x d xs n = let e : 1 + n ≡ suc n = omega arith in ap (λ k. slice_index_or (x ∷ xs) k d) e
+get_behind : {X : Type 0} (x : X) (xs : List X) (n : ℕ) → slice_get (x ∷ xs) (1 + n) ≡ slice_get xs n
+get_behind x xs n = let e : 1 + n ≡ suc n = omega arith in ap (slice_get (x ∷ xs)) e
 
-find_place : {X : Type 0} (test : X → Bool) (xs : List X) (d : X) → place test xs < length xs → find test xs ≡ Some (slice_index_or xs (place test xs) d)
-find_place test [] d within = absurd (omega arith)
-find_place test (x ∷ xs) d within =
+find_place : {X : Type 0} (test : X → Bool) (xs : List X) → place test xs < length xs → find test xs ≡ slice_get xs (place test xs)
+find_place test [] within = absurd (omega arith)
+find_place test (x ∷ xs) within =
     elim (test x) as (λ b. cond (not b) (1 + place test xs) 0 < suc (length xs)
-    → cond b (Some x) (find test xs) ≡ Some (slice_index_or (x ∷ xs) (cond (not b) (1 + place test xs) 0) d)) [
+    → cond b (Some x) (find test xs) ≡ slice_get (x ∷ xs) (cond (not b) (1 + place test xs) 0)) [
       | true ↦ λ _. refl
-      | false ↦ λ below. find_place test xs d (omega arith) ∙ ap Some (sym (get_behind x d xs (place test xs)))
+      | false ↦ λ below. find_place test xs (omega arith) ∙ sym (get_behind x xs (place test xs))
     ] within
 
 -- what stands at the place is found
-pub find-at : {X : Type 0} (test : X → Bool) (xs : List X) (at : ℕ) (d : X) → position test xs ≡ Some at → find test xs ≡ Some (slice_index_or xs at d)
-find-at test xs at d is =
-    let p = placed test xs at is in
-    find_place test xs d p.1 ∙ ap (λ n. Some (slice_index_or xs n d)) p.0
+pub standing-find : {X : Type 0} (test : X → Bool) (xs : List X) (at : Option ℕ) → position test xs ≡ at → standing at xs ≡ find test xs
+standing-find test xs None is = sym (unplaced test xs is)
+standing-find test xs (Some at) is = let p = placed test xs at is in ap (slice_get xs) (sym p.0) ∙ sym (find_place test xs p.1)
 
 -- what is found passes
 pub find-passes : {X : Type 0} (test : X → Bool) (xs : List X) (x : X) → find test xs ≡ Some x → test x ≡ true
@@ -102,12 +106,12 @@ find-other test other (y ∷ ys) x found passes none =
 set_behind : {X : Type 0} (x new : X) (xs : List X) (n : ℕ) → set (x ∷ xs) (1 + n) new ≡ x ∷ set xs n new
 set_behind x new xs n = let e : 1 + n ≡ suc n = omega arith in ap (λ k. set (x ∷ xs) k new) e
 
--- the list without the item at a place
-abbrev pub without : {X : Type 0} → List X → ℕ → List X
-without xs n = take n xs ++ drop (suc n) xs
-
 without_behind : {X : Type 0} (x : X) (xs : List X) (n : ℕ) → without (x ∷ xs) (1 + n) ≡ x ∷ without xs n
 without_behind x xs n = let e : 1 + n ≡ suc n = omega arith in ap (without (x ∷ xs)) e
+
+no_more_items : {X : Type 0} (xs : List X) → xs ++ [] ≡ xs
+no_more_items [] = refl
+no_more_items (x ∷ xs) = ap (λ ys. x ∷ ys) (no_more_items xs)
 
 length_push : {X : Type 0} (xs : List X) (new : X) → length (xs ++ new ∷ []) ≡ length xs + 1
 length_push [] new = refl
@@ -115,6 +119,9 @@ length_push (x ∷ xs) new = let rest = length_push xs new in omega (arith, rest
 
 length-set : {X : Type 0} (xs : List X) (n : ℕ) (new : X) → length (set xs n new) ≡ length xs
 length-set xs n new = search rules
+
+length-without : {X : Type 0} (xs : List X) (n : ℕ) → n < length xs → length (without xs n) ≡ length xs - 1
+length-without xs n within = grind (arith, common_steps)
 
 -- ---- tests in two orders
 
@@ -127,89 +134,120 @@ swapped true true x y z apart = absurd (true≢false (apart refl))
 swapped true false x y z apart = refl
 swapped false b x y z apart = refl
 
-pub tied : (r : Ordering) → is_eq r ≡ true → r ≡ Equal
-tied Less p = cc
-tied Equal p = refl
-tied Greater p = cc
+mapped : {A B : Type 0} (f : A → B) (b : Bool) (x y : Option A) → option_map f (cond b x y) ≡ cond b (option_map f x) (option_map f y)
+mapped f true x y = refl
+mapped f false x y = refl
 
-module _ {K X : Type 0} {R : K → K → Ordering} (o : IsTotalOrder R) (same : IsAntisymmetric R) (key : X → K) where
-  -- the items under their keys, and of two with one key the first
-  abbrev pub map_of : List X → FinMap R X
-  map_of xs = from_entries {R = R} (map (λ x. (key x, x)) xs)
+none_mapped : {A B : Type 0} (f : A → B) (o : Option A) → is_some (option_map f o) ≡ false → o ≡ None
+none_mapped f None is = refl
+none_mapped f (Some x) is = absurd (true≢false is)
 
-  abbrev pub has_key : K → X → Bool
-  has_key k x = eq_by_cmp R k (key x)
+some_mapped : {A B : Type 0} (f : A → B) (o : Option A) → is_some (option_map f o) ≡ is_some o
+some_mapped f None = refl
+some_mapped f (Some x) = refl
 
-  same_key : (a b : K) → eq_by_cmp R a b ≡ true → a ≡ b
-  same_key a b t = same a b (tied (R a b) t)
+pub mapped_itself : {A : Type 0} (o : Option A) → option_map (λ x. x) o ≡ o
+mapped_itself None = refl
+mapped_itself (Some x) = refl
 
-  -- what is held under a key is what a search finds
-  pub get-map_of : (xs : List X) (q : K) → get (map_of xs) q ≡ find (has_key q) xs
-  get-map_of [] q = get-empty R q
-  get-map_of (x ∷ xs) q = get-insert o (map_of xs) (key x) x q ∙ ap (cond (eq_by_cmp R q (key x)) (Some x)) (get-map_of xs q)
+module _ {X : Type 0} (key : X → KeyTexts) (row : X → Row) where
+  -- ---- what is held under a key is what a search finds
 
-  map_by : (xs : List X) (m : FinMap R X) → ((q : K) → find (has_key q) xs ≡ get m q) → map_of xs ≡ m
-  map_by xs m is = same_map o same (map_of xs) m (λ q. get-map_of xs q ∙ is q)
+  pub get-rows_under : (xs : List X) (q : KeyTexts) → get (rows_under key row xs) q ≡ option_map row (find (has_key key q) xs)
+  unfolding rows_under
+  get-rows_under [] q = get-empty key_cmp q
+  get-rows_under (x ∷ xs) q =
+      get-insert keys_total (rows_under key row xs) (key x) (row x) q
+      ∙ (ap (cond (has_key key q x) (Some (row x))) (get-rows_under xs q)
+      ∙ sym (mapped row (has_key key q x) (Some x) (find (has_key key q) xs)))
 
-  -- ---- the item is set in the place of the one with its key
+  rows_by : (xs : List X) (m : Rows) → ((q : KeyTexts) → option_map row (find (has_key key q) xs) ≡ get m q) → rows_under key row xs ≡ m
+  rows_by xs m is = same_map keys_total keys_antisymmetric (rows_under key row xs) m (λ q. get-rows_under xs q ∙ is q)
 
-  find-set : (xs : List X) (new : X) (q : K) → place (has_key (key new)) xs < length xs
-      → find (has_key q) (set xs (place (has_key (key new)) xs) new) ≡ cond (has_key q new) (Some new) (find (has_key q) xs)
+  rows_first : (x : X) (xs : List X) → rows_under key row (x ∷ xs) ≡ insert (rows_under key row xs) (key x) (row x)
+  unfolding rows_under
+  rows_first x xs = refl
+
+  rows_none : len (rows_under key row []) ≡ 0
+  unfolding rows_under
+  rows_none = len-empty key_cmp Row
+
+  -- ---- what a list finds after a change under one key
+
+  abbrev Changes : KeyTexts → Option X → List X → List X → Type 0
+  Changes k new xs ys = (q : KeyTexts) → find (has_key key q) ys ≡ cond (eq_by_cmp key_cmp q k) new (find (has_key key q) xs)
+
+  changed : (k : KeyTexts) (new : Option X) (xs ys : List X) → Changes k new xs ys → rows_under key row ys ≡ with_under (rows_under key row xs) k (option_map row new)
+  changed k new xs ys is =
+      rows_by ys (with_under (rows_under key row xs) k (option_map row new))
+      (λ q. ap (option_map row) (is q)
+      ∙ (mapped row (eq_by_cmp key_cmp q k) new (find (has_key key q) xs)
+      ∙ (ap (cond (eq_by_cmp key_cmp q k) (option_map row new)) (sym (get-rows_under xs q))
+      ∙ sym (get-with_under (rows_under key row xs) k (option_map row new) q))))
+
+  changes-twice : (k : KeyTexts) (first second : Option X) (xs ys zs : List X) → Changes k first xs ys → Changes k second ys zs → Changes k second xs zs
+  changes-twice k first second xs ys zs one two =
+      λ q. two q ∙ (ap (cond (eq_by_cmp key_cmp q k) second) (one q) ∙ sym (shadowed (eq_by_cmp key_cmp q k) second first (find (has_key key q) xs)))
+
+  find-set : (xs : List X) (new : X) (q : KeyTexts) → place (has_key key (key new)) xs < length xs
+      → find (has_key key q) (set xs (place (has_key key (key new)) xs) new) ≡ cond (has_key key q new) (Some new) (find (has_key key q) xs)
   find-set [] new q within = absurd (omega arith)
   find-set (x ∷ xs) new q within =
-      elim (has_key (key new) x) as (λ b. has_key (key new) x ≡ b → cond (not b) (1 + place (has_key (key new)) xs) 0 < suc (length xs)
-      → find (has_key q) (set (x ∷ xs) (cond (not b) (1 + place (has_key (key new)) xs) 0) new) ≡ cond (has_key q new) (Some new) (cond (has_key q x) (Some x) (find (has_key q) xs))) [
+      elim (has_key key (key new) x) as (λ b. has_key key (key new) x ≡ b → cond (not b) (1 + place (has_key key (key new)) xs) 0 < suc (length xs)
+      → find (has_key key q) (set (x ∷ xs) (cond (not b) (1 + place (has_key key (key new)) xs) 0) new) ≡ cond (has_key key q new) (Some new) (cond (has_key key q x) (Some x) (find (has_key key q) xs))) [
         | true ↦ λ t _.
-            let alike : has_key q new ≡ has_key q x = ap (eq_by_cmp R q) (same_key (key new) (key x) t) in
-            shadowed (has_key q new) (Some new) (Some x) (find (has_key q) xs)
-            ∙ ap (λ b. cond (has_key q new) (Some new) (cond b (Some x) (find (has_key q) xs))) alike
+            let alike : has_key key q new ≡ has_key key q x = ap (eq_by_cmp key_cmp q) (same_key (key new) (key x) t) in
+            shadowed (has_key key q new) (Some new) (Some x) (find (has_key key q) xs)
+            ∙ ap (λ b. cond (has_key key q new) (Some new) (cond b (Some x) (find (has_key key q) xs))) alike
         | false ↦ λ t below.
-            ap (find (has_key q)) (set_behind x new xs (place (has_key (key new)) xs))
-            ∙ (ap (cond (has_key q x) (Some x)) (find-set xs new q (omega arith))
-            ∙ swapped (has_key q x) (has_key q new) (Some x) (Some new) (find (has_key q) xs)
-            (λ s. ap (λ k. has_key k x) (same_key q (key new) s) ∙ t))
+            ap (find (has_key key q)) (set_behind x new xs (place (has_key key (key new)) xs))
+            ∙ (ap (cond (has_key key q x) (Some x)) (find-set xs new q (omega arith))
+            ∙ swapped (has_key key q x) (has_key key q new) (Some x) (Some new) (find (has_key key q) xs)
+            (λ s. ap (λ k. has_key key k x) (same_key q (key new) s) ∙ t))
       ] refl within
 
-  pub map_of-set : (xs : List X) (new : X) (at : ℕ) → position (has_key (key new)) xs ≡ Some at → map_of (set xs at new) ≡ insert (map_of xs) (key new) new
-  map_of-set xs new at is =
-      let p = placed (has_key (key new)) xs at is in
-      ap (λ n. map_of (set xs n new)) (sym p.0)
-      ∙ map_by (set xs (place (has_key (key new)) xs) new) (insert (map_of xs) (key new) new)
-      (λ q. find-set xs new q p.1 ∙ sym (get-insert o (map_of xs) (key new) new q ∙ ap (cond (has_key q new) (Some new)) (get-map_of xs q)))
+  changes-set : (xs : List X) (new : X) (at : ℕ) → position (has_key key (key new)) xs ≡ Some at → Changes (key new) (Some new) xs (set xs at new)
+  changes-set xs new at is =
+      let p = placed (has_key key (key new)) xs at is in
+      λ q. ap (λ n. find (has_key key q) (set xs n new)) (sym p.0) ∙ find-set xs new q p.1
 
-  -- ---- the item is pushed where none has its key
-
-  find-push : (xs : List X) (new : X) (q : K) → find (has_key (key new)) xs ≡ None
-      → find (has_key q) (xs ++ new ∷ []) ≡ cond (has_key q new) (Some new) (find (has_key q) xs)
+  find-push : (xs : List X) (new : X) (q : KeyTexts) → find (has_key key (key new)) xs ≡ None
+      → find (has_key key q) (xs ++ new ∷ []) ≡ cond (has_key key q new) (Some new) (find (has_key key q) xs)
   find-push [] new q none = refl
   find-push (x ∷ xs) new q none =
-      elim (has_key (key new) x) as (λ b. has_key (key new) x ≡ b → cond b (Some x) (find (has_key (key new)) xs) ≡ None
-      → find (has_key q) ((x ∷ xs) ++ new ∷ []) ≡ cond (has_key q new) (Some new) (cond (has_key q x) (Some x) (find (has_key q) xs))) [
+      elim (has_key key (key new) x) as (λ b. has_key key (key new) x ≡ b → cond b (Some x) (find (has_key key (key new)) xs) ≡ None
+      → find (has_key key q) ((x ∷ xs) ++ new ∷ []) ≡ cond (has_key key q new) (Some new) (cond (has_key key q x) (Some x) (find (has_key key q) xs))) [
         | true ↦ λ t is. cc
         | false ↦ λ t is.
-            ap (cond (has_key q x) (Some x)) (find-push xs new q is)
-            ∙ swapped (has_key q x) (has_key q new) (Some x) (Some new) (find (has_key q) xs)
-            (λ s. ap (λ k. has_key k x) (same_key q (key new) s) ∙ t)
+            ap (cond (has_key key q x) (Some x)) (find-push xs new q is)
+            ∙ swapped (has_key key q x) (has_key key q new) (Some x) (Some new) (find (has_key key q) xs)
+            (λ s. ap (λ k. has_key key k x) (same_key q (key new) s) ∙ t)
       ] refl none
 
-  pub map_of-push : (xs : List X) (new : X) → position (has_key (key new)) xs ≡ None → map_of (xs ++ new ∷ []) ≡ insert (map_of xs) (key new) new
-  map_of-push xs new is =
-      map_by (xs ++ new ∷ []) (insert (map_of xs) (key new) new)
-      (λ q. find-push xs new q (unplaced (has_key (key new)) xs is)
-      ∙ sym (get-insert o (map_of xs) (key new) new q ∙ ap (cond (has_key q new) (Some new)) (get-map_of xs q)))
+  nothing_there : (q k : KeyTexts) (xs : List X) (b : Bool) → find (has_key key k) xs ≡ None → eq_by_cmp key_cmp q k ≡ b → find (has_key key q) xs ≡ cond b None (find (has_key key q) xs)
+  nothing_there q k xs true none t = ap (λ j. find (has_key key j) xs) (same_key q k t) ∙ none
+  nothing_there q k xs false none t = refl
+
+  changes-join : (k : KeyTexts) (new : Option X) (xs : List X) → IfSome new (λ x. key x ≡ k) → find (has_key key k) xs ≡ None → Changes k new xs (xs ++ option_to_list new)
+  changes-join k None xs own none = λ q. ap (find (has_key key q)) (no_more_items xs) ∙ nothing_there q k xs (eq_by_cmp key_cmp q k) none refl
+  changes-join k (Some x) xs own none =
+      subst (λ j. find (has_key key j) xs ≡ None → Changes j (Some x) xs (xs ++ x ∷ [])) own (λ is q. find-push xs x q is) none
 
   -- ---- no key stands twice
 
   abbrev pub IsOnce : List X → Type 0
-  IsOnce xs = len (map_of xs) ≡ length xs
+  IsOnce xs = len (rows_under key row xs) ≡ length xs
 
-  no_more : (xs : List X) → len (map_of xs) ≤ length xs
-  no_more [] = let e = len-empty R X in omega (arith, e)
+  len_first : (x : X) (xs : List X)
+      → len (rows_under key row (x ∷ xs)) ≡ cond (contains_key (rows_under key row xs) (key x)) (len (rows_under key row xs)) (len (rows_under key row xs) + 1)
+  len_first x xs = ap len (rows_first x xs) ∙ len-insert keys_total (rows_under key row xs) (key x) (row x)
+
+  no_more : (xs : List X) → len (rows_under key row xs) ≤ length xs
+  no_more [] = let e = rows_none in omega (arith, e)
   no_more (x ∷ xs) =
-      let e = len-insert o (map_of xs) (key x) x in
       let rest = no_more xs in
-      subst (λ n. n ≤ suc (length xs)) (sym e)
-      (elim (contains_key (map_of xs) (key x)) as (λ b. cond b (len (map_of xs)) (len (map_of xs) + 1) ≤ suc (length xs)) [
+      subst (λ n. n ≤ suc (length xs)) (sym (len_first x xs))
+      (elim (contains_key (rows_under key row xs) (key x)) as (λ b. cond b (len (rows_under key row xs)) (len (rows_under key row xs) + 1) ≤ suc (length xs)) [
         | true ↦ omega (arith, rest)
         | false ↦ omega (arith, rest)
       ])
@@ -218,96 +256,144 @@ module _ {K X : Type 0} {R : K → K → Ordering} (o : IsTotalOrder R) (same : 
   apart_by true n m below is = absurd (omega arith)
   apart_by false n m below is = (omega arith, refl)
 
-  no_some : (found : Option X) → is_some found ≡ false → found ≡ None
-  no_some None is = refl
-  no_some (Some x) is = absurd (true≢false is)
-
   -- the key of the first isn't found behind it, where none stands twice either
-  pub IsOnce-tail : (x : X) (xs : List X) → IsOnce (x ∷ xs) → IsOnce xs × (find (has_key (key x)) xs ≡ None)
+  IsOnce-tail : (x : X) (xs : List X) → IsOnce (x ∷ xs) → IsOnce xs × (find (has_key key (key x)) xs ≡ None)
   IsOnce-tail x xs once =
-      let parts = apart_by (contains_key (map_of xs) (key x)) (len (map_of xs)) (length xs) (no_more xs) (sym (len-insert o (map_of xs) (key x) x) ∙ once) in
-      (parts.0, sym (get-map_of xs (key x)) ∙ no_some (get (map_of xs) (key x)) parts.1)
+      let parts = apart_by (contains_key (rows_under key row xs) (key x)) (len (rows_under key row xs)) (length xs) (no_more xs) (sym (len_first x xs) ∙ once) in
+      (parts.0, none_mapped row (find (has_key key (key x)) xs) (ap is_some (sym (get-rows_under xs (key x))) ∙ parts.1))
 
   -- what any search finds is found under its key, where none stands twice
-  pub find-own : (test : X → Bool) (xs : List X) (x : X) → IsOnce xs → find test xs ≡ Some x → find (has_key (key x)) xs ≡ Some x
+  pub find-own : (test : X → Bool) (xs : List X) (x : X) → IsOnce xs → find test xs ≡ Some x → find (has_key key (key x)) xs ≡ Some x
   find-own test [] x once found = cc
   find-own test (y ∷ ys) x once found =
       let tail = IsOnce-tail y ys once in
-      elim (test y) as (λ b. cond b (Some y) (find test ys) ≡ Some x → cond (has_key (key x) y) (Some y) (find (has_key (key x)) ys) ≡ Some x) [
+      elim (test y) as (λ b. cond b (Some y) (find test ys) ≡ Some x → cond (has_key key (key x) y) (Some y) (find (has_key key (key x)) ys) ≡ Some x) [
         | true ↦ λ is.
             let same : y ≡ x = cc in
-            let own : has_key (key x) y ≡ true = ap (λ z. eq_by_cmp R (key z) (key y)) (sym same) ∙ ap is_eq (tied_itself o (key y)) in
-            ap (λ b. cond b (Some y) (find (has_key (key x)) ys)) own ∙ is
+            let own : has_key key (key x) y ≡ true = ap (λ z. eq_by_cmp key_cmp (key z) (key y)) (sym same) ∙ own_key (key y) in
+            ap (λ b. cond b (Some y) (find (has_key key (key x)) ys)) own ∙ is
         | false ↦ λ is.
             let later = find-own test ys x tail.0 is in
-            elim (has_key (key x) y) as (λ b. has_key (key x) y ≡ b → cond b (Some y) (find (has_key (key x)) ys) ≡ Some x) [
+            elim (has_key key (key x) y) as (λ b. has_key key (key x) y ≡ b → cond b (Some y) (find (has_key key (key x)) ys) ≡ Some x) [
               | true ↦ λ t.
                   let same : key x ≡ key y = same_key (key x) (key y) t in
-                  let none : find (has_key (key x)) ys ≡ None = ap (λ k. find (has_key k) ys) same ∙ tail.1 in
+                  let none : find (has_key key (key x)) ys ≡ None = ap (λ k. find (has_key key k) ys) same ∙ tail.1 in
                   let clash : Some x ≡ None = sym later ∙ none in
                   cc
               | false ↦ λ _. later
             ] refl
       ] found
 
-  contained : (xs : List X) (k : K) → place (has_key k) xs < length xs → contains_key (map_of xs) k ≡ true
-  contained xs k within = ap is_some (get-map_of xs k) ∙ some_found (has_key k) xs within
-
-  pub IsOnce-set : (xs : List X) (new : X) (at : ℕ) → position (has_key (key new)) xs ≡ Some at → IsOnce xs → IsOnce (set xs at new)
-  IsOnce-set xs new at is once =
-      let p = placed (has_key (key new)) xs at is in
-      ap len (map_of-set xs new at is)
-      ∙ (len-insert o (map_of xs) (key new) new
-      ∙ (ap (λ b. cond b (len (map_of xs)) (len (map_of xs) + 1)) (contained xs (key new) p.1)
-      ∙ (once ∙ sym (length-set xs at new))))
-
-  pub IsOnce-push : (xs : List X) (new : X) → position (has_key (key new)) xs ≡ None → IsOnce xs → IsOnce (xs ++ new ∷ [])
-  IsOnce-push xs new is once =
-      ap len (map_of-push xs new is)
-      ∙ (len-insert o (map_of xs) (key new) new
-      ∙ (ap (λ (found : Option X). cond (is_some found) (len (map_of xs)) (len (map_of xs) + 1)) (get-map_of xs (key new) ∙ unplaced (has_key (key new)) xs is)
-      ∙ (ap (λ n. n + 1) once ∙ sym (length_push xs new))))
-
   -- ---- the item with a key is taken out
 
-  gone : (q : K) (b : Bool) (found : Option X) → b ≡ true → found ≡ None → found ≡ cond b None found
-  gone q b found t none = none ∙ sym (ap (λ c. cond c None found) t)
-
-  find-without : (xs : List X) (k q : K) → IsOnce xs → place (has_key k) xs < length xs
-      → find (has_key q) (without xs (place (has_key k) xs)) ≡ cond (eq_by_cmp R q k) None (find (has_key q) xs)
+  find-without : (xs : List X) (k q : KeyTexts) → IsOnce xs → place (has_key key k) xs < length xs
+      → find (has_key key q) (without xs (place (has_key key k) xs)) ≡ cond (eq_by_cmp key_cmp q k) None (find (has_key key q) xs)
   find-without [] k q once within = absurd (omega arith)
   find-without (x ∷ xs) k q once within =
       let tail = IsOnce-tail x xs once in
-      elim (has_key k x) as (λ b. has_key k x ≡ b → cond (not b) (1 + place (has_key k) xs) 0 < suc (length xs)
-      → find (has_key q) (without (x ∷ xs) (cond (not b) (1 + place (has_key k) xs) 0)) ≡ cond (eq_by_cmp R q k) None (cond (has_key q x) (Some x) (find (has_key q) xs))) [
+      elim (has_key key k x) as (λ b. has_key key k x ≡ b → cond (not b) (1 + place (has_key key k) xs) 0 < suc (length xs)
+      → find (has_key key q) (without (x ∷ xs) (cond (not b) (1 + place (has_key key k) xs) 0)) ≡ cond (eq_by_cmp key_cmp q k) None (cond (has_key key q x) (Some x) (find (has_key key q) xs))) [
         | true ↦ λ t _.
             let alike : k ≡ key x = same_key k (key x) t in
-            elim (eq_by_cmp R q k) as (λ b. eq_by_cmp R q k ≡ b → find (has_key q) xs ≡ cond b None (cond (has_key q x) (Some x) (find (has_key q) xs))) [
-              | true ↦ λ s. ap (λ j. find (has_key j) xs) (same_key q k s ∙ alike) ∙ tail.1
-              | false ↦ λ s. ap (λ b. cond b (Some x) (find (has_key q) xs)) (sym (ap (eq_by_cmp R q) (sym alike) ∙ s))
+            elim (eq_by_cmp key_cmp q k) as (λ b. eq_by_cmp key_cmp q k ≡ b → find (has_key key q) xs ≡ cond b None (cond (has_key key q x) (Some x) (find (has_key key q) xs))) [
+              | true ↦ λ s. ap (λ j. find (has_key key j) xs) (same_key q k s ∙ alike) ∙ tail.1
+              | false ↦ λ s. ap (λ b. cond b (Some x) (find (has_key key q) xs)) (sym (ap (eq_by_cmp key_cmp q) (sym alike) ∙ s))
             ] refl
         | false ↦ λ t below.
-            ap (find (has_key q)) (without_behind x xs (place (has_key k) xs))
-            ∙ (ap (cond (has_key q x) (Some x)) (find-without xs k q tail.0 (omega arith))
-            ∙ swapped (has_key q x) (eq_by_cmp R q k) (Some x) None (find (has_key q) xs)
-            (λ s. ap (λ j. has_key j x) (same_key q k s) ∙ t))
+            ap (find (has_key key q)) (without_behind x xs (place (has_key key k) xs))
+            ∙ (ap (cond (has_key key q x) (Some x)) (find-without xs k q tail.0 (omega arith))
+            ∙ swapped (has_key key q x) (eq_by_cmp key_cmp q k) (Some x) None (find (has_key key q) xs)
+            (λ s. ap (λ j. has_key key j x) (same_key q k s) ∙ t))
       ] refl within
 
-  pub map_of-without : (xs : List X) (k : K) (at : ℕ) → position (has_key k) xs ≡ Some at → IsOnce xs → map_of (without xs at) ≡ remove (map_of xs) k
-  map_of-without xs k at is once =
-      let p = placed (has_key k) xs at is in
-      ap (λ n. map_of (without xs n)) (sym p.0)
-      ∙ map_by (without xs (place (has_key k) xs)) (remove (map_of xs) k)
-      (λ q. find-without xs k q once p.1 ∙ sym (get-remove o (map_of xs) k q ∙ ap (cond (eq_by_cmp R q k) None) (get-map_of xs q)))
+  changes-without : (xs : List X) (k : KeyTexts) (at : ℕ) → position (has_key key k) xs ≡ Some at → IsOnce xs → Changes k None xs (without xs at)
+  changes-without xs k at is once =
+      let p = placed (has_key key k) xs at is in
+      λ q. ap (λ n. find (has_key key q) (without xs n)) (sym p.0) ∙ find-without xs k q once p.1
 
-  length-without : (xs : List X) (n : ℕ) → n < length xs → length (without xs n) ≡ length xs - 1
-  length-without xs n within = grind (arith, common_steps)
+  -- nothing is found under its key then
+  gone : (xs : List X) (k : KeyTexts) (at : ℕ) → position (has_key key k) xs ≡ Some at → IsOnce xs → find (has_key key k) (without xs at) ≡ None
+  gone xs k at is once = changes-without xs k at is once k ∙ ap (λ b. cond b None (find (has_key key k) xs)) (own_key k)
 
-  pub IsOnce-without : (xs : List X) (k : K) (at : ℕ) → position (has_key k) xs ≡ Some at → IsOnce xs → IsOnce (without xs at)
-  IsOnce-without xs k at is once =
-      let p = placed (has_key k) xs at is in
+  -- ---- none stands twice after a change either
+
+  contained : (xs : List X) (k : KeyTexts) (at : ℕ) → position (has_key key k) xs ≡ Some at → contains_key (rows_under key row xs) k ≡ true
+  contained xs k at is =
+      ap is_some (get-rows_under xs k) ∙ (some_mapped row (find (has_key key k) xs) ∙ some_found (has_key key k) xs (placed (has_key key k) xs at is).1)
+
+  once-set : (xs : List X) (new : X) (at : ℕ) → position (has_key key (key new)) xs ≡ Some at → IsOnce xs → IsOnce (set xs at new)
+  once-set xs new at is once =
+      ap len (changed (key new) (Some new) xs (set xs at new) (changes-set xs new at is))
+      ∙ (len-insert keys_total (rows_under key row xs) (key new) (row new)
+      ∙ (ap (λ b. cond b (len (rows_under key row xs)) (len (rows_under key row xs) + 1)) (contained xs (key new) at is)
+      ∙ (once ∙ sym (length-set xs at new))))
+
+  once-join : (k : KeyTexts) (new : Option X) (xs : List X) → IfSome new (λ x. key x ≡ k) → find (has_key key k) xs ≡ None → IsOnce xs → IsOnce (xs ++ option_to_list new)
+  once-join k None xs own none once = subst IsOnce (sym (no_more_items xs)) once
+  once-join k (Some x) xs own none once =
+      ap len (changed k (Some x) xs (xs ++ x ∷ []) (changes-join k (Some x) xs own none))
+      ∙ (len-insert keys_total (rows_under key row xs) k (row x)
+      ∙ (ap (λ b. cond b (len (rows_under key row xs)) (len (rows_under key row xs) + 1)) (ap is_some (get-rows_under xs k) ∙ ap (λ found. is_some (option_map row found)) none)
+      ∙ (ap (λ n. n + 1) once ∙ sym (length_push xs x))))
+
+  once-without : (xs : List X) (k : KeyTexts) (at : ℕ) → position (has_key key k) xs ≡ Some at → IsOnce xs → IsOnce (without xs at)
+  once-without xs k at is once =
+      let p = placed (has_key key k) xs at is in
       let within : at < length xs = subst (λ n. n < length xs) p.0 p.1 in
-      ap len (map_of-without xs k at is once)
-      ∙ (len-remove o (map_of xs) k
-      ∙ (ap (λ b. cond b (len (map_of xs) - 1) (len (map_of xs))) (contained xs k p.1)
+      ap len (changed k None xs (without xs at) (changes-without xs k at is once))
+      ∙ (len-remove keys_total (rows_under key row xs) k
+      ∙ (ap (λ b. cond b (len (rows_under key row xs) - 1) (len (rows_under key row xs))) (contained xs k at is)
       ∙ (ap (λ n. n - 1) once ∙ sym (length-without xs at within))))
+
+  -- ---- what stands under a key is exchanged
+
+  -- The rows are those of the list with this under the key, or with nothing; and this was held there.
+  pub record Exchange (k : KeyTexts) (new : Option X) (xs ys : List X) (out : Option X) : Type 0 where
+    pub rows : rows_under key row ys ≡ with_under (rows_under key row xs) k (option_map row new)
+    pub held : option_map row out ≡ get (rows_under key row xs) k
+    pub own : IfSome out (λ x. key x ≡ k)
+    pub once : IsOnce ys
+
+  own_found : (k : KeyTexts) (xs : List X) (found : Option X) → find (has_key key k) xs ≡ found → IfSome found (λ x. key x ≡ k)
+  own_found k xs None is = tt
+  own_found k xs (Some x) is = sym (same_key k (key x) (find-passes (has_key key k) xs x is))
+
+  exchange_by : (k : KeyTexts) (new : Option X) (xs ys : List X) (at : Option ℕ) → position (has_key key k) xs ≡ at → Changes k new xs ys → IsOnce ys → Exchange k new xs ys (standing at xs)
+  exchange_by k new xs ys at is changes once =
+      let found = standing-find (has_key key k) xs at is in
+      record {
+        rows = changed k new xs ys changes;
+        held = ap (option_map row) found ∙ sym (get-rows_under xs k);
+        own = own_found k xs (standing at xs) (sym found);
+        once = once;
+      }
+
+  -- in the place of the one with the key
+  set_at : (k : KeyTexts) (x : X) (xs : List X) (at : ℕ) → key x ≡ k → position (has_key key k) xs ≡ Some at → IsOnce xs → Changes k (Some x) xs (set xs at x) × IsOnce (set xs at x)
+  set_at k x xs at own is once =
+      subst (λ j. position (has_key key j) xs ≡ Some at → Changes j (Some x) xs (set xs at x) × IsOnce (set xs at x)) own
+      (λ there. (changes-set xs x at there, once-set xs x at there once)) is
+
+  pub exchange_exchanged : (k : KeyTexts) (new : Option X) (xs : List X) (at : Option ℕ) → IfSome new (λ x. key x ≡ k) → position (has_key key k) xs ≡ at → IsOnce xs
+      → Exchange k new xs (exchanged at new xs) (standing at xs)
+  exchange_exchanged k new xs None own is once =
+      let none = unplaced (has_key key k) xs is in
+      exchange_by k new xs (xs ++ option_to_list new) None is (changes-join k new xs own none) (once-join k new xs own none once)
+  exchange_exchanged k None xs (Some at) own is once =
+      exchange_by k None xs (without xs at) (Some at) is (changes-without xs k at is once) (once-without xs k at is once)
+  exchange_exchanged k (Some x) xs (Some at) own is once =
+      let s = set_at k x xs at own is once in
+      exchange_by k (Some x) xs (set xs at x) (Some at) is s.0 s.1
+
+  -- behind what remains without the one with the key
+  pub exchange_joined : (k : KeyTexts) (new : Option X) (xs : List X) (at : Option ℕ) → IfSome new (λ x. key x ≡ k) → position (has_key key k) xs ≡ at → IsOnce xs
+      → Exchange k new xs (remaining at xs ++ option_to_list new) (standing at xs)
+  exchange_joined k new xs None own is once =
+      let none = unplaced (has_key key k) xs is in
+      exchange_by k new xs (xs ++ option_to_list new) None is (changes-join k new xs own none) (once-join k new xs own none once)
+  exchange_joined k new xs (Some at) own is once =
+      let less = without xs at in
+      let none = gone xs k at is once in
+      exchange_by k new xs (less ++ option_to_list new) (Some at) is
+      (changes-twice k None new xs less (less ++ option_to_list new) (changes-without xs k at is once) (changes-join k new less own none))
+      (once-join k new less own none (once-without xs k at is once))

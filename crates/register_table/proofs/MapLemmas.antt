@@ -1,28 +1,46 @@
--- Finite maps in which what was replaced under a key is put back.
-use Rattle.std.specs.Prelude.{◌≡◌, Bool, true, false, cond, Option, Some, None}
-use Rattle.std.specs.Cmp.{IsTotalOrder}
-use Rattle.std.specs.FinMap.{FinMap, IsAntisymmetric, get, insert, remove, get-insert, get-remove, same_map}
-use Rattle.std.specs.Ordering.{eq_by_cmp}
-use Rattle.std.specs.declared.cmp.Ordering.{Ordering}
-use Rattle.std.proofs.Common.{refl, sym, ap, ◌∙◌}
-use Rattle.register_table.proofs.ListLemmas.{tied}
+-- Rows under keys: what stands under a key is changed, and what stood there is put back.
+use Rattle.std.specs.Prelude.{◌≡◌, ◌+◌, ◌-◌, ◌≤◌, ℕ, Bool, true, false, cond, Option, Some, None, option_map, IsSome, is_some}
+use Rattle.std.specs.Cmp.{tied_itself}
+use Rattle.std.specs.FinMap.{get, insert, remove, len, contains_key, get-insert, get-remove, len-insert, len-remove, same_map}
+use Rattle.std.specs.Ordering.{eq_by_cmp, is_eq}
+use Rattle.std.proofs.Common.{refl, sym, ap, subst, ◌∙◌, arith}
+use Rattle.lei_records.specs.Rows.{Row}
+use Rattle.lei_records.specs.Tables.{KeyTexts, Rows, key_cmp}
+use Rattle.authority_rules.proofs.HolderLemmas.{keys_total, same_key}
+use Rattle.register_table.specs.Undos.{with_under}
+use Rattle.register_table.proofs.KeyLemmas.{keys_antisymmetric}
 
-replaced : {X : Type 0} (b : Bool) (was now held : Option X) → (b ≡ true → held ≡ was) → cond b was (cond b now held) ≡ held
-replaced true was now held is = sym (is refl)
-replaced false was now held is = refl
+-- a key is its own
+pub own_key : (k : KeyTexts) → eq_by_cmp key_cmp k k ≡ true
+own_key k = ap is_eq (tied_itself keys_total k)
 
-module _ {K X : Type 0} {R : K → K → Ordering} (o : IsTotalOrder R) (same : IsAntisymmetric R) where
-  held_at : (m : FinMap R X) (k q : K) (was : Option X) → get m k ≡ was → eq_by_cmp R q k ≡ true → get m q ≡ was
-  held_at m k q was is t = ap (get m) (same q k (tied (R q k) t)) ∙ is
+pub get-with_under : (m : Rows) (k : KeyTexts) (new : Option Row) (q : KeyTexts) → get (with_under m k new) q ≡ cond (eq_by_cmp key_cmp q k) new (get m q)
+get-with_under m k None q = get-remove keys_total m k q
+get-with_under m k (Some row) q = get-insert keys_total m k row q
 
-  -- nothing was held
-  pub remove-insert : (m : FinMap R X) (k : K) (x : X) → get m k ≡ None → remove (insert m k x) k ≡ m
-  remove-insert m k x is = same_map o same (remove (insert m k x) k) m
-      (λ q. get-remove o (insert m k x) k q ∙ (ap (cond (eq_by_cmp R q k) None) (get-insert o m k x q)
-      ∙ replaced (eq_by_cmp R q k) None (Some x) (get m q) (held_at m k q None is)))
+-- what was put under a key stands there
+pub stands : (m : Rows) (k : KeyTexts) (row : Row) → get (with_under m k (Some row)) k ≡ Some row
+stands m k row = get-with_under m k (Some row) k ∙ ap (λ b. cond b (Some row) (get m k)) (own_key k)
 
-  -- this was held
-  pub insert-insert : (m : FinMap R X) (k : K) (x old : X) → get m k ≡ Some old → insert (insert m k x) k old ≡ m
-  insert-insert m k x old is = same_map o same (insert (insert m k x) k old) m
-      (λ q. get-insert o (insert m k x) k old q ∙ (ap (cond (eq_by_cmp R q k) (Some old)) (get-insert o m k x q)
-      ∙ replaced (eq_by_cmp R q k) (Some old) (Some x) (get m q) (held_at m k q (Some old) is)))
+back_at : (b : Bool) (held new at : Option Row) → (b ≡ true → at ≡ held) → cond b held (cond b new at) ≡ at
+back_at true held new at is = sym (is refl)
+back_at false held new at is = refl
+
+-- what was held is put back
+pub under_again : (m : Rows) (k : KeyTexts) (new held : Option Row) → get m k ≡ held → with_under (with_under m k new) k held ≡ m
+under_again m k new held is = same_map keys_total keys_antisymmetric (with_under (with_under m k new) k held) m
+    (λ q. get-with_under (with_under m k new) k held q ∙ (ap (cond (eq_by_cmp key_cmp q k) held) (get-with_under m k new q)
+    ∙ back_at (eq_by_cmp key_cmp q k) held new (get m q) (λ t. ap (get m) (same_key q k t) ∙ is)))
+
+one_more : (b : Bool) (n : ℕ) → cond b n (n + 1) ≤ n + 1
+one_more true n = omega arith
+one_more false n = omega arith
+
+one_less : (b : Bool) (n : ℕ) → cond b (n - 1) n ≤ n + 1
+one_less true n = omega arith
+one_less false n = omega arith
+
+-- there is at most one row more
+pub len-with_under : (m : Rows) (k : KeyTexts) (new : Option Row) → len (with_under m k new) ≤ len m + 1
+len-with_under m k None = subst (λ n. n ≤ len m + 1) (sym (len-remove keys_total m k)) (one_less (contains_key m k) (len m))
+len-with_under m k (Some row) = subst (λ n. n ≤ len m + 1) (sym (len-insert keys_total m k row)) (one_more (contains_key m k) (len m))

@@ -1,28 +1,58 @@
 -- Writes that were put, and what their notes put back.
-use Rattle.std.specs.Prelude.{◌≡◌, ℕ, List, [], ◌∷◌, ◌++◌, cond, Option, Some, None, option_map, IsSome, is_some}
-use Rattle.std.proofs.Common.{refl, sym, ap, subst, ◌∙◌}
+use Rattle.std.specs.Prelude.{◌≡◌, ℕ, suc, ◌+◌, ◌^◌, ◌<◌, ◌≤◌, Bool, true, false, if◌then◌else◌, List, [], ◌∷◌, ◌++◌, length, Option, Some, None, option_map, IsSome, is_some}
+use Rattle.std.specs.FinMap.{get, insert, len, remove}
+use Rattle.std.proofs.Common.{refl, sym, ap, subst, ◌∙◌, arith}
 use Rattle.lei_records.specs.declared.item.Item.{Item}
 use Rattle.lei_records.specs.declared.view.RowKey.{RowKey}
-use Rattle.lei_records.specs.Cells.{lei_in}
 use Rattle.lei_records.specs.Rows.{Row}
-use Rattle.lei_records.specs.Tables.{Table, record_key, put, put_write, put_all, row_at, IsKeyed}
-use Rattle.authority_rules.proofs.HolderLemmas.{keys_total, same_lei, bytes_itself}
-use Rattle.authority_rules.proofs.PutLemmas.{row_at-put, IsKeyed-put}
-use Rattle.register_table.specs.Undos.{WriteList, Notes, IsOwn, IsOwnOrNone, AreOwn, item_at, notes_of, put_back, undone, IsOfLast}
-use Rattle.register_table.proofs.MapLemmas.{remove-insert, insert-insert}
-use Rattle.register_table.proofs.TableLemmas.{keys_antisymmetric}
+use Rattle.lei_records.specs.Tables.{Table, exception_key, exception_key_in, exception_row, put, put_all, put_write, record_key, relation_key, relation_row, row_at, row_key, with_exceptions, with_records, with_relations}
+use Rattle.register_table.specs.Lists.{exception_count}
+use Rattle.register_table.specs.Slots.{NeedsNoRoom}
+use Rattle.register_table.specs.Undos.{WriteList, Notes, IsOwn, AreOwn, held_exception, is_withdrawal, item_at, notes_of, put_back, row_of, undone, with_under, IsOfLast}
+use Rattle.register_table.proofs.MapLemmas.{len-with_under, stands, under_again}
+
+-- ---- a write puts its item under its key, or nothing
+
+own_put : (table : Table) (item : Item) → is_withdrawal item ≡ false → put table item ≡ put_back table (row_key item, Some item)
+own_put table (Item.Record row) own = refl
+own_put table (Item.Relation row) own = refl
+own_put table (Item.Exception item) own =
+    ap (λ b. with_exceptions table (if b then remove table.exceptions (exception_key_in item.0) else insert table.exceptions (exception_key_in item.0) item.0)) own
+
+pub write-back : (table : Table) (write : RowKey × Option Item) → IsOwn write → put_write table write ≡ put_back table write
+write-back table (key, Some item) own = own_put table item own.1 ∙ ap (λ k. put_back table (k, Some item)) (sym own.0)
+write-back table (RowKey.Rec lei, None) own = absurd own
+write-back table (RowKey.Rel start kind end, None) own = absurd own
+write-back table (RowKey.Exc lei category, None) own = refl
 
 -- ---- one write is undone by its note
 
-back_by : (table : Table) (row : Row) (held : Option Row) → row_at table (lei_in row) ≡ held
-    → put_back (put table (Item.Record row)) (RowKey.Rec (lei_in row), option_map Item.Record held) ≡ table
-back_by table row None is = let e = remove-insert keys_total keys_antisymmetric table.records (record_key (lei_in row)) row is in λ i. record { records = e i }
-back_by table row (Some old) is = let e = insert-insert keys_total keys_antisymmetric table.records (record_key (lei_in row)) row old is in λ i. record { records = e i }
+record_rows_of : (held : Option Row) → option_map row_of (option_map Item.Record held) ≡ held
+record_rows_of None = refl
+record_rows_of (Some row) = refl
+
+relation_rows_of : (held : Option Row) → option_map row_of (option_map Item.Relation held) ≡ held
+relation_rows_of None = refl
+relation_rows_of (Some row) = refl
+
+exception_rows_of : (held : Option Row) → option_map row_of (option_map held_exception held) ≡ held
+exception_rows_of None = refl
+exception_rows_of (Some row) = refl
+
+back_again : (table : Table) (key : RowKey) (new : Option Item) → put_back (put_back table (key, new)) (key, item_at table key) ≡ table
+back_again table (RowKey.Rec lei) new =
+    ap (with_records table) (under_again table.records (record_key lei) (option_map row_of new) (option_map row_of (option_map Item.Record (row_at table lei))) (sym (record_rows_of (row_at table lei))))
+back_again table (RowKey.Rel start kind end) new =
+    ap (with_relations table)
+    (under_again table.relations (relation_key start kind end) (option_map row_of new) (option_map row_of (option_map Item.Relation (relation_row table start kind end)))
+    (sym (relation_rows_of (relation_row table start kind end))))
+back_again table (RowKey.Exc lei category) new =
+    ap (with_exceptions table)
+    (under_again table.exceptions (exception_key lei category) (option_map row_of new) (option_map row_of (option_map held_exception (exception_row table lei category)))
+    (sym (exception_rows_of (exception_row table lei category))))
 
 back_write : (table : Table) (write : RowKey × Option Item) → IsOwn write → put_back (put_write table write) (write.0, item_at table write.0) ≡ table
-back_write table (key, Some (Item.Record row)) own =
-    ap (λ k. put_back (put table (Item.Record row)) (k, item_at table k)) own ∙ back_by table row (row_at table (lei_in row)) refl
-back_write table (key, None) own = absurd own
+back_write table write own = ap (λ t. put_back t (write.0, item_at table write.0)) (write-back table write own) ∙ back_again table write.0 write.1
 
 -- ---- all writes are undone by their notes
 
@@ -75,41 +105,60 @@ last_of (write ∷ next ∷ writes) before (first ∷ notes) note own is =
       made = l.made;
     }
 
-IsKeyed-put_all : (writes : WriteList) (table : Table) → IsKeyed table → AreOwn writes → IsKeyed (put_all writes table)
-IsKeyed-put_all [] table keyed own = keyed
-IsKeyed-put_all ((key, Some (Item.Record row)) ∷ writes) table keyed own = IsKeyed-put_all writes (put table (Item.Record row)) (IsKeyed-put table row keyed) own.1
-IsKeyed-put_all ((key, None) ∷ writes) table keyed own = absurd own.0
+-- ---- what a note takes when it is put back
 
--- what is held under the key of a write that was put
-held_behind : (table : Table) (write : RowKey × Option Item) → IsOwn write → IsSome (item_at (put_write table write) write.0)
-held_behind table (key, Some (Item.Record row)) own =
-    ap (λ k. is_some (item_at (put table (Item.Record row)) k)) own
-    ∙ ap (λ held. is_some (option_map Item.Record held))
-    (row_at-put table row (lei_in row) ∙ ap (λ b. cond b (Some row) (row_at table (lei_in row))) (bytes_itself (lei_in row)))
-held_behind table (key, None) own = absurd own
+-- what was put under a key is held there
+held_behind : (table : Table) (key : RowKey) (item : Item) → IsSome (item_at (put_back table (key, Some item)) key)
+held_behind table (RowKey.Rec lei) item =
+    ap (λ (held : Option Row). is_some (option_map Item.Record held)) (stands table.records (record_key lei) (row_of item))
+held_behind table (RowKey.Rel start kind end) item =
+    ap (λ (held : Option Row). is_some (option_map Item.Relation held)) (stands table.relations (relation_key start kind end) (row_of item))
+held_behind table (RowKey.Exc lei category) item =
+    ap (λ (held : Option Row). is_some (option_map held_exception held)) (stands table.exceptions (exception_key lei category) (row_of item))
 
-own_by : (table : Table) (lei : List ℕ) (held : Option Row) → IsKeyed table → row_at table lei ≡ held → IsOwnOrNone (RowKey.Rec lei, option_map Item.Record held)
-own_by table lei None keyed is = tt
-own_by table lei (Some row) keyed is = ap RowKey.Rec (same_lei lei (lei_in row) (keyed (record_key lei) row is))
+-- so a note of a write takes no room: an exception has its own, and any other key is held
+no_room : (table : Table) (write : RowKey × Option Item) (held : Option Item) → IsOwn write → NeedsNoRoom (put_write table write) (write.0, held)
+no_room table (RowKey.Exc lei category, new) held own = tt
+no_room table (RowKey.Rec lei, new) None own = tt
+no_room table (RowKey.Rel start kind end, new) None own = tt
+no_room table (RowKey.Rec lei, None) (Some old) own = absurd own
+no_room table (RowKey.Rel start kind end, None) (Some old) own = absurd own
+no_room table (RowKey.Rec lei, Some item) (Some old) own =
+    ap (λ t. is_some (item_at t (RowKey.Rec lei))) (write-back table (RowKey.Rec lei, Some item) own) ∙ held_behind table (RowKey.Rec lei) item
+no_room table (RowKey.Rel start kind end, Some item) (Some old) own =
+    ap (λ t. is_some (item_at t (RowKey.Rel start kind end))) (write-back table (RowKey.Rel start kind end, Some item) own)
+    ∙ held_behind table (RowKey.Rel start kind end) item
 
-own_note : (table : Table) (key : RowKey) → IsKeyed table → IsOwnOrNone (key, item_at table key)
-own_note table (RowKey.Rec lei) keyed = own_by table lei (row_at table lei) keyed refl
+-- there is at most one exception more
+count_back : (table : Table) (note : RowKey × Option Item) → exception_count (put_back table note) ≤ exception_count table + 1
+count_back table (RowKey.Rec lei, item) = omega arith
+count_back table (RowKey.Rel start kind end, item) = omega arith
+count_back table (RowKey.Exc lei category, item) = len-with_under table.exceptions (exception_key lei category) (option_map row_of item)
+
+length_push : (notes : Notes) (note : RowKey × Option Item) → length (notes ++ note ∷ []) ≡ length notes + 1
+length_push [] note = refl
+length_push (first ∷ notes) note = let rest = length_push notes note in omega (arith, rest)
+
+few_back : (notes : Notes) (note : RowKey × Option Item) (table : Table) → exception_count table + length (notes ++ note ∷ []) < 9223372036854775808
+    → exception_count (put_back table note) + length notes < 9223372036854775808
+few_back notes note table few =
+    let one = count_back table note in
+    let more = length_push notes note in
+    omega (arith, few, one, more)
 
 -- What the last note asks for when it is put back, and that the notes before it are of what then stands.
 pub record Backs (notes : Notes) (note : RowKey × Option Item) (table : Table) : Type 0 where
-  pub held : IsSome (item_at table note.0)
-  pub own : IsOwnOrNone note
+  pub room : NeedsNoRoom table note
   pub last : IsOfLast notes (put_back table note)
 
-pub backs : (notes : Notes) (note : RowKey × Option Item) (table : Table) → IsOfLast (notes ++ note ∷ []) table → Backs notes note table
+backs : (notes : Notes) (note : RowKey × Option Item) (table : Table) → IsOfLast (notes ++ note ∷ []) table → Backs notes note table
 backs notes note table of =
     let l = last_of of.writes of.before notes note of.own of.noted in
     let behind = put_all l.front of.before in
     let is : table ≡ put_write behind l.last = of.made ∙ l.made in
-    let key : note.0 ≡ l.last.0 = ap (λ n. n.0) l.note_is in
     record {
-      held = ap (λ t. is_some (item_at t note.0)) is ∙ (ap (λ k. is_some (item_at (put_write behind l.last) k)) key ∙ held_behind behind l.last l.own_last);
-      own = subst IsOwnOrNone (sym l.note_is) (own_note behind l.last.0 (IsKeyed-put_all l.front of.before of.kept.sound.keyed l.own_front));
+      room = subst (λ n. NeedsNoRoom table n) (sym l.note_is)
+          (subst (λ t. NeedsNoRoom t (l.last.0, item_at behind l.last.0)) (sym is) (no_room behind l.last (item_at behind l.last.0) l.own_last));
       last = record {
         before = of.before;
         kept = of.kept;
@@ -117,6 +166,7 @@ backs notes note table of =
         own = l.own_front;
         noted = l.noted;
         made = ap (λ t. put_back t note) is ∙ (ap (put_back (put_write behind l.last)) l.note_is ∙ back_write behind l.last l.own_last);
+        few = few_back notes note table of.few;
       };
     }
 

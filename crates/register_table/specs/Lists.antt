@@ -127,7 +127,7 @@ rows_code = code (coded_list (coded_list coded_ℕ)) (coded_list (coded_list cod
 
 -- a table is stored as its rows
 abbrev pub table_code : Coded Table
-table_code = code_by (Rows × Rows × Rows) (coded× rows_code (coded× rows_code rows_code))
-    (λ table. (table.records, table.relations, table.exceptions))
-    (λ rows. record { records = rows.0; relations = rows.1.0; exceptions = rows.1.1 })
+table_code = code_by (Rows × (Rows × Rows)) (coded× rows_code (coded× rows_code rows_code))
+    (λ table. (table.records, (table.relations, table.exceptions)))
+    (λ rows. record { records = rows.0; relations = (rows.1).0; exceptions = (rows.1).1 })
     (λ _. refl)

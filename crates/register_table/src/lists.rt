@@ -1,5 +1,5 @@
 //! The three lists of a table, and what is changed under a key of one.
-ghost use Rattle.std.specs.Prelude.{◌≡◌, ◌+◌, ◌^◌, ◌<◌, ◌≤◌, ◌⊎◌, None, IfSome, IsSome, length, vec_capacity, vec_len};
+ghost use Rattle.std.specs.Prelude.{◌≡◌, ◌+◌, ◌^◌, ◌<◌, ◌≤◌, ◌⊎◌, None, false, IfSome, IsSome, length, option_map, vec_capacity, vec_len};
 ghost use Rattle.std.specs.FinMap.{get, len};
 ghost use Rattle.lei_records.specs.Tables.{exception_key, record_key, relation_key, relation_key_in};
 ghost use Rattle.register_table.specs.Lists.{AreListed, HasNoWithdrawal, exception_item_key, exception_rows, record_key_in, record_rows, relation_rows, table_of};
@@ -30,7 +30,7 @@ pub struct Lists {
 pub fn exchange_slot(lists: &mut Lists, slot: Slot) -> Slot
     requires slot { IsSlot slot }
     requires listed { AreListed (listed lists.old) }
-    requires room { NeedsNoRoom (table_of (listed lists.old)) (note_of slot) ⊎ (vec_len lists.old.records < vec_capacity lists.old.records) × (vec_len lists.old.relations < vec_capacity lists.old.relations) }
+    requires room { NeedsNoRoom (table_of (listed lists.old)) (note_of slot) ⊎ ((vec_len lists.old.records < vec_capacity lists.old.records) × (vec_len lists.old.relations < vec_capacity lists.old.relations)) }
     requires few { length lists.old.exceptions + 1 < 2 ^ 63 }
     ensures table { table_of (listed lists.new) ≡ put_back (table_of (listed lists.old)) (note_of slot) }
     ensures note { note_of result ≡ ((note_of slot).0, item_at (table_of (listed lists.old)) (note_of slot).0) }

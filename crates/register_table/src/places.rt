@@ -2,8 +2,9 @@
 ghost use Rattle.std.specs.Prelude.{◌≡◌, find, option_map, position};
 ghost use Rattle.std.specs.List.{list_any};
 ghost use Rattle.lei_records.specs.Cells.{holds as holds_key};
-ghost use Rattle.lei_records.specs.Relations.{is_active_of};
-ghost use Rattle.register_table.specs.Lists.{is_exception_of, is_of, is_relation_of};
+ghost use Rattle.lei_records.specs.Exceptions.{exception_category_in};
+ghost use Rattle.lei_records.specs.Relations.{is_active as is_active_row, is_active_status as is_status_active, is_active_of, is_same_type, kind_in};
+ghost use Rattle.register_table.specs.Lists.{is_exception_of, is_of, is_relation_of, is_same_category};
 
 use authority_rules::holds;
 use lei_code::Lei;
@@ -94,17 +95,42 @@ pub fn has_exception(
 fn is_relation(row: &Relation, start: &Lei, kind: RelationType, end: &Lei) -> bool
     ensures { result ≡ is_relation_of start.now kind end.now row.now }
 {
-    row.start() == *start && row.kind() == kind && row.end() == *end
+    row.start() == *start && has_type(row, kind) && row.end() == *end
 }
 
+#[tactic(auto, unfolding(lei_records::specs::Relations::is_active_of))]
 fn is_active(row: &Relation, start: &Lei, kind: RelationType) -> bool
     ensures { result ≡ is_active_of start.now kind row.now }
 {
-    row.status() == RelationStatus::Active && (row.start() == *start && row.kind() == kind)
+    has_status_active(row) && row.start() == *start && has_type(row, kind)
 }
 
 fn is_exception(row: &ExceptionItem, lei: &Lei, category: ExceptionCategory) -> bool
     ensures { result ≡ is_exception_of lei.now category row.now }
 {
-    row.lei() == *lei && row.category() == category
+    row.lei() == *lei && has_category(row, category)
+}
+
+fn has_type(row: &Relation, kind: RelationType) -> bool
+    ensures { result ≡ is_same_type (kind_in row.now) kind }
+{
+    row.kind() == kind
+}
+
+fn has_status_active(row: &Relation) -> bool
+    ensures { result ≡ is_active_row row.now }
+{
+    is_active_status(row.status())
+}
+
+fn is_active_status(status: RelationStatus) -> bool
+    ensures { result ≡ is_status_active status }
+{
+    matches!(status, RelationStatus::Active)
+}
+
+fn has_category(row: &ExceptionItem, category: ExceptionCategory) -> bool
+    ensures { result ≡ is_same_category (exception_category_in row.now.0) category }
+{
+    row.category() == category
 }

@@ -1,5 +1,5 @@
 // Rows in a list, by place: what stands at a place is changed for another row, or for none.
-ghost use Rattle.std.specs.Prelude.{◌≡◌, ◌+◌, ◌^◌, ◌<◌, ◌≤◌, ◌++◌, drop, take, length, IfSome, IsSome, None, option_to_list, vec_capacity, vec_len};
+ghost use Rattle.std.specs.Prelude.{◌≡◌, ◌+◌, ◌^◌, ◌<◌, ◌≤◌, ◌++◌, drop, take, length, slice_get, IfSome, IsSome, None, option_to_list, vec_capacity, vec_len};
 ghost use Rattle.register_table.specs.Lists.{exchanged, remaining, standing, without};
 
 use crate::single::Single;
@@ -52,6 +52,7 @@ pub fn exchange_linked<T: Drop>(
 // Cuts out the one row at a place.
 fn cut_out<T: Drop>(rows: &mut LinkedList<T>, at: usize) -> Single<T>
     requires within { at < length rows.old }
+    requires few { length rows.old < 2 ^ 63 }
     ensures rows { rows.new ≡ without rows.old at }
     ensures out { result ≡ slice_get rows.old at }
 {

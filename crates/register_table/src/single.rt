@@ -13,7 +13,7 @@ pub struct Single<T> {
 }
 
 impl<T> Model for Single<T> {
-    ghost use Rattle.std.specs.Prelude.{Option};
+    ghost use Rattle.std.specs.Prelude.{Option, ◌≤◌, length, slice_get};
 
     ghost Value = { Option T };
 

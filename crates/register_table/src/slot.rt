@@ -1,8 +1,10 @@
 //! What is put under a key, or was held there.
-ghost use Rattle.std.specs.Prelude.{◌≡◌, IfOk, map};
+ghost use Rattle.std.specs.Prelude.{◌≡◌, Some, None, false, IfOk, map};
 ghost use Rattle.std.specs.List.{AllByRecursion};
+ghost use Rattle.lei_records.specs.declared.item.Item as item;
+ghost use Rattle.lei_records.specs.Tables.{row_key};
 ghost use Rattle.register_table.specs.Slots.{IsSlot, note_of};
-ghost use Rattle.register_table.specs.Undos.{AreOwn, IsOwn};
+ghost use Rattle.register_table.specs.Undos.{AreOwn, IsOwn, is_withdrawal};
 
 use crate::single::Single;
 use lei_code::Lei;
@@ -27,43 +29,69 @@ pub fn slots_of(alloc: Global, writes: &[(RowKey, Option<Item>)]) -> Result<Vec<
     ensures own { IfOk result (λ slots. AllByRecursion IsSlot slots.items) }
 {
     let mut slots = Vec::with_capacity(alloc, writes.len())?;
-    for (key, item) in writes {
-        slots.push(slot_of(alloc, key, item)?)?;
+    for write in writes {
+        slots.push(slot_of(alloc, write)?)?;
     }
     Ok(slots)
 }
 
-fn slot_of(alloc: Global, key: &RowKey, item: &Option<Item>) -> Result<Slot, NoMemory>
-    requires own { IsOwn (key.now, item.now) }
-    ensures slot { IfOk result (λ slot. note_of slot ≡ (key.now, item.now)) }
+fn slot_of(alloc: Global, write: &(RowKey, Option<Item>)) -> Result<Slot, NoMemory>
+    requires own { IsOwn write.now }
+    ensures slot { IfOk result (λ slot. note_of slot ≡ write.now) }
     ensures own { IfOk result IsSlot }
 {
-    match item {
+    match &write.1 {
         Some(item) => slot_of_item(alloc, item),
-        None => slot_of_none(alloc, key),
+        None => slot_of_none(alloc, &write.0),
     }
 }
 
 // An item under its own key.
-fn slot_of_item(alloc: Global, item: &Item) -> Result<Slot, NoMemory> {
+fn slot_of_item(alloc: Global, item: &Item) -> Result<Slot, NoMemory>
+    requires put { is_withdrawal item.now ≡ false }
+    ensures slot { IfOk result (λ slot. note_of slot ≡ (row_key item.now, Some item.now)) }
+    ensures own { IfOk result IsSlot }
+{
     match item {
-        Item::Record(record) => Ok(Slot::Record(record.lei(), Some(record.copy(alloc)?))),
-        Item::Relation(relation) => Ok(Slot::Relation(
-            relation.start(),
-            relation.kind(),
-            relation.end(),
-            Some(relation.copy(alloc)?),
-        )),
-        Item::Exception(exception) => Ok(Slot::Exception(
-            exception.lei(),
-            exception.category(),
-            Single::some(alloc, exception.copy(alloc)?)?,
-        )),
+        Item::Record(record) => slot_of_record(alloc, record),
+        Item::Relation(relation) => slot_of_relation(alloc, relation),
+        Item::Exception(exception) => slot_of_exception(alloc, exception),
     }
 }
 
+fn slot_of_record(alloc: Global, record: &Record) -> Result<Slot, NoMemory>
+    ensures slot { IfOk result (λ slot. note_of slot ≡ (row_key (item.Item.Record record.now), Some (item.Item.Record record.now))) }
+    ensures own { IfOk result IsSlot }
+{
+    let copy = record.copy(alloc)?;
+    Ok(Slot::Record(record.lei(), Some(copy)))
+}
+
+fn slot_of_relation(alloc: Global, relation: &Relation) -> Result<Slot, NoMemory>
+    ensures slot { IfOk result (λ slot. note_of slot ≡ (row_key (item.Item.Relation relation.now), Some (item.Item.Relation relation.now))) }
+    ensures own { IfOk result IsSlot }
+{
+    let (start, kind, end) = (relation.start(), relation.kind(), relation.end());
+    let copy = relation.copy(alloc)?;
+    Ok(Slot::Relation(start, kind, end, Some(copy)))
+}
+
+fn slot_of_exception(alloc: Global, exception: &ExceptionItem) -> Result<Slot, NoMemory>
+    requires put { exception.now.1 ≡ false }
+    ensures slot { IfOk result (λ slot. note_of slot ≡ (row_key (item.Item.Exception exception.now), Some (item.Item.Exception exception.now))) }
+    ensures own { IfOk result IsSlot }
+{
+    let (lei, category) = (exception.lei(), exception.category());
+    let single = Single::some(alloc, exception.copy(alloc)?)?;
+    Ok(Slot::Exception(lei, category, single))
+}
+
 // Nothing under the key of an exception.
-fn slot_of_none(alloc: Global, key: &RowKey) -> Result<Slot, NoMemory> {
+fn slot_of_none(alloc: Global, key: &RowKey) -> Result<Slot, NoMemory>
+    requires own { IsOwn (key.now, None) }
+    ensures slot { IfOk result (λ slot. note_of slot ≡ (key.now, None)) }
+    ensures own { IfOk result IsSlot }
+{
     match key {
         RowKey::Exc(lei, category) => Ok(Slot::Exception(*lei, *category, Single::none(alloc))),
         _ => unreachable!(),

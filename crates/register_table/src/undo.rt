@@ -13,6 +13,9 @@ pub struct Undo {
 }
 
 impl Model for Undo {
+    ghost use Rattle.std.specs.Prelude.{map};
+    ghost use Rattle.std.specs.List.{AllByRecursion};
+    ghost use Rattle.register_table.specs.Slots.{IsSlot, note_of};
     ghost use Rattle.register_table.specs.Undos.{Notes};
 
     ghost Value = { Notes };

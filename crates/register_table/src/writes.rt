@@ -68,6 +68,6 @@ pub fn undo_notes(lists: &mut Lists, mut notes: Vec<Slot>)
     ensures listed { AreListed (listed lists.new) }
 {
     while let Some(note) = notes.pop() {
-        exchange_slot(lists, note);
+        drop(exchange_slot(lists, note));
     }
 }

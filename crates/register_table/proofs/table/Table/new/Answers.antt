@@ -1,10 +1,8 @@
-use Rattle.std.proofs.Common.{sym, ap, subst, ◌∙◌}
-use Rattle.register_table.specs.Lists.{IsKeptList, table_of}
 use Rattle.register_table.proofs.KeptLemmas.{none_kept, table_of-none}
 use Rattle.register_table.proofs.table.Table.new.Goals as goal
 
 pub invariant_of-result : goal.invariant_of-result
-invariant_of-result c = subst IsKeptList (sym c.new.ensures.items) none_kept
+invariant_of-result c = none_kept _ c.new.ensures.items c.new-2.ensures.items c.new-3.ensures
 
 pub returns : goal.returns
-returns c = ap table_of c.new.ensures.items ∙ table_of-none
+returns c = table_of-none _ c.new.ensures.items c.new-2.ensures.items c.new-3.ensures
