@@ -1,9 +1,10 @@
 -- What the row of an exception spells by its texts. Each part of such a row can be read; of another row the value behind
 -- it is taken.
-use Rattle.std.specs.Prelude.{ℕ, List, Option, unwrap_or, option_and_then}
+use Rattle.std.specs.Prelude.{ℕ, List, Bool, Option, unwrap_or, option_and_then}
+use Rattle.std.specs.Str.{bytes_eq}
 use Rattle.lei_shapes.specs.declared.lists.ExceptionCategory.{ExceptionCategory}
 use Rattle.lei_shapes.specs.declared.lists.Reason.{Reason}
-use Rattle.lei_shapes.specs.Lists.{exception_category_of, reason_of}
+use Rattle.lei_shapes.specs.Lists.{exception_category_text, exception_category_of, reason_of}
 use Rattle.lei_records.specs.Rows.{Row, text_at}
 use Rattle.lei_records.specs.Spelled.{present}
 
@@ -19,3 +20,7 @@ exception_category_in row =
 -- why it doesn't, where that is said
 abbrev pub reason_in : Row → Option Reason
 reason_in row = option_and_then reason_of (present (text_at row 3))
+
+-- two categories are one: they have one text
+abbrev pub is_same_category : ExceptionCategory → ExceptionCategory → Bool
+is_same_category a b = bytes_eq (exception_category_text a) (exception_category_text b)

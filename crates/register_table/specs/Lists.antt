@@ -6,9 +6,8 @@ use Rattle.std.specs.FinMap.{code, empty, from_entries, len}
 use Rattle.std.specs.List.{AllByRecursion}
 use Rattle.lei_shapes.specs.declared.lists.ExceptionCategory.{ExceptionCategory}
 use Rattle.lei_shapes.specs.declared.lists.RelationType.{RelationType}
-use Rattle.lei_shapes.specs.Lists.{exception_category_text}
 use Rattle.lei_records.specs.Cells.{lei_in}
-use Rattle.lei_records.specs.Exceptions.{exception_category_in, subject_in}
+use Rattle.lei_records.specs.Exceptions.{exception_category_in, is_same_category, subject_in}
 use Rattle.lei_records.specs.Relations.{end_in, is_same_type, kind_in, start_in}
 use Rattle.lei_records.specs.Rows.{Row}
 use Rattle.lei_records.specs.Tables.{KeyTexts, Rows, Table, exception_key_in, record_key, record_count, relation_key_in, IsSound}
@@ -22,10 +21,6 @@ is_of lei row = bytes_eq (lei_in row) lei
 -- this relationship has the start, the type and the end
 abbrev pub is_relation_of : List ℕ → RelationType → List ℕ → Row → Bool
 is_relation_of start kind end row = bytes_eq (start_in row) start && is_same_type (kind_in row) kind && bytes_eq (end_in row) end
-
--- two categories are one: they have one text
-abbrev pub is_same_category : ExceptionCategory → ExceptionCategory → Bool
-is_same_category a b = bytes_eq (exception_category_text a) (exception_category_text b)
 
 -- this exception has the entity and the category
 abbrev pub is_exception_of : List ℕ → ExceptionCategory → Row × Bool → Bool

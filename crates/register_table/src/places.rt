@@ -2,9 +2,9 @@
 ghost use Rattle.std.specs.Prelude.{◌≡◌, find, option_map, position};
 ghost use Rattle.std.specs.List.{list_any};
 ghost use Rattle.lei_records.specs.Cells.{holds as holds_key};
-ghost use Rattle.lei_records.specs.Exceptions.{exception_category_in};
+ghost use Rattle.lei_records.specs.Exceptions.{exception_category_in, is_same_category};
 ghost use Rattle.lei_records.specs.Relations.{is_active as is_active_row, is_active_status as is_status_active, is_active_of, is_same_type, kind_in};
-ghost use Rattle.register_table.specs.Lists.{is_exception_of, is_of, is_relation_of, is_same_category};
+ghost use Rattle.register_table.specs.Lists.{is_exception_of, is_of, is_relation_of};
 
 use authority_rules::holds;
 use lei_code::Lei;
