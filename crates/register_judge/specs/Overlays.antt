@@ -1,5 +1,5 @@
 -- Cells with accepted items put over them.
-use Rattle.std.specs.Prelude.{ℕ, List, Bool, true, false, not, ◌&&◌, Option, Some, None, if◌then◌else◌, is_some, option_and_then, ⊤}
+use Rattle.std.specs.Prelude.{ℕ, List, Bool, false, not, ◌&&◌, Option, Some, None, if◌then◌else◌, is_some, option_and_then, ⊤}
 use Rattle.std.specs.BTreeMap.{BTreeMap, get_by}
 use Rattle.std.specs.Borrow.{Bor}
 use Rattle.std.specs.Cmp.Lexicographic.{slice_cmp}
@@ -37,7 +37,7 @@ is_from start kind row = bytes_eq (start_in row) start && is_same_type (kind_in 
 
 -- and this end
 abbrev pub is_between : List ℕ → RelationType → List ℕ → Row → Bool
-is_between start kind end row = bytes_eq (start_in row) start && (is_same_type (kind_in row) kind && bytes_eq (end_in row) end)
+is_between start kind end row = is_from start kind row && bytes_eq (end_in row) end
 
 -- the end of the active relationship of its start and type, where the relationship is put: its own where it is active,
 -- and else what was held, but for its own
@@ -130,16 +130,19 @@ Relations = BTreeMap (List ℕ × Bor (List ℕ) × List ℕ) (Bor Row)
 
 abbrev pub relation_at : Relations → List ℕ → RelationType → List ℕ → Option Row
 relation_at relations start kind end = option_copied (get_by (λ key.
-    ordering_then (slice_cmp nat_cmp start key.0)
-    (ordering_then (slice_cmp nat_cmp (relation_type_text kind) key.1.now) (slice_cmp nat_cmp end key.2))) relations)
+    ordering_then (ordering_then (slice_cmp nat_cmp start key.0) (slice_cmp nat_cmp (relation_type_text kind) key.1.now))
+    (slice_cmp nat_cmp end key.2)) relations)
+
+-- by a code and a text
+abbrev pub pair_at : {X : Type 0} → BTreeMap (List ℕ × Bor (List ℕ)) X → List ℕ → List ℕ → Option X
+pair_at pairs lei text = get_by (λ key. ordering_then (slice_cmp nat_cmp lei key.0) (slice_cmp nat_cmp text key.1.now)) pairs
 
 -- by a start and a type's text, the end of a relationship
 abbrev pub Ends : Type 0
 Ends = BTreeMap (List ℕ × Bor (List ℕ)) (List ℕ)
 
 abbrev pub end_at : Ends → List ℕ → RelationType → Option (List ℕ)
-end_at ends start kind = get_by (λ key.
-    ordering_then (slice_cmp nat_cmp start key.0) (slice_cmp nat_cmp (relation_type_text kind) key.1.now)) ends
+end_at ends start kind = pair_at ends start (relation_type_text kind)
 
 -- a relationship that was put answers for its key
 abbrev pub with_relation : Option Row → Seen RelCell → Seen RelCell
@@ -171,8 +174,7 @@ abbrev pub Standing : Type 0
 Standing = BTreeMap (List ℕ × Bor (List ℕ)) Bool
 
 abbrev pub stands_at : Standing → List ℕ → ExceptionCategory → Option Bool
-stands_at standing lei category = get_by (λ key.
-    ordering_then (slice_cmp nat_cmp lei key.0) (slice_cmp nat_cmp (exception_category_text category) key.1.now)) standing
+stands_at standing lei category = pair_at standing lei (exception_category_text category)
 
 -- an exception that was put or withdrawn answers for its key
 abbrev pub with_exception : Option Bool → Seen ⊤ → Seen ⊤

@@ -177,12 +177,8 @@ impl<'a, V: View> Overlay<'a, V> {
             holder => holder,
         }
     }
-    fn accepted_relation(
-        &self,
-        start: &Lei,
-        kind: RelationType,
-        end: &Lei,
-    ) -> Option<&'a Relation>
+
+    fn accepted_relation(&self, start: &Lei, kind: RelationType, end: &Lei) -> Option<&'a Relation>
         ensures { option_copied result ≡ Overlays.relation_at self.now.relations start.now kind end.now }
     {
         self.relations.get(&(*start, kind.text(), *end)).copied()
@@ -293,7 +289,7 @@ fn insert_record<'a>(
 fn put_end(ends: &mut Ends, item: &Relation) -> Result<(), NoMemory>
     ensures { OnOk result ((start : List ℕ) (kind : RelationType) → Overlays.end_at ends.new start kind
         ≡ (if Spelled.is_active item.now && Overlays.is_from start kind item.now then Some (end_in item.now)
-            else Overlays.end_at ends.old start kind)) }
+        else Overlays.end_at ends.old start kind)) }
 {
     if !is_active(item) {
         return Ok(());
@@ -304,14 +300,11 @@ fn put_end(ends: &mut Ends, item: &Relation) -> Result<(), NoMemory>
     }
 }
 
-fn insert_relation<'a>(
-    relations: &mut Relations<'a>,
-    item: &'a Relation,
-) -> Result<(), NoMemory>
+fn insert_relation<'a>(relations: &mut Relations<'a>, item: &'a Relation) -> Result<(), NoMemory>
     ensures { OnOk result ((start : List ℕ) (kind : RelationType) (end : List ℕ)
         → Overlays.relation_at relations.new start kind end
         ≡ (if Overlays.is_between start kind end item.now then Some item.now
-            else Overlays.relation_at relations.old start kind end)) }
+        else Overlays.relation_at relations.old start kind end)) }
 {
     match relations.insert((item.start(), kind_of(item).text(), item.end()), item) {
         Ok(_) => Ok(()),
@@ -323,7 +316,7 @@ fn insert_relation<'a>(
 fn insert_standing(standing: &mut Standing, item: &ExceptionItem) -> Result<(), NoMemory>
     ensures { OnOk result ((lei : List ℕ) (category : ExceptionCategory) → Overlays.stands_at standing.new lei category
         ≡ (if bytes_eq (subject_in item.now.0) lei && Overlays.is_same_category (exception_category_in item.now.0) category
-            then Some (not item.now.1) else Overlays.stands_at standing.old lei category)) }
+        then Some (not item.now.1) else Overlays.stands_at standing.old lei category)) }
 {
     match standing.insert((item.lei(), category_of(item).text()), !item.withdraws()) {
         Ok(_) => Ok(()),
