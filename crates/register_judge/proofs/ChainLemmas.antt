@@ -10,6 +10,7 @@ use Rattle.lei_records.specs.declared.item.Item.{Item}
 use Rattle.lei_records.specs.declared.item.Readied.{Readied}
 use Rattle.lei_records.specs.declared.view.RecCell.{RecCell}
 use Rattle.lei_records.specs.Cells.{lei_in, rec_cell, successor_in}
+use Rattle.lei_records.specs.Lines.{fails_if, first_failing}
 use Rattle.lei_records.specs.Rows.{Row}
 use Rattle.lei_records.specs.Tables.{Table, put, put_all, row_at, record_of}
 use Rattle.authority_rules.proofs.HolderLemmas.{bytes_same, bytes_itself, some_apart}
@@ -20,9 +21,9 @@ use Rattle.successor_rules.specs.Successors.{HasChains, successor_of, successors
 use Rattle.successor_rules.specs.Walks.{is_met, is_long, walked}
 use Rattle.successor_rules.proofs.ChainLemmas.{keeps_ends}
 use Rattle.successor_rules.proofs.WalkLemmas.{ended_walk_keeps_ends}
-use Rattle.register_judge.specs.Checks.{fails_if, first_failing, c16, checks, successor_checks}
-use Rattle.register_judge.specs.Taking.{verdict_of, verdict, writes_of, take}
-use Rattle.register_judge.proofs.TakingLemmas.{successors_pass}
+use Rattle.register_judge.specs.Checks.{c16, successor_checks}
+use Rattle.register_judge.specs.Taking.{item_checks, verdict_of, verdict, writes_of, take}
+use Rattle.register_judge.proofs.TakingLemmas.{put-written, successors_pass}
 
 -- ---- what the checks of a successor say of it where they pass
 
@@ -111,17 +112,24 @@ chains-put table row chains passes = record {
   ends = all_end table row (successor_in row) chains refl passes;
 }
 
-record_chains : (table : Table) (limit : ℕ) (today : ℤ) (office : List ℕ) (item : Row) (failed : Option Check) → HasChains table
-    → first_failing (checks table limit today office item) ≡ failed
-    → HasChains (put_all (writes_of (verdict_of failed) (Readied.Good (Item.Record item))) table)
-record_chains table limit today office item None chains is = chains-put table item chains (successors_pass table limit today office item is)
-record_chains table limit today office item (Some check) chains is = chains
+-- an accepted item leaves each successor held and each chain ending: a relationship and an exception leave the records
+accepted_chains : (table : Table) (limit : ℕ) (today : ℤ) (office : List ℕ) (item : Item) → HasChains table
+    → first_failing (item_checks table limit today office item) ≡ None → HasChains (put table item)
+accepted_chains table limit today office (Item.Record row) chains passes = chains-put table row chains (successors_pass table limit today office row passes)
+accepted_chains table limit today office (Item.Relation row) chains passes = record { held = chains.held; ends = chains.ends }
+accepted_chains table limit today office (Item.Exception item) chains passes = record { held = chains.held; ends = chains.ends }
+
+item_chains : (table : Table) (limit : ℕ) (today : ℤ) (office : List ℕ) (item : Item) (failed : Option Check) → HasChains table
+    → first_failing (item_checks table limit today office item) ≡ failed
+    → HasChains (put_all (writes_of (verdict_of failed) (Readied.Good item)) table)
+item_chains table limit today office item None chains is = put-written HasChains table item (accepted_chains table limit today office item chains is)
+item_chains table limit today office item (Some check) chains is = chains
 
 pub take-chains : (table : Table) (limit : ℕ) (today : ℤ) (office : List ℕ) (items : List Readied) → HasChains table
     → HasChains (take table limit today office items).table
 take-chains table limit today office [] chains = chains
 take-chains table limit today office (Readied.Bad check ∷ items) chains = take-chains table limit today office items chains
-take-chains table limit today office (Readied.Good (Item.Record item) ∷ items) chains =
-    let given = verdict table limit today office (Readied.Good (Item.Record item)) in
-    take-chains (put_all (writes_of given (Readied.Good (Item.Record item))) table) limit today office items
-    (record_chains table limit today office item (first_failing (checks table limit today office item)) chains refl)
+take-chains table limit today office (Readied.Good item ∷ items) chains =
+    let given = verdict table limit today office (Readied.Good item) in
+    take-chains (put_all (writes_of given (Readied.Good item)) table) limit today office items
+    (item_chains table limit today office item (first_failing (item_checks table limit today office item)) chains refl)

@@ -1,17 +1,22 @@
 -- Maps by codes and by texts after an insertion.
 use Rattle.std.specs.Prelude.{◌≡◌, ℕ, List, Bool, true, false, ◌&&◌, cond, Option, Some, None, option_and_then}
-use Rattle.std.specs.BTreeMap.{Updates, UpdatesBy, get}
+use Rattle.std.specs.BTreeMap.{BTreeMap, Updates, UpdatesBy, get}
+use Rattle.std.specs.Cmp.{tied_then}
 use Rattle.std.specs.Borrow.{Bor}
 use Rattle.std.specs.Cmp.Lexicographic.{slice_cmp}
 use Rattle.std.specs.Option.{option_copied}
-use Rattle.std.specs.Ordering.{nat_cmp}
+use Rattle.std.specs.Ordering.{is_eq, nat_cmp, ordering_then}
+use Rattle.std.specs.declared.cmp.Ordering.{Ordering}
 use Rattle.std.specs.Str.{bytes_eq}
-use Rattle.std.proofs.Common.{refl, ap, ◌∙◌}
+use Rattle.std.proofs.Common.{refl, sym, ap, ◌∙◌}
 use Rattle.std.proofs.lemmas.Map.Text.{is_eq-slice_cmp, btree_map_updates_str}
 use Rattle.std.specs.Cmp.Lexicographic.{nat_list_eq_equiv}
 use Rattle.authority_rules.proofs.HolderLemmas.{bytes_same}
+use Rattle.lei_shapes.specs.declared.lists.RelationType.{RelationType}
+use Rattle.lei_shapes.specs.Lists.{relation_type_text}
+use Rattle.lei_records.specs.Relations.{end_in, kind_in, start_in}
 use Rattle.lei_records.specs.Rows.{Row}
-use Rattle.register_judge.specs.Overlays.{Ids, Takers, Records, id_at, ids_at, taker_at, record_at}
+use Rattle.register_judge.specs.Overlays.{Ids, Takers, Records, Relations, id_at, ids_at, is_between, pair_at, relation_at, taker_at, record_at}
 
 copied : (b : Bool) (row : Bor Row) (old : Option (Bor Row)) → option_copied (cond b (Some row) old) ≡ cond b (Some row.now) (option_copied old)
 copied true row old = refl
@@ -52,3 +57,36 @@ taker_at-insert old removed new ids more authority id lei was without with_id wi
       | true ↦ λ t. with_id i ∙ ap (cond (bytes_eq id i) (Some lei)) (was i ∙ ap (λ x. taker_at old x i) (bytes_same authority a t))
       | false ↦ λ t. refl
     ] refl
+
+-- ---- keys of several texts
+
+tied_texts : (a b c d : List ℕ) → is_eq (ordering_then (slice_cmp nat_cmp a b) (slice_cmp nat_cmp c d)) ≡ (bytes_eq a b && bytes_eq c d)
+tied_texts a b c d =
+    sym (tied_then (slice_cmp nat_cmp a b) (slice_cmp nat_cmp c d)) ∙ (λ i. is_eq-slice_cmp a b i && is_eq-slice_cmp c d i)
+
+abbrev pub pair_cmp : List ℕ × Bor (List ℕ) → List ℕ × Bor (List ℕ) → Ordering
+pair_cmp a b = ordering_then (slice_cmp nat_cmp a.0 b.0) (slice_cmp nat_cmp a.1.now b.1.now)
+
+-- what is found under a code and a text after an insertion
+pub pair_at-insert : {X : Type 0} (old new : BTreeMap (List ℕ × Bor (List ℕ)) X) (key : List ℕ × Bor (List ℕ)) (lei text : List ℕ) (x : X)
+    → key.0 ≡ lei → key.1.now ≡ text → Updates pair_cmp old new key (Some x)
+    → (q t : List ℕ) → pair_at new q t ≡ cond (bytes_eq lei q && bytes_eq text t) (Some x) (pair_at old q t)
+pair_at-insert old new key lei text x leis texts updates q t =
+    updates.0 (q, record key.1 { now = t })
+    ∙ ap (λ b. cond b (Some x) (pair_at old q t)) (tied_texts key.0 q key.1.now t ∙ (λ i. bytes_eq (leis i) q && bytes_eq (texts i) t))
+
+abbrev pub between_cmp : List ℕ × Bor (List ℕ) × List ℕ → List ℕ × Bor (List ℕ) × List ℕ → Ordering
+between_cmp a b = ordering_then (ordering_then (slice_cmp nat_cmp a.0 b.0) (slice_cmp nat_cmp a.1.now b.1.now)) (slice_cmp nat_cmp a.2 b.2)
+
+-- an accepted relationship after one was put
+pub relation_at-insert : (old new : Relations) (key : List ℕ × Bor (List ℕ) × List ℕ) (row : Bor Row)
+    → key.0 ≡ start_in row.now → key.1.now ≡ relation_type_text (kind_in row.now) → key.2 ≡ end_in row.now → Updates between_cmp old new key (Some row)
+    → (start : List ℕ) (kind : RelationType) (end : List ℕ) → relation_at new start kind end ≡ cond (is_between start kind end row.now) (Some row.now) (relation_at old start kind end)
+relation_at-insert old new key row starts types ends updates start kind end =
+    let q : List ℕ × Bor (List ℕ) × List ℕ = (start, record key.1 { now = relation_type_text kind }, end) in
+    let tied : is_eq (between_cmp key q) ≡ is_between start kind end row.now =
+    sym (tied_then _ (slice_cmp nat_cmp key.2 end))
+    ∙ ((λ i. tied_texts key.0 start key.1.now (relation_type_text kind) i && is_eq-slice_cmp key.2 end i)
+    ∙ (λ i. (bytes_eq (starts i) start && bytes_eq (types i) (relation_type_text kind)) && bytes_eq (ends i) end)) in
+    ap option_copied (updates.0 q)
+    ∙ (ap (λ b. option_copied (cond b (Some row) (get between_cmp old q))) tied ∙ copied (is_between start kind end row.now) row (get between_cmp old q))

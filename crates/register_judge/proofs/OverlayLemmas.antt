@@ -1,13 +1,18 @@
--- An overlay after a record was put.
+-- An overlay after a record, a relationship or an exception was put.
 use Rattle.std.specs.Prelude.{◌≡◌, ℕ, List, Bool, true, false, ◌&&◌, cond, Option, Some, None, is_some}
+use Rattle.std.specs.Cmp.Lexicographic.{nat_list_eq_equiv}
 use Rattle.std.specs.Str.{bytes_eq}
 use Rattle.std.proofs.Common.{refl, sym, ap, ◌∙◌}
+use Rattle.lei_shapes.specs.declared.lists.ExceptionCategory.{ExceptionCategory}
+use Rattle.lei_shapes.specs.declared.lists.RelationType.{RelationType}
 use Rattle.lei_records.specs.declared.view.Seen.{Seen}
 use Rattle.lei_records.specs.Cells.{Cells, lei_in, rec_cell, is_live, akey, is_key, holds}
+use Rattle.lei_records.specs.Relations.{end_in, is_active, rel_cell}
 use Rattle.lei_records.specs.Rows.{Row}
+use Rattle.lei_records.specs.Tables.{seen_fact}
 use Rattle.authority_rules.specs.Taken.{unless_own}
 use Rattle.authority_rules.proofs.HolderLemmas.{bytes_itself}
-use Rattle.register_judge.specs.Overlays.{Records, Takers, record_at, taker_at, has_record, row_holds, with_record, with_taker, unless_replaced, overlaid, put_cells}
+use Rattle.register_judge.specs.Overlays.{Ends, Records, Relations, Standing, Takers, end_at, has_record, is_active_row, is_between, is_from, is_same_category, overlaid, put_exception, put_record, put_relation, record_at, relation_at, row_holds, stands_at, taker_at, unless_replaced, with_active, with_end, with_exception, with_record, with_relation, with_taker}
 
 -- ---- the key that a record holds
 
@@ -38,7 +43,7 @@ taker_at-key row key lei old new live is same noted a i =
 
 -- ---- the cells
 
-module _ (below : Cells) (records later : Records) (takers newer : Takers) (row : Row)
+module _ (below : Cells) (records later : Records) (takers newer : Takers) (relations : Relations) (ends : Ends) (standing : Standing) (row : Row)
     (by_code : (lei : List ℕ) → record_at later lei ≡ cond (bytes_eq lei (lei_in row)) (Some row) (record_at records lei))
     (by_key : (authority id : List ℕ) → taker_at newer authority id ≡ cond (holds authority id row) (Some (lei_in row)) (taker_at takers authority id)) where
   cell : (lei : List ℕ) → with_record (record_at later lei) (below.record_cell lei)
@@ -102,8 +107,124 @@ module _ (below : Cells) (records later : Records) (takers newer : Takers) (row 
       ] refl
 
   -- the cells through the maps with one more record are the cells with the record put
-  pub overlaid-put : overlaid below later newer ≡ put_cells (overlaid below records takers) row
-  overlaid-put = λ i. record {
+  pub overlaid-put_record : overlaid below later newer relations ends standing ≡ put_record (overlaid below records takers relations ends standing) row
+  overlaid-put_record = λ i. record (overlaid below records takers relations ends standing) {
     record_cell = λ lei. cell lei i;
     holder = λ authority id. holder authority id i;
   }
+
+-- ---- relationships
+
+flipped : (a b : List ℕ) → bytes_eq a b ≡ bytes_eq b a
+flipped a b = nat_list_eq_equiv.symm a b
+
+module _ (below : Cells) (records : Records) (takers : Takers) (relations later : Relations) (ends newer : Ends) (standing : Standing) (row : Row)
+    (by_key : (start : List ℕ) (kind : RelationType) (end : List ℕ) → relation_at later start kind end ≡ cond (is_between start kind end row) (Some row) (relation_at relations start kind end))
+    (by_start : (start : List ℕ) (kind : RelationType) → end_at newer start kind ≡ cond (is_active row && is_from start kind row) (Some (end_in row)) (end_at ends start kind)) where
+  own_cell : (start : List ℕ) (kind : RelationType) (end : List ℕ) → with_relation (relation_at later start kind end) (below.relation start kind end)
+      ≡ cond (is_between start kind end row) (Seen.Held (rel_cell row)) (with_relation (relation_at relations start kind end) (below.relation start kind end))
+  own_cell start kind end =
+      ap (λ r. with_relation r (below.relation start kind end)) (by_key start kind end)
+      ∙ elim (is_between start kind end row) as (λ b. with_relation (cond b (Some row) (relation_at relations start kind end)) (below.relation start kind end)
+      ≡ cond b (Seen.Held (rel_cell row)) (with_relation (relation_at relations start kind end) (below.relation start kind end))) [ true ↦ refl | false ↦ refl ]
+
+  module _ (start : List ℕ) (kind : RelationType) where
+    -- by its end, a relationship of the row's start and type, and one of others
+    at_end : (end : List ℕ) → relation_at later start kind end ≡ cond (is_from start kind row && bytes_eq end (end_in row)) (Some row) (relation_at relations start kind end)
+    at_end end =
+        by_key start kind end
+        ∙ ap (λ b. cond (is_from start kind row && b) (Some row) (relation_at relations start kind end)) (flipped (end_in row) end)
+
+    beside : is_from start kind row ≡ false → (end : List ℕ) → relation_at later start kind end ≡ relation_at relations start kind end
+    beside f end = at_end end ∙ ap (λ b. cond (b && bytes_eq end (end_in row)) (Some row) (relation_at relations start kind end)) f
+
+    along : is_from start kind row ≡ true → (end : List ℕ) → relation_at later start kind end ≡ cond (bytes_eq end (end_in row)) (Some row) (relation_at relations start kind end)
+    along t end = at_end end ∙ ap (λ b. cond (b && bytes_eq end (end_in row)) (Some row) (relation_at relations start kind end)) t
+
+    -- where the row is of others, nothing changes
+    same_end : is_from start kind row ≡ false → (found : Option (List ℕ)) (seen : Seen (List ℕ)) → with_end later start kind found seen ≡ with_end relations start kind found seen
+    same_end f None Seen.Empty = refl
+    same_end f None Seen.Missing = refl
+    same_end f None (Seen.Held end) = ap (λ r. cond (is_some r) Seen.Empty (Seen.Held end)) (beside f end)
+    same_end f (Some end) seen = ap (λ r. cond (is_active_row r) (Seen.Held end) Seen.Empty) (beside f end)
+
+    -- where it is of them and not active, its own end is active no longer
+    left_end : is_from start kind row ≡ true → is_active row ≡ false → (found : Option (List ℕ)) (seen : Seen (List ℕ))
+        → with_end later start kind found seen ≡ unless_own (end_in row) (with_end relations start kind found seen)
+    left_end t idle None Seen.Empty = refl
+    left_end t idle None Seen.Missing = refl
+    left_end t idle None (Seen.Held end) =
+        ap (λ r. cond (is_some r) Seen.Empty (Seen.Held end)) (along t end)
+        ∙ elim (bytes_eq end (end_in row)) as (λ b. bytes_eq end (end_in row) ≡ b
+        → cond (is_some (cond b (Some row) (relation_at relations start kind end))) Seen.Empty (Seen.Held end)
+        ≡ unless_own (end_in row) (cond (is_some (relation_at relations start kind end)) Seen.Empty (Seen.Held end))) [
+          | true ↦ λ own. elim (is_some (relation_at relations start kind end)) as (λ h. Seen.Empty ≡ unless_own (end_in row) (cond h Seen.Empty (Seen.Held end))) [
+            | true ↦ refl
+            | false ↦ sym (ap (λ b. cond b Seen.Empty (Seen.Held end)) own)
+          ]
+          | false ↦ λ other. elim (is_some (relation_at relations start kind end)) as (λ h. cond h Seen.Empty (Seen.Held end) ≡ unless_own (end_in row) (cond h Seen.Empty (Seen.Held end))) [
+            | true ↦ refl
+            | false ↦ sym (ap (λ b. cond b Seen.Empty (Seen.Held end)) other)
+          ]
+        ] refl
+    left_end t idle (Some end) seen =
+        ap (λ r. cond (is_active_row r) (Seen.Held end) Seen.Empty) (along t end)
+        ∙ elim (bytes_eq end (end_in row)) as (λ b. bytes_eq end (end_in row) ≡ b
+        → cond (is_active_row (cond b (Some row) (relation_at relations start kind end))) (Seen.Held end) Seen.Empty
+        ≡ unless_own (end_in row) (cond (is_active_row (relation_at relations start kind end)) (Seen.Held end) Seen.Empty)) [
+          | true ↦ λ own. ap (λ b. cond b (Seen.Held end) Seen.Empty) idle
+              ∙ elim (is_active_row (relation_at relations start kind end)) as (λ h. Seen.Empty ≡ unless_own (end_in row) (cond h (Seen.Held end) Seen.Empty)) [
+                | true ↦ sym (ap (λ b. cond b Seen.Empty (Seen.Held end)) own)
+                | false ↦ refl
+              ]
+          | false ↦ λ other. elim (is_active_row (relation_at relations start kind end)) as (λ h. cond h (Seen.Held end) Seen.Empty ≡ unless_own (end_in row) (cond h (Seen.Held end) Seen.Empty)) [
+            | true ↦ sym (ap (λ b. cond b Seen.Empty (Seen.Held end)) other)
+            | false ↦ refl
+          ]
+        ] refl
+
+    -- where it is active, its end is
+    own_end : is_from start kind row ≡ true → is_active row ≡ true → (seen : Seen (List ℕ)) → with_end later start kind (Some (end_in row)) seen ≡ Seen.Held (end_in row)
+    own_end t active seen =
+        let here : relation_at later start kind (end_in row) ≡ Some row =
+        along t (end_in row) ∙ ap (λ b. cond b (Some row) (relation_at relations start kind (end_in row))) (bytes_itself (end_in row)) in
+        ap (λ r. cond (is_active_row r) (Seen.Held (end_in row)) Seen.Empty) here ∙ ap (λ b. cond b (Seen.Held (end_in row)) Seen.Empty) active
+
+    active_cell : with_end later start kind (end_at newer start kind) (below.active start kind)
+        ≡ cond (is_from start kind row) (with_active row (with_end relations start kind (end_at ends start kind) (below.active start kind)))
+        (with_end relations start kind (end_at ends start kind) (below.active start kind))
+    active_cell =
+        let seen = below.active start kind in
+        let before = with_end relations start kind (end_at ends start kind) seen in
+        ap (λ e. with_end later start kind e seen) (by_start start kind)
+        ∙ elim (is_from start kind row) as (λ f. is_from start kind row ≡ f
+        → with_end later start kind (cond (is_active row && f) (Some (end_in row)) (end_at ends start kind)) seen ≡ cond f (with_active row before) before) [
+          | true ↦ λ t. elim (is_active row) as (λ a. is_active row ≡ a
+              → with_end later start kind (cond (a && true) (Some (end_in row)) (end_at ends start kind)) seen ≡ cond a (Seen.Held (end_in row)) (unless_own (end_in row) before)) [
+                | true ↦ λ active. own_end t active seen
+                | false ↦ λ idle. left_end t idle (end_at ends start kind) seen
+              ] refl
+          | false ↦ λ f. ap (λ b. with_end later start kind (cond b (Some (end_in row)) (end_at ends start kind)) seen) (and_false (is_active row)) ∙ same_end f (end_at ends start kind) seen
+        ] refl
+
+  -- the cells through the maps with one more relationship are the cells with the relationship put
+  pub overlaid-put_relation : overlaid below records takers later newer standing ≡ put_relation (overlaid below records takers relations ends standing) row
+  overlaid-put_relation = λ i. record (overlaid below records takers relations ends standing) {
+    relation = λ start kind end. own_cell start kind end i;
+    active = λ start kind. active_cell start kind i;
+  }
+
+-- ---- exceptions
+
+module _ (below : Cells) (records : Records) (takers : Takers) (relations : Relations) (ends : Ends) (standing later : Standing) (own : List ℕ) (category : ExceptionCategory) (stands : Bool)
+    (by_code : (lei : List ℕ) (other : ExceptionCategory) → stands_at later lei other ≡ cond (bytes_eq own lei && is_same_category category other) (Some stands) (stands_at standing lei other)) where
+  fact_cell : (lei : List ℕ) (other : ExceptionCategory) → with_exception (stands_at later lei other) (below.exception lei other)
+      ≡ cond (bytes_eq own lei && is_same_category category other) (seen_fact stands) (with_exception (stands_at standing lei other) (below.exception lei other))
+  fact_cell lei other =
+      ap (λ s. with_exception s (below.exception lei other)) (by_code lei other)
+      ∙ elim (bytes_eq own lei && is_same_category category other) as (λ b. with_exception (cond b (Some stands) (stands_at standing lei other)) (below.exception lei other)
+      ≡ cond b (seen_fact stands) (with_exception (stands_at standing lei other) (below.exception lei other))) [ true ↦ refl | false ↦ refl ]
+
+  -- the cells through the map with what became of an exception are the cells with that put
+  pub overlaid-put_exception : overlaid below records takers relations ends later ≡ put_exception (overlaid below records takers relations ends standing) own category stands
+  overlaid-put_exception = λ i. record (overlaid below records takers relations ends standing) { exception = λ lei other. fact_cell lei other i }

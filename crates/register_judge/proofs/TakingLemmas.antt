@@ -15,9 +15,9 @@ use Rattle.lei_records.specs.declared.view.RecCell.{RecCell}
 use Rattle.lei_records.specs.declared.view.RowKey.{RowKey}
 use Rattle.lei_records.specs.declared.view.Seen.{Seen}
 use Rattle.lei_records.specs.Cells.{Cells, lei_in, successor_in, rec_cell, is_live, akey, holds}
+use Rattle.lei_records.specs.Lines.{Line, code_detail, fails_if, first_failing}
 use Rattle.lei_records.specs.Rows.{Row}
-use Rattle.lei_records.specs.Spelled.{IsRow}
-use Rattle.lei_records.specs.Tables.{Table, record_key, put, put_write, put_all, row_at, record_of, record_count, holder_of, other_holder, seen, cells_of, IsKeyed, HasHolders, IsSound}
+use Rattle.lei_records.specs.Tables.{Table, record_key, put, put_write, put_all, row_at, record_of, record_count, holder_of, other_holder, seen, cells_of, row_key, IsKeyed, HasHolders, AreRelationsKeyed, HasActives, IsSound}
 use Rattle.authority_rules.specs.Taken.{unless_own, taken, IsFree}
 use Rattle.authority_rules.proofs.HolderLemmas.{keys_total, some_apart, taken-cells}
 use Rattle.authority_rules.proofs.PutLemmas.{record_of-put, holder_of-put, IsKeyed-put, HasHolders-put, IsSound-put, other_than}
@@ -25,15 +25,23 @@ use Rattle.successor_rules.specs.declared.walks.Walked.{Walked}
 use Rattle.successor_rules.specs.Successors.{successor_of}
 use Rattle.successor_rules.specs.Walks.{is_met, is_long}
 use Rattle.successor_rules.proofs.WalkLemmas.{walk-over_table}
+use Rattle.relation_rules.specs.Checking.{checked_of}
+use Rattle.relation_rules.specs.Checks.{c37, other_end, exception_checks, relation_checks}
+use Rattle.relation_rules.proofs.ActiveLemmas.{HasActives-put, IsFitting}
+use Rattle.relation_rules.proofs.CheckLemmas.{check_exception-cells}
+use Rattle.relation_rules.proofs.PassLemmas.{all_pass}
+use Rattle.relation_rules.proofs.PutLemmas.{IsSound-put_exception, IsSound-put_relation, fitting}
 use Rattle.register_judge.specs.declared.judge.Judged.{Judged}
 use Rattle.register_judge.specs.declared.outcome.JudgeStop.{JudgeStop}
 use Rattle.register_judge.specs.declared.outcome.Outcome.{Outcome}
 use Rattle.register_judge.specs.declared.outcome.Verdict.{Verdict}
-use Rattle.register_judge.specs.Checks.{Line, fails_if, first_failing, own_checks, held_checks, c16, c19, c20, code_detail, successor_checks, earlier_checks, checks, is_full}
-use Rattle.register_judge.specs.Judging.{unless_failed, on_seen, key_cell, judge_room, judge_other, judge_key, judge_walk, judge_named, judge_successor, judge_held, judge_record, judge_item, put_writes, cells_after, room_after, room_taken, Judgement, before, judge_items}
+use Rattle.register_judge.specs.Checks.{own_checks, held_checks, c16, c19, c20, successor_checks, earlier_checks, checks, is_full}
+use Rattle.register_judge.specs.Judging.{unless_failed, on_seen, key_cell, judge_room, judge_other, judge_key, judge_walk, judge_named, judge_successor, judge_held, judge_record, judged_of, judge_item, put_writes, cells_after, room_after, room_taken, Judgement, before, judge_items}
 use Rattle.register_judge.specs.Outcomes.{Judges, Takes}
-use Rattle.register_judge.specs.Overlays.{put_cells}
-use Rattle.register_judge.specs.Taking.{verdict_of, verdict, writes_of, is_new, Taken, take, HaveRows}
+use Rattle.register_judge.specs.Overlays.{put_record}
+use Rattle.register_judge.specs.Taking.{verdict_of, item_checks, verdict, written, writes_of, is_new, Taken, take, HasRow, HaveRows}
+use Rattle.register_judge.proofs.CheckLemmas.{relation_by_cells}
+use Rattle.register_judge.proofs.RelationLemmas.{AreRelationsKeyed-put, cells-put_exception, cells-put_relation}
 
 -- ---- the first check that fails, in parts
 
@@ -159,17 +167,36 @@ record_by_table table limit room today office item keyed holders limit_is =
       new = is_none held && is_none (sym earlier i);
     }))))))
 
-item_by_table : (table : Table) (limit room : ℕ) (today : ℤ) (office : List ℕ) (item : Readied) → IsKeyed table → HasHolders table → limit ≡ record_count table + room
+-- ---- a relationship and an exception on a table
+
+-- the first check that fails is the verdict
+by_checks : (failed : Option Check) → judged_of (checked_of failed) ≡ Ok (record { verdict = verdict_of failed; new = false })
+by_checks None = refl
+by_checks (Some check) = refl
+
+-- What is asked of a table so that its cells tell each check: its rows stand under their own keys, and no two live records
+-- have one authority key, nor two active relationships one start and type.
+pub record IsTold (table : Table) : Type 0 where
+  pub keyed : IsKeyed table
+  pub holders : HasHolders table
+  pub relations_keyed : AreRelationsKeyed table
+  pub actives : HasActives table
+
+item_by_table : (table : Table) (limit room : ℕ) (today : ℤ) (office : List ℕ) (item : Readied) → IsTold table → limit ≡ record_count table + room
     → judge_item (cells_of table) (room == 0) today office item ≡ Ok (judged_on table limit today office item)
-item_by_table table limit room today office (Readied.Bad check) keyed holders limit_is = refl
-item_by_table table limit room today office (Readied.Good (Item.Record item)) keyed holders limit_is =
-    record_by_table table limit room today office item keyed holders limit_is
+item_by_table table limit room today office (Readied.Bad check) told limit_is = refl
+item_by_table table limit room today office (Readied.Good (Item.Record item)) told limit_is =
+    record_by_table table limit room today office item told.keyed told.holders limit_is
+item_by_table table limit room today office (Readied.Good (Item.Relation item)) told limit_is =
+    ap judged_of (relation_by_cells table office item told.actives) ∙ by_checks (first_failing (relation_checks table office item))
+item_by_table table limit room today office (Readied.Good (Item.Exception item)) told limit_is =
+    ap judged_of (check_exception-cells table office item) ∙ by_checks (first_failing (exception_checks table office item))
 
 -- ---- the cells and the room after an item
 
 -- putting a free record into a table puts it over the table's cells
-cells_put : (table : Table) (item : Row) → IsKeyed table → HasHolders table → IsFree table item → put_cells (cells_of table) item ≡ cells_of (put table (Item.Record item))
-cells_put table item keyed holders free = λ i. record {
+cells_put : (table : Table) (item : Row) → IsKeyed table → HasHolders table → IsFree table item → put_record (cells_of table) item ≡ cells_of (put table (Item.Record item))
+cells_put table item keyed holders free = λ i. record (cells_of table) {
   record_cell = λ lei. sym (ap seen (record_of-put table item lei) ∙ seen_cond (bytes_eq lei (lei_in item)) (rec_cell item) (record_of table lei)) i;
   holder = λ authority id. sym (ap seen (holder_of-put table item authority id keyed holders free)
       ∙ (seen_cond (holds authority id item) (lei_in item) (other_than (lei_in item) (holder_of table authority id))
@@ -218,19 +245,18 @@ successors_pass table limit today office item passes = (or_none _ _ (before_c20 
 
 -- ---- the table and the room after an item
 
--- after these writes the table is still one of whose keys each has one holder, its cells are the
--- cells with the writes put, and the room is what the limit leaves
+-- after these writes the table's cells tell each check, they are the cells with the writes put, and the room is what the
+-- limit leaves
 record After (table : Table) (limit room : ℕ) (writes : List (RowKey × Option Item)) (taken_up : ℕ) : Type 0 where
-  keyed : IsKeyed (put_all writes table)
-  holders : HasHolders (put_all writes table)
+  told : IsTold (put_all writes table)
   cells : put_writes writes (cells_of table) ≡ cells_of (put_all writes table)
   left : limit ≡ record_count (put_all writes table) + (room - taken_up)
 
 kept_room : (limit count room : ℕ) → limit ≡ count + room → limit ≡ count + (room - 0)
 kept_room limit count room is = omega arith
 
-unchanged : (table : Table) (limit room : ℕ) → IsKeyed table → HasHolders table → limit ≡ record_count table + room → After table limit room [] 0
-unchanged table limit room keyed holders limit_is = record { keyed = keyed; holders = holders; cells = refl; left = kept_room limit (record_count table) room limit_is }
+unchanged : (table : Table) (limit room : ℕ) → IsTold table → limit ≡ record_count table + room → After table limit room [] 0
+unchanged table limit room told limit_is = record { told = told; cells = refl; left = kept_room limit (record_count table) room limit_is }
 
 count_put : (table : Table) (item : Row) → record_count (put table (Item.Record item)) ≡ cond (is_some (row_at table (lei_in item))) (record_count table) (record_count table + 1)
 count_put table item = len-insert keys_total table.records (record_key (lei_in item)) item
@@ -245,35 +271,74 @@ room_put None count limit room next limit_is next_is fits =
     omega arith
 room_put (Some row) count limit room next limit_is next_is fits = omega arith
 
-accepted : (table : Table) (limit room : ℕ) (today : ℤ) (office : List ℕ) (item : Row) → IsKeyed table → HasHolders table → limit ≡ record_count table + room
+accepted : (table : Table) (limit room : ℕ) (today : ℤ) (office : List ℕ) (item : Row) → IsTold table → limit ≡ record_count table + room
     → Passes table limit today office item
     → After table limit room ((RowKey.Rec (lei_in item), Some (Item.Record item)) ∷ []) (room_taken Verdict.Accepted (is_new table today office (Readied.Good (Item.Record item))))
-accepted table limit room today office item keyed holders limit_is passes =
+accepted table limit room today office item told limit_is passes =
     let both = passed table limit today office item passes in
     let free = free_if_passes table limit today office item passes in
     let held = record_of table (lei_in item) in
     let new : is_new table today office (Readied.Good (Item.Record item)) ≡ is_none held =
     ap (λ f. is_none held && is_none f) both.0 ∙ sym (and_true (is_none held)) in
     record {
-      keyed = IsKeyed-put table item keyed;
-      holders = HasHolders-put table item keyed holders free;
-      cells = cells_put table item keyed holders free;
+      told = record {
+        keyed = IsKeyed-put table item told.keyed;
+        holders = HasHolders-put table item told.keyed told.holders free;
+        relations_keyed = told.relations_keyed;
+        actives = told.actives;
+      };
+      cells = cells_put table item told.keyed told.holders free;
       left = room_put (row_at table (lei_in item)) (record_count table) limit room (record_count (put table (Item.Record item))) limit_is (count_put table item)
           (one_none (is_none held && is_full table limit) 20 Detail.None both.1)
           ∙ ap (λ n. record_count (put table (Item.Record item)) + (room - room_taken Verdict.Accepted n)) (sym new);
     }
 
-by_verdict : (table : Table) (limit room : ℕ) (today : ℤ) (office : List ℕ) (item : Row) (failed : Option Check) → IsKeyed table → HasHolders table → limit ≡ record_count table + room
-    → first_failing (checks table limit today office item) ≡ failed
-    → After table limit room (writes_of (verdict_of failed) (Readied.Good (Item.Record item))) (room_taken (verdict_of failed) (is_new table today office (Readied.Good (Item.Record item))))
-by_verdict table limit room today office item None keyed holders limit_is is = accepted table limit room today office item keyed holders limit_is is
-by_verdict table limit room today office item (Some check) keyed holders limit_is is = unchanged table limit room keyed holders limit_is
+-- an accepted relationship has no other active one in its way
+pub passed_37 : (table : Table) (office : List ℕ) (row : Row) → first_failing (relation_checks table office row) ≡ None → (c37 (other_end table row) row).fails ≡ false
+passed_37 table office row passes = (all_pass (relation_checks table office row) passes).others.others.others.others.others.others.others.first
 
-after_item : (table : Table) (limit room : ℕ) (today : ℤ) (office : List ℕ) (item : Readied) → IsKeyed table → HasHolders table → limit ≡ record_count table + room
+related : (table : Table) (limit room : ℕ) (office : List ℕ) (row : Row) → IsTold table → limit ≡ record_count table + room
+    → first_failing (relation_checks table office row) ≡ None
+    → After table limit room ((row_key (Item.Relation row), Some (Item.Relation row)) ∷ []) 0
+related table limit room office row told limit_is passes =
+    let fits : IsFitting table row = fitting table row (passed_37 table office row passes) in
+    record {
+      told = record {
+        keyed = told.keyed;
+        holders = told.holders;
+        relations_keyed = AreRelationsKeyed-put table row told.relations_keyed;
+        actives = HasActives-put table row told.relations_keyed told.actives fits;
+      };
+      cells = cells-put_relation table row told.relations_keyed told.actives fits;
+      left = kept_room limit (record_count table) room limit_is;
+    }
+
+excepted : (table : Table) (limit room : ℕ) (row : Row) (withdraws : Bool) → IsTold table → limit ≡ record_count table + room
+    → After table limit room ((row_key (Item.Exception (row, withdraws)), written (Item.Exception (row, withdraws))) ∷ []) 0
+excepted table limit room row true told limit_is = record {
+  told = record { keyed = told.keyed; holders = told.holders; relations_keyed = told.relations_keyed; actives = told.actives };
+  cells = cells-put_exception table row true;
+  left = kept_room limit (record_count table) room limit_is;
+}
+excepted table limit room row false told limit_is = record {
+  told = record { keyed = told.keyed; holders = told.holders; relations_keyed = told.relations_keyed; actives = told.actives };
+  cells = cells-put_exception table row false;
+  left = kept_room limit (record_count table) room limit_is;
+}
+
+by_verdict : (table : Table) (limit room : ℕ) (today : ℤ) (office : List ℕ) (item : Item) (failed : Option Check) → IsTold table → limit ≡ record_count table + room
+    → first_failing (item_checks table limit today office item) ≡ failed
+    → After table limit room (writes_of (verdict_of failed) (Readied.Good item)) (room_taken (verdict_of failed) (is_new table today office (Readied.Good item)))
+by_verdict table limit room today office item (Some check) told limit_is is = unchanged table limit room told limit_is
+by_verdict table limit room today office (Item.Record row) None told limit_is is = accepted table limit room today office row told limit_is is
+by_verdict table limit room today office (Item.Relation row) None told limit_is is = related table limit room office row told limit_is is
+by_verdict table limit room today office (Item.Exception item) None told limit_is is = excepted table limit room item.0 item.1 told limit_is
+
+after_item : (table : Table) (limit room : ℕ) (today : ℤ) (office : List ℕ) (item : Readied) → IsTold table → limit ≡ record_count table + room
     → After table limit room (writes_of (verdict table limit today office item) item) (room_taken (verdict table limit today office item) (is_new table today office item))
-after_item table limit room today office (Readied.Bad check) keyed holders limit_is = unchanged table limit room keyed holders limit_is
-after_item table limit room today office (Readied.Good (Item.Record item)) keyed holders limit_is =
-    by_verdict table limit room today office item (first_failing (checks table limit today office item)) keyed holders limit_is refl
+after_item table limit room today office (Readied.Bad check) told limit_is = unchanged table limit room told limit_is
+after_item table limit room today office (Readied.Good item) told limit_is =
+    by_verdict table limit room today office item (first_failing (item_checks table limit today office item)) told limit_is refl
 
 -- ---- all items
 
@@ -281,20 +346,26 @@ abbrev pub shown : Taken → Judgement
 shown taken = record { verdicts = taken.verdicts; writes = taken.writes; new_records = taken.new_records }
 
 -- over the cells of a table what is judged is what the items do to the table
-pub judged-taken : (table : Table) (limit room : ℕ) (today : ℤ) (office : List ℕ) (items : List Readied) → IsKeyed table → HasHolders table → limit ≡ record_count table + room
+told-taken : (table : Table) (limit room : ℕ) (today : ℤ) (office : List ℕ) (items : List Readied) → IsTold table → limit ≡ record_count table + room
     → judge_items (cells_of table) room today office items ≡ Ok (shown (take table limit today office items))
 unfolding judge_items
-judged-taken table limit room today office [] keyed holders limit_is = refl
-judged-taken table limit room today office (item ∷ items) keyed holders limit_is =
+told-taken table limit room today office [] told limit_is = refl
+told-taken table limit room today office (item ∷ items) told limit_is =
     let given = verdict table limit today office item in
     let new = is_new table today office item in
-    let next = after_item table limit room today office item keyed holders limit_is in
+    let next = after_item table limit room today office item told limit_is in
     let rest : Result Judged CellKey → Result Judgement CellKey =
     λ j. before j item (judge_items (cells_after j item (cells_of table)) (room_after j room) today office items) in
-    ap rest (item_by_table table limit room today office item keyed holders limit_is)
+    ap rest (item_by_table table limit room today office item told limit_is)
     ∙ ap (before (Ok (judged_on table limit today office item)) item)
     (ap (λ cells. judge_items cells (room - room_taken given new) today office items) next.cells
-    ∙ judged-taken (put_all (writes_of given item) table) limit (room - room_taken given new) today office items next.keyed next.holders next.left)
+    ∙ told-taken (put_all (writes_of given item) table) limit (room - room_taken given new) today office items next.told next.left)
+
+pub judged-taken : (table : Table) (limit room : ℕ) (today : ℤ) (office : List ℕ) (items : List Readied) → IsSound table → limit ≡ record_count table + room
+    → judge_items (cells_of table) room today office items ≡ Ok (shown (take table limit today office items))
+judged-taken table limit room today office items sound limit_is =
+    told-taken table limit room today office items
+    (record { keyed = sound.keyed; holders = sound.holders; relations_keyed = sound.relations_keyed; actives = sound.actives }) limit_is
 
 -- ---- the table behind the items
 
@@ -311,21 +382,40 @@ take-written table limit today office (item ∷ items) =
     take-written (put_all writes table) limit today office items
     ∙ sym (put_all-append writes (take (put_all writes table) limit today office items).writes table)
 
-record_sound : (table : Table) (limit : ℕ) (today : ℤ) (office : List ℕ) (item : Row) (failed : Option Check) → IsSound table → IsRow item
-    → first_failing (checks table limit today office item) ≡ failed
-    → IsSound (put_all (writes_of (verdict_of failed) (Readied.Good (Item.Record item))) table)
-record_sound table limit today office item None sound is_row is = IsSound-put table item sound is_row (free_if_passes table limit today office item is)
-record_sound table limit today office item (Some check) sound is_row is = sound
+-- an accepted item leaves a sound table sound
+accepted_sound : (table : Table) (limit : ℕ) (today : ℤ) (office : List ℕ) (item : Item) → IsSound table → HasRow item
+    → first_failing (item_checks table limit today office item) ≡ None → IsSound (put table item)
+accepted_sound table limit today office (Item.Record row) sound is_row passes = IsSound-put table row sound is_row (free_if_passes table limit today office row passes)
+accepted_sound table limit today office (Item.Relation row) sound is_row passes = IsSound-put_relation table row sound is_row (passed_37 table office row passes)
+accepted_sound table limit today office (Item.Exception item) sound is_row passes = IsSound-put_exception table item.0 item.1 sound is_row
+
+-- what an item writes is that it is put
+pub put-written : (P : Table → Type 0) (table : Table) (item : Item) → P (put table item) → P (put_write table (row_key item, written item))
+put-written P table (Item.Record row) is = is
+put-written P table (Item.Relation row) is = is
+put-written P table (Item.Exception (row, true)) is = is
+put-written P table (Item.Exception (row, false)) is = is
+
+item_sound : (table : Table) (limit : ℕ) (today : ℤ) (office : List ℕ) (item : Item) (failed : Option Check) → IsSound table → HasRow item
+    → first_failing (item_checks table limit today office item) ≡ failed
+    → IsSound (put_all (writes_of (verdict_of failed) (Readied.Good item)) table)
+item_sound table limit today office item (Some check) sound is_row is = sound
+item_sound table limit today office item None sound is_row is = put-written IsSound table item (accepted_sound table limit today office item sound is_row is)
+
+-- the table behind the first of some items, with the rows of those behind it
+pub next_sound : (table : Table) (limit : ℕ) (today : ℤ) (office : List ℕ) (item : Item) → IsSound table → HasRow item
+    → IsSound (put_all (writes_of (verdict table limit today office (Readied.Good item)) (Readied.Good item)) table)
+next_sound table limit today office item sound is_row =
+    item_sound table limit today office item (first_failing (item_checks table limit today office item)) sound is_row refl
 
 -- the items leave a sound table sound
 pub take-sound : (table : Table) (limit : ℕ) (today : ℤ) (office : List ℕ) (items : List Readied) → IsSound table → HaveRows items
     → IsSound (take table limit today office items).table
 take-sound table limit today office [] sound rows = sound
 take-sound table limit today office (Readied.Bad check ∷ items) sound rows = take-sound table limit today office items sound rows
-take-sound table limit today office (Readied.Good (Item.Record item) ∷ items) sound rows =
-    let given = verdict table limit today office (Readied.Good (Item.Record item)) in
-    take-sound (put_all (writes_of given (Readied.Good (Item.Record item))) table) limit today office items
-    (record_sound table limit today office item (first_failing (checks table limit today office item)) sound rows.0 refl) rows.1
+take-sound table limit today office (Readied.Good item ∷ items) sound rows =
+    let given = verdict table limit today office (Readied.Good item) in
+    take-sound (put_all (writes_of given (Readied.Good item)) table) limit today office items (next_sound table limit today office item sound rows.0) rows.1
 
 -- what is judged of a table is taken, and no cell is wanted
 pub judges-takes : (result : Result Outcome JudgeStop) (judged : Result Judgement CellKey) (taken : Taken) → judged ≡ Ok (shown taken) → Judges result judged → Takes result taken

@@ -1,14 +1,14 @@
 -- The checks of a record that is brought to a table, C05 to C20. This project's profile.
-use Rattle.std.specs.Prelude.{ℕ, ℤ, List, [], ◌∷◌, ◌++◌, Bool, false, not, ◌&&◌, ◌||◌, int_lt, nat_le, if◌then◌else◌, Option, Some, None, is_some, is_none}
+use Rattle.std.specs.Prelude.{ℕ, ℤ, List, [], ◌∷◌, ◌++◌, Bool, false, not, ◌&&◌, ◌||◌, int_lt, nat_le, Option, Some, None, is_some, is_none}
 use Rattle.std.specs.Option.{option_map_or}
 use Rattle.std.specs.Ordering.{int_eq}
 use Rattle.std.specs.Str.{bytes_eq}
 use Rattle.lei_shapes.specs.declared.lists.RecordStatus.{RecordStatus}
 use Rattle.lei_shapes.specs.Moment.{day_of}
-use Rattle.lei_records.specs.declared.check.Check.{Check}
 use Rattle.lei_records.specs.declared.check.Detail.{Detail}
 use Rattle.lei_records.specs.declared.view.RecCell.{RecCell}
 use Rattle.lei_records.specs.Cells.{lei_in, status_in, entity_status_in, initial_in, updated_in, renewal_in, created_in, manager_in, successor_in, is_live}
+use Rattle.lei_records.specs.Lines.{Line, fails_if, code_detail}
 use Rattle.lei_records.specs.Rows.{Row}
 use Rattle.lei_records.specs.Tables.{Table, record_of, record_count, other_holder}
 use Rattle.status_rules.specs.declared.transitions.Party.{Party}
@@ -16,21 +16,6 @@ use Rattle.status_rules.specs.Statuses.{entity_fits, renewal_fits, is_issued, is
 use Rattle.status_rules.specs.Transitions.{party}
 use Rattle.successor_rules.specs.Successors.{successor_of}
 use Rattle.successor_rules.specs.Walks.{Next, is_met, is_long}
-
--- a check: its number, whether it fails, and what it tells then
-pub record Line : Type 0 where
-  pub code : ℕ
-  pub fails : Bool
-  pub detail : Detail
-
-abbrev pub fails_if : Bool → ℕ → Detail → Line
-fails_if fails code detail = record { code = code; fails = fails; detail = detail }
-
--- the first check that fails
-abbrev pub first_failing : List Line → Option Check
-first_failing [] = None
-first_failing (line ∷ lines) =
-    if line.fails then Some (record { code = line.code; detail = line.detail }) else first_failing lines
 
 -- ---- the item alone, and the uploader
 
@@ -119,11 +104,6 @@ abbrev pub c18 : Next → List ℕ → Line
 c18 next successor = fails_if (is_long next successor) 18 Detail.None
 
 -- ---- the other records
-
--- a code that stands in the way is told
-abbrev pub code_detail : Option (List ℕ) → Detail
-code_detail None = Detail.None
-code_detail (Some lei) = Detail.Code lei
 
 -- C19: the item is live and another live record has its authority key; that record's LEI is told
 abbrev pub c19 : Option (List ℕ) → Row → Line

@@ -9,13 +9,16 @@ use Rattle.lei_records.specs.declared.view.RecCell.{RecCell}
 use Rattle.lei_records.specs.declared.view.RowKey.{RowKey}
 use Rattle.lei_records.specs.declared.view.Seen.{Seen}
 use Rattle.lei_records.specs.Cells.{Cells, lei_in, successor_in, is_live, akey}
+use Rattle.lei_records.specs.Lines.{first_failing}
 use Rattle.lei_records.specs.Rows.{Row}
 use Rattle.authority_rules.specs.Taken.{taken}
+use Rattle.relation_rules.specs.declared.checked.Checked.{Checked}
+use Rattle.relation_rules.specs.Checking.{check_relation, check_exception}
 use Rattle.successor_rules.specs.declared.walks.Walked.{Walked}
 use Rattle.successor_rules.specs.Successors.{walk}
 use Rattle.register_judge.specs.declared.judge.Judged.{Judged}
 use Rattle.register_judge.specs.declared.outcome.Verdict.{Verdict}
-use Rattle.register_judge.specs.Checks.{first_failing, own_checks, held_checks, c16, c19, c20}
+use Rattle.register_judge.specs.Checks.{own_checks, held_checks, c16, c19, c20}
 use Rattle.register_judge.specs.Overlays.{put_cells}
 use Rattle.register_judge.specs.Taking.{verdict_of, writes_of}
 
@@ -86,17 +89,24 @@ judge_record cells full today office item =
     unless_failed (first_failing (own_checks today office item))
     (on_seen (cells.record_cell (lei_in item)) (CellKey.Rec (lei_in item)) (judge_held cells full today office item))
 
+-- a relationship or an exception, by what its checks come to: it takes up no room
+abbrev pub judged_of : Checked → Result Judged CellKey
+judged_of Checked.Passes = Ok (record { verdict = Verdict.Accepted; new = false })
+judged_of (Checked.Fails check) = Ok (rejected check)
+judged_of (Checked.Missing key) = Err key
+
 abbrev pub judge_item : Cells → Bool → ℤ → List ℕ → Readied → Result Judged CellKey
 judge_item cells full today office (Readied.Bad check) = Ok (rejected check)
 judge_item cells full today office (Readied.Good (Item.Record item)) = judge_record cells full today office item
+judge_item cells full today office (Readied.Good (Item.Relation item)) = judged_of (check_relation cells office item)
+judge_item cells full today office (Readied.Good (Item.Exception item)) = judged_of (check_exception cells office item)
 
 -- ---- items from the first to the last
 
 -- the cells after these writes
 abbrev pub put_writes : List (RowKey × Option Item) → Cells → Cells
 put_writes [] cells = cells
-put_writes ((key, None) ∷ writes) cells = put_writes writes cells
-put_writes ((key, Some (Item.Record item)) ∷ writes) cells = put_writes writes (put_cells cells item)
+put_writes (write ∷ writes) cells = put_writes writes (put_cells cells write)
 
 abbrev pub cells_after : Result Judged CellKey → Readied → Cells → Cells
 cells_after (Err key) item cells = cells

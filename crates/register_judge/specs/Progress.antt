@@ -9,9 +9,10 @@ use Rattle.register_judge.specs.Judging.{room_taken}
 use Rattle.register_judge.specs.Overlays.{overlaid}
 use Rattle.register_judge.specs.Taking.{writes_of}
 
--- the cells of a view with accepted records over it
+-- the cells of a view with accepted items over it
 abbrev pub cells_in : {V : Type 0} → (V → Cells) → Overlay V → Cells
-cells_in cells overlay = overlaid (cells overlay.view.now) overlay.records overlay.takers
+cells_in cells overlay =
+    overlaid (cells overlay.view.now) overlay.records overlay.takers overlay.relations overlay.ends overlay.standing
 
 -- An item was added to what was judged: its verdict, what it writes, whether it is new, and the room that is left.
 pub record Adds (old new : Progress) (judged : Judged) (item : Readied) : Type 0 where

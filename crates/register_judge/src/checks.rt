@@ -4,6 +4,7 @@ ghost use Rattle.std.specs.Option.{option_map_or};
 ghost use Rattle.std.specs.Str.{bytes_eq};
 ghost use Rattle.lei_records.specs.declared.check.Detail.{Detail};
 ghost use Rattle.lei_records.specs.Cells.{entity_status_in, renewal_in};
+ghost use Rattle.lei_records.specs.Lines.{first_failing};
 ghost use Rattle.status_rules.specs.Statuses;
 ghost use Rattle.register_judge.specs.Checks;
 
@@ -72,7 +73,7 @@ pub fn plain(code: u8) -> Check
 
 /// C05 to C09: the item alone, and the uploader.
 pub fn own_check(office: &Lei, today: i32, item: &Record) -> Option<Check>
-    ensures { result ≡ Checks.first_failing (Checks.own_checks today office.now item.now) }
+    ensures { result ≡ first_failing (Checks.own_checks today office.now item.now) }
 {
     if has_wrong_entity_status(item) {
         return Some(plain(STATUS_ENTITY));
@@ -157,7 +158,7 @@ fn misfits(status: RecordStatus, stands: bool) -> bool
 
 /// C10 to C15: the record that is held under the item's code, if there is one, and the day.
 pub fn held_check(held: &Option<RecCell>, office: &Lei, today: i32, item: &Record) -> Option<Check>
-    ensures { result ≡ Checks.first_failing (Checks.held_checks held.now today office.now item.now) }
+    ensures { result ≡ first_failing (Checks.held_checks held.now today office.now item.now) }
 {
     match held {
         None => first_check(today, item),
@@ -167,7 +168,7 @@ pub fn held_check(held: &Option<RecCell>, office: &Lei, today: i32, item: &Recor
 
 // Where no record is held: C10 and C15.
 fn first_check(today: i32, item: &Record) -> Option<Check>
-    ensures { (office : List ℕ) → result ≡ Checks.first_failing (Checks.held_checks None today office item.now) }
+    ensures { (office : List ℕ) → result ≡ first_failing (Checks.held_checks None today office item.now) }
 {
     if !is_issued(item.cell().status) {
         return Some(plain(NOT_ISSUED));
@@ -180,7 +181,7 @@ fn first_check(today: i32, item: &Record) -> Option<Check>
 
 // Where one is held: C11 to C15.
 fn change_check(held: &RecCell, office: &Lei, today: i32, item: &Record) -> Option<Check>
-    ensures { result ≡ Checks.first_failing (Checks.held_checks (Some held.now) today office.now item.now) }
+    ensures { result ≡ first_failing (Checks.held_checks (Some held.now) today office.now item.now) }
 {
     let party = transition(Some(held.status), item.cell().status);
     if party.is_none() {
@@ -248,7 +249,7 @@ pub fn key_check(other: Lei) -> Check
 
 /// C20: whether a record is held under the item's code, and whether the table is full.
 pub fn room_check(held: &Option<RecCell>, full: bool) -> Option<Check>
-    ensures { result ≡ Checks.first_failing (Checks.c20 held.now full ∷ []) }
+    ensures { result ≡ first_failing (Checks.c20 held.now full ∷ []) }
 {
     if held.is_none() && full {
         Some(plain(REGISTER_FULL))

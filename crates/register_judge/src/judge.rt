@@ -19,6 +19,7 @@ use authority_rules::{is_live, key_of, taken};
 use lei_code::Lei;
 use lei_outside::{NoMemory, Text};
 use lei_records::{CellKey, Check, Item, Readied, RecCell, Record, Seen, View};
+use relation_rules::{Checked, exception_check, relation_check};
 use std::alloc::Global;
 use successor_rules::{Walked, walk};
 
@@ -53,6 +54,22 @@ pub fn judge_item<V: View>(
     match item {
         Readied::Bad(check) => Ok(rejected(check.copy(alloc)?)),
         Readied::Good(Item::Record(item)) => judge_record(alloc, view, full, office, today, item),
+        Readied::Good(Item::Relation(item)) => judged_of(relation_check(view, office, item)),
+        Readied::Good(Item::Exception(item)) => judged_of(exception_check(view, office, item)),
+    }
+}
+
+// A relationship or an exception, by what its checks come to. It takes up no room.
+fn judged_of(checked: Checked) -> Result<Judged, JudgeStop>
+    ensures { JudgesItem result (Judging.judged_of checked) }
+{
+    match checked {
+        Checked::Passes => Ok(Judged {
+            verdict: Verdict::Accepted,
+            new: false,
+        }),
+        Checked::Fails(check) => Ok(rejected(check)),
+        Checked::Missing(key) => Err(JudgeStop::NeedCell(key)),
     }
 }
 

@@ -1,12 +1,14 @@
 //! The verdicts on the items of an upload.
-ghost use Rattle.std.specs.Prelude.{◌≡◌, ◌==◌, ◌<◌, ◌≤◌, ◌+◌, ◌-◌, ◌∷◌, ◌++◌, ℕ, [], Some, OnOk, length, if◌then◌else◌};
-ghost use Rattle.lei_records.specs.Tables.{Table, IsSound, cells_of, record_count};
+ghost use Rattle.std.specs.Prelude.{◌≡◌, ◌==◌, ◌<◌, ◌≤◌, ◌+◌, ◌-◌, ◌∷◌, ◌++◌, ℕ, [], IfOk, OnOk, length, if◌then◌else◌};
+ghost use Rattle.lei_records.specs.Tables.{Table, IsSound, cells_of, record_count, row_key};
 ghost use Rattle.register_judge.specs.Judging;
 ghost use Rattle.register_judge.specs.Outcomes.{Judges, Shows, Takes};
 ghost use Rattle.register_judge.specs.Progress.{Adds, cells_in};
-ghost use Rattle.register_judge.specs.Taking.{row_key, take, writes_of};
+ghost use Rattle.register_judge.specs.Taking;
+ghost use Rattle.register_judge.specs.Taking.{take, writes_of, written};
 
 use crate::judge::{Judged, judge_item};
+use crate::keys::row_key;
 use crate::outcome::{JudgeStop, Outcome, Verdict};
 use crate::overlay::Overlay;
 use lei_code::Lei;
@@ -81,7 +83,7 @@ fn judge_each<V: View>(
     Ok(outcome_of(alloc, progress))
 }
 
-// Puts an accepted item over the view and behind what was written.
+// Puts an accepted item over the view, and what it writes behind what was written.
 fn write_item<'a, V: View>(
     alloc: Global,
     overlay: &mut Overlay<'a, V>,
@@ -106,13 +108,22 @@ fn accept<'a, V: View>(
     item: &'a Item,
 ) -> Result<(), NoMemory>
     ensures cells { OnOk result (cells_in V.cells overlay.new
-        ≡ Judging.put_writes ((row_key item.now, Some item.now) ∷ []) (cells_in V.cells overlay.old)) }
-    ensures writes { OnOk result (writes.new.items ≡ writes.old.items ++ (row_key item.now, Some item.now) ∷ []) }
+        ≡ Judging.put_writes ((row_key item.now, written item.now) ∷ []) (cells_in V.cells overlay.old)) }
+    ensures writes { OnOk result (writes.new.items ≡ writes.old.items ++ (row_key item.now, written item.now) ∷ []) }
 {
-    let Item::Record(put) = item;
-    overlay.put(alloc, put)?;
-    writes.push((RowKey::Rec(put.lei()), Some(item.copy(alloc)?)))?;
+    overlay.put(alloc, item)?;
+    writes.push((row_key(item), written(alloc, item)?))?;
     Ok(())
+}
+
+// What is held under the item's key then: a copy of it, or nothing where it is a withdrawal.
+fn written(alloc: Global, item: &Item) -> Result<Option<Item>, NoMemory>
+    ensures { IfOk result (λ copy. copy ≡ Taking.written item.now) }
+{
+    match item {
+        Item::Exception(exception) if exception.withdraws() => Ok(None),
+        item => Ok(Some(item.copy(alloc)?)),
+    }
 }
 
 // Adds a verdict to what was judged.

@@ -3,9 +3,11 @@ ghost use Rattle.std.specs.Prelude.{◌≡◌, ℕ, ℤ, List, None};
 ghost use Rattle.lei_records.specs.declared.item.Item.{Item};
 ghost use Rattle.lei_records.specs.declared.item.Readied.{Readied};
 ghost use Rattle.lei_records.specs.Cells.{successor_in};
+ghost use Rattle.lei_records.specs.Lines.{first_failing};
 ghost use Rattle.lei_records.specs.Rows.{Row};
 ghost use Rattle.lei_records.specs.Tables.{Table, IsSound, put, put_all};
-ghost use Rattle.register_judge.specs.Checks.{first_failing, successor_checks};
+ghost use Rattle.relation_rules.specs.Parents.{AreApart, HasParents};
+ghost use Rattle.register_judge.specs.Checks.{successor_checks};
 ghost use Rattle.register_judge.specs.Taking.{take, HaveRows};
 ghost use Rattle.successor_rules.specs.Successors.{HasChains};
 
@@ -33,4 +35,16 @@ pub fn accepted_successors_keep_chains()
 pub fn items_keep_chains()
     ensures { (table : Table) (limit : ℕ) (today : ℤ) (office : List ℕ) (items : List Readied)
         → HasChains table → HasChains (take table limit today office items).table }
+{}
+
+/// Items leave each chain of direct parents of a sound table with an end.
+pub fn items_keep_parents()
+    ensures { (table : Table) (limit : ℕ) (today : ℤ) (office : List ℕ) (items : List Readied)
+        → IsSound table → HasParents table → HaveRows items → HasParents (take table limit today office items).table }
+{}
+
+/// They leave no active parent of a sound table beside the exception of its category.
+pub fn items_keep_apart()
+    ensures { (table : Table) (limit : ℕ) (today : ℤ) (office : List ℕ) (items : List Readied)
+        → IsSound table → AreApart table → HaveRows items → AreApart (take table limit today office items).table }
 {}

@@ -1,10 +1,12 @@
 //! The verdicts on an upload's items: each item is judged on the table that the accepted ones before
-//! it left, by the checks C05 to C20. This project's profile.
+//! it left. A record by the checks C05 to C20, a relationship by C30 to C40, an exception by C50 to C53. This project's
+//! profile.
 #![tactic(auto)]
 
 mod checks;
 mod judge;
 mod judging;
+mod keys;
 mod laws;
 mod outcome;
 mod overlay;
@@ -16,8 +18,8 @@ pub use checks::{
 };
 pub use judging::judge_all;
 pub use laws::{
-    accepted_successors_keep_chains, items_keep_chains, items_keep_tables_sound,
-    writes_make_the_table,
+    accepted_successors_keep_chains, items_keep_apart, items_keep_chains, items_keep_parents,
+    items_keep_tables_sound, writes_make_the_table,
 };
 pub use outcome::{JudgeStop, Outcome, Verdict};
 

@@ -16,9 +16,9 @@ pub enum Verdict {
 pub struct Outcome {
     /// One for each item, in their order.
     pub verdicts: List<Verdict>,
-    /// The accepted items.
+    /// The keys of the accepted items, each with its item, and with none where it is a withdrawal.
     pub writes: Writes,
-    /// How many items came to the check of the room while no record of their code was held.
+    /// How many records came to the check of the room while none of their code was held.
     pub new_records: u32,
     /// The cells that were read. None are listed yet.
     pub reads: Reads,

@@ -1,15 +1,25 @@
-//! A view with accepted records put over it.
-ghost use Rattle.std.specs.Prelude.{◌≡◌, ◌&&◌, ℕ, List, Some, None, OnOk, if◌then◌else◌, option_map};
+//! A view with accepted items put over it.
+ghost use Rattle.std.specs.Prelude.{◌≡◌, ◌&&◌, Bool, ℕ, List, Some, None, OnOk, if◌then◌else◌, not, option_map};
 ghost use Rattle.std.specs.Option.{option_copied};
 ghost use Rattle.std.specs.Str.{bytes_eq};
+ghost use Rattle.lei_shapes.specs.declared.lists.ExceptionCategory.{ExceptionCategory};
+ghost use Rattle.lei_shapes.specs.declared.lists.RelationType.{RelationType};
 ghost use Rattle.lei_records.specs.Cells;
 ghost use Rattle.lei_records.specs.Cells.{lei_in};
+ghost use Rattle.lei_records.specs.Exceptions.{exception_category_in, subject_in};
+ghost use Rattle.lei_records.specs.Relations.{end_in, kind_in, start_in};
+ghost use Rattle.lei_records.specs.Relations as Spelled;
+ghost use Rattle.lei_records.specs.Tables.{row_key};
 ghost use Rattle.register_judge.specs.Overlays;
+ghost use Rattle.register_judge.specs.Progress.{cells_in};
+ghost use Rattle.register_judge.specs.Taking.{written};
 
+use crate::keys::{category_of, is_active, kind_of};
 use authority_rules::{holds, is_live, key_of};
 use lei_code::Lei;
 use lei_outside::NoMemory;
-use lei_records::{RecCell, Record, Seen, View};
+use lei_records::{ExceptionItem, Item, RecCell, Record, RelCell, Relation, Seen, View};
+use lei_shapes::{ExceptionCategory, RelationType};
 use std::alloc::Global;
 use std::collections::BTreeMap;
 
@@ -19,7 +29,16 @@ type Ids<'a> = BTreeMap<&'a str, Lei>;
 // The ids of each authority.
 type Takers<'a> = BTreeMap<&'a str, Ids<'a>>;
 
-// A view with accepted records over it. They are found by their codes and by their authority keys.
+// By start, type and end. Types and categories have no order of their own, and stand by their texts.
+type Relations<'a> = BTreeMap<(Lei, &'static str, Lei), &'a Relation>;
+
+// By start and type, the end of a relationship.
+type Ends = BTreeMap<(Lei, &'static str), Lei>;
+
+// By code and category, whether the exception stands.
+type Standing = BTreeMap<(Lei, &'static str), bool>;
+
+// A view with accepted items over it. Each is found by the keys of its cells.
 #[derive(Drop)]
 pub struct Overlay<'a, V> {
     view: &'a V,
@@ -27,10 +46,16 @@ pub struct Overlay<'a, V> {
     records: BTreeMap<Lei, &'a Record>,
     // The record that took a key last. It may have given the key up again.
     takers: Takers<'a>,
+    // The accepted relationship of each key, and of two with one key the later.
+    relations: Relations<'a>,
+    // The end of the relationship that was put as an active one last. It may not be active any longer.
+    ends: Ends,
+    // The exceptions that were put or withdrawn.
+    standing: Standing,
 }
 
 impl<'a, V: View> View for Overlay<'a, V> {
-    ghost cells = { λ o. Overlays.overlaid (V.cells o.view.now) o.records o.takers };
+    ghost cells = { cells_in V.cells };
 
     fn record_cell(&self, lei: &Lei) -> Seen<RecCell> {
         match self.accepted(lei) {
@@ -45,27 +70,78 @@ impl<'a, V: View> View for Overlay<'a, V> {
             None => self.unless_replaced(self.view.holder(authority, id)),
         }
     }
+
+    fn relation(&self, start: &Lei, kind: RelationType, end: &Lei) -> Seen<RelCell> {
+        match self.accepted_relation(start, kind, end) {
+            Some(item) => Seen::Held(item.cell()),
+            None => self.view.relation(start, kind, end),
+        }
+    }
+
+    fn active(&self, start: &Lei, kind: RelationType) -> Seen<Lei> {
+        match self.last_end(start, kind) {
+            Some(end) => self.if_active(start, kind, end),
+            None => self.unless_relation_put(start, kind, self.view.active(start, kind)),
+        }
+    }
+
+    fn exception(&self, lei: &Lei, category: ExceptionCategory) -> Seen<()> {
+        match self.stands(lei, category) {
+            Some(true) => Seen::Held(()),
+            Some(false) => Seen::Empty,
+            None => self.view.exception(lei, category),
+        }
+    }
 }
 
 impl<'a, V: View> Overlay<'a, V> {
     /// The view with nothing over it.
     pub fn new(alloc: Global, view: &'a V) -> Self
-        ensures { Overlays.overlaid (V.cells result.view.now) result.records result.takers ≡ V.cells view.now }
+        ensures { cells_in V.cells result ≡ V.cells view.now }
     {
         Overlay {
             view,
             records: BTreeMap::new(alloc),
             takers: BTreeMap::new(alloc),
+            relations: BTreeMap::new(alloc),
+            ends: BTreeMap::new(alloc),
+            standing: BTreeMap::new(alloc),
         }
     }
 
-    /// Puts a record over what is there.
-    pub fn put(&mut self, alloc: Global, item: &'a Record) -> Result<(), NoMemory>
-        ensures { OnOk result (Overlays.overlaid (V.cells self.new.view.now) self.new.records self.new.takers
-            ≡ Overlays.put_cells (Overlays.overlaid (V.cells self.old.view.now) self.old.records self.old.takers) item.now) }
+    /// Puts an item over what is there, or withdraws it.
+    pub fn put(&mut self, alloc: Global, item: &'a Item) -> Result<(), NoMemory>
+        ensures { OnOk result (cells_in V.cells self.new
+            ≡ Overlays.put_cells (cells_in V.cells self.old) (row_key item.now, written item.now)) }
+    {
+        match item {
+            Item::Record(item) => self.put_record(alloc, item),
+            Item::Relation(item) => self.put_relation(item),
+            Item::Exception(item) => self.put_exception(item),
+        }
+    }
+
+    fn put_record(&mut self, alloc: Global, item: &'a Record) -> Result<(), NoMemory>
+        ensures { OnOk result (cells_in V.cells self.new
+            ≡ Overlays.put_record (cells_in V.cells self.old) item.now) }
     {
         put_taker(alloc, &mut self.takers, item)?;
         insert_record(&mut self.records, item)
+    }
+
+    fn put_relation(&mut self, item: &'a Relation) -> Result<(), NoMemory>
+        ensures { OnOk result (cells_in V.cells self.new
+            ≡ Overlays.put_relation (cells_in V.cells self.old) item.now) }
+    {
+        put_end(&mut self.ends, item)?;
+        insert_relation(&mut self.relations, item)
+    }
+
+    fn put_exception(&mut self, item: &ExceptionItem) -> Result<(), NoMemory>
+        ensures { OnOk result (cells_in V.cells self.new ≡ Overlays.put_exception (cells_in V.cells self.old)
+            (subject_in item.now.0) (exception_category_in item.now.0) (not item.now.1)) }
+    {
+        insert_standing(&mut self.standing, item)
     }
 
     fn accepted(&self, lei: &Lei) -> Option<&'a Record>
@@ -99,6 +175,45 @@ impl<'a, V: View> Overlay<'a, V> {
         match holder {
             Seen::Held(lei) if self.accepted(&lei).is_some() => Seen::Empty,
             holder => holder,
+        }
+    }
+
+    fn accepted_relation(&self, start: &Lei, kind: RelationType, end: &Lei) -> Option<&'a Relation>
+        ensures { option_copied result ≡ Overlays.relation_at self.now.relations start.now kind end.now }
+    {
+        self.relations.get(&(*start, kind.text(), *end)).copied()
+    }
+
+    fn last_end(&self, start: &Lei, kind: RelationType) -> Option<Lei>
+        ensures { result ≡ Overlays.end_at self.now.ends start.now kind }
+    {
+        self.ends.get(&(*start, kind.text())).copied()
+    }
+
+    fn stands(&self, lei: &Lei, category: ExceptionCategory) -> Option<bool>
+        ensures { result ≡ Overlays.stands_at self.now.standing lei.now category }
+    {
+        self.standing.get(&(*lei, category.text())).copied()
+    }
+
+    // The end of the relationship that was put as an active one last, if it still is one.
+    fn if_active(&self, start: &Lei, kind: RelationType, end: Lei) -> Seen<Lei>
+        ensures { result ≡ (if Overlays.is_active_row (Overlays.relation_at self.now.relations start.now kind end)
+            then Seen.Held end else Seen.Empty) }
+    {
+        match self.accepted_relation(start, kind, &end) {
+            Some(item) if is_active(item) => Seen::Held(end),
+            _ => Seen::Empty,
+        }
+    }
+
+    // The end of the active relationship below, unless that was replaced.
+    fn unless_relation_put(&self, start: &Lei, kind: RelationType, below: Seen<Lei>) -> Seen<Lei>
+        ensures { result ≡ Overlays.unless_relation_put self.now.relations start.now kind below }
+    {
+        match below {
+            Seen::Held(end) if self.accepted_relation(start, kind, &end).is_some() => Seen::Empty,
+            below => below,
         }
     }
 }
@@ -165,6 +280,45 @@ fn insert_record<'a>(
         ≡ (if bytes_eq lei (lei_in item.now) then Some item.now else Overlays.record_at records.old lei)) }
 {
     match records.insert(item.lei(), item) {
+        Ok(_) => Ok(()),
+        Err(_) => Err(NoMemory),
+    }
+}
+
+// Notes the end of an active relationship.
+fn put_end(ends: &mut Ends, item: &Relation) -> Result<(), NoMemory>
+    ensures { OnOk result ((start : List ℕ) (kind : RelationType) → Overlays.end_at ends.new start kind
+        ≡ (if Spelled.is_active item.now && Overlays.is_from start kind item.now then Some (end_in item.now)
+        else Overlays.end_at ends.old start kind)) }
+{
+    if !is_active(item) {
+        return Ok(());
+    }
+    match ends.insert((item.start(), kind_of(item).text()), item.end()) {
+        Ok(_) => Ok(()),
+        Err(_) => Err(NoMemory),
+    }
+}
+
+fn insert_relation<'a>(relations: &mut Relations<'a>, item: &'a Relation) -> Result<(), NoMemory>
+    ensures { OnOk result ((start : List ℕ) (kind : RelationType) (end : List ℕ)
+        → Overlays.relation_at relations.new start kind end
+        ≡ (if Overlays.is_between start kind end item.now then Some item.now
+        else Overlays.relation_at relations.old start kind end)) }
+{
+    match relations.insert((item.start(), kind_of(item).text(), item.end()), item) {
+        Ok(_) => Ok(()),
+        Err(_) => Err(NoMemory),
+    }
+}
+
+// Notes whether an exception stands behind this item.
+fn insert_standing(standing: &mut Standing, item: &ExceptionItem) -> Result<(), NoMemory>
+    ensures { OnOk result ((lei : List ℕ) (category : ExceptionCategory) → Overlays.stands_at standing.new lei category
+        ≡ (if bytes_eq (subject_in item.now.0) lei && Overlays.is_same_category (exception_category_in item.now.0) category
+        then Some (not item.now.1) else Overlays.stands_at standing.old lei category)) }
+{
+    match standing.insert((item.lei(), category_of(item).text()), !item.withdraws()) {
         Ok(_) => Ok(()),
         Err(_) => Err(NoMemory),
     }

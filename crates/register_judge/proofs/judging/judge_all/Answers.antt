@@ -16,5 +16,5 @@ returns-clause-over_tables g c = λ table sound same.
     let limit = record_count table + room in
     let JudgedOn : ℤ → Type 0 = λ day. Judges c.judge_each.result (judge_items (g.V.View.cells c.args.view.now) room day office items) in
     judges-takes c.judge_each.result _ (take table limit today office items)
-    (ap (λ cells. judge_items cells room today office items) same ∙ judged-taken table limit room today office items sound.keyed sound.holders refl)
+    (ap (λ cells. judge_items cells room today office items) same ∙ judged-taken table limit room today office items sound refl)
     (subst JudgedOn (to_z-of_z c.ranges.today) c.judge_each.ensures)

@@ -1,0 +1,157 @@
+-- What a relationship and an exception do to the cells of a table. Of the table this asks that its rows stand under their
+-- own keys and that no two active relationships have one start and type, and not that its rows are those of items.
+use Rattle.std.specs.Prelude.{◌≡◌, ℕ, List, [], ◌∷◌, Bool, true, false, not, ◌&&◌, cond, Option, Some, None, is_some, option_map}
+use Rattle.std.specs.FinMap.{get-insert, get-remove}
+use Rattle.std.specs.Ordering.{eq_by_cmp}
+use Rattle.std.specs.Str.{bytes_eq}
+use Rattle.std.proofs.Common.{refl, sym, ap, ◌∙◌}
+use Rattle.lei_shapes.specs.declared.lists.ExceptionCategory.{ExceptionCategory}
+use Rattle.lei_shapes.specs.declared.lists.RelationType.{RelationType}
+use Rattle.lei_shapes.specs.Lists.{exception_category_text, relation_type_text}
+use Rattle.lei_records.specs.declared.item.Item.{Item}
+use Rattle.lei_records.specs.declared.view.Seen.{Seen}
+use Rattle.lei_records.specs.Exceptions.{exception_category_in, subject_in}
+use Rattle.lei_records.specs.Relations.{end_in, is_active, is_active_of, kind_in, rel_cell, start_in}
+use Rattle.lei_records.specs.Rows.{Row}
+use Rattle.lei_records.specs.Tables.{AreRelationsKeyed, HasActives, KeyTexts, Table, active_of, cells_of, exception_key, exception_key_in, exception_row, has_exception, key_cmp, put, relation_key, relation_key_in, relation_of, relation_row, seen, seen_fact}
+use Rattle.authority_rules.specs.Taken.{unless_own}
+use Rattle.authority_rules.proofs.HolderLemmas.{both_true, bytes_itself, bytes_same, first_true, keys_total, same_key, second_true}
+use Rattle.relation_rules.specs.Checking as checking
+use Rattle.relation_rules.specs.Checking.{check_active, check_category, check_end, check_end_taken, check_held, check_managed, check_parents, check_relation, check_start, check_walked, checked_of, on_seen, unless_failed, walk_parents}
+use Rattle.relation_rules.proofs.ActiveLemmas.{IsFitting, active_of-put, split, with_relation}
+use Rattle.relation_rules.proofs.RowLemmas.{key_itself}
+use Rattle.register_judge.specs.Overlays.{is_between, is_from, is_same_category, put_exception, put_relation, with_active}
+
+-- ---- keys
+
+both_same : (a b : Bool) → (a ≡ true → b ≡ true) → (b ≡ true → a ≡ true) → a ≡ b
+both_same true b there back = sym (there refl)
+both_same false true there back = sym (sym (back refl))
+both_same false false there back = refl
+
+first_text : KeyTexts → List ℕ
+first_text [] = []
+first_text (a ∷ texts) = a
+
+rest_texts : KeyTexts → KeyTexts
+rest_texts [] = []
+rest_texts (a ∷ texts) = texts
+
+-- two relationships have one key exactly where they have one start, one type and one end
+key_between : (start : List ℕ) (kind : RelationType) (end : List ℕ) (row : Row)
+    → eq_by_cmp key_cmp (relation_key start kind end) (relation_key_in row) ≡ is_between start kind end row
+unfolding first_text rest_texts
+key_between start kind end row =
+    let same_bytes : (a b : List ℕ) → a ≡ b → bytes_eq b a ≡ true = λ a b e. ap (λ x. bytes_eq b x) e ∙ bytes_itself b in
+    both_same _ _
+    (λ tied.
+    let same : relation_key start kind end ≡ relation_key_in row = same_key _ _ tied in
+    both_true _ _ (both_true _ _ (same_bytes _ _ (ap first_text same)) (same_bytes _ _ (ap (λ k. first_text (rest_texts k)) same)))
+    (same_bytes _ _ (ap (λ k. first_text (rest_texts (rest_texts k))) same)))
+    (λ between.
+    let from = first_true (is_from start kind row) _ between in
+    let starts = bytes_same (start_in row) start (first_true _ _ from) in
+    let types = bytes_same (relation_type_text (kind_in row)) (relation_type_text kind) (second_true (bytes_eq (start_in row) start) _ from) in
+    let ends = bytes_same (end_in row) end (second_true (is_from start kind row) _ between) in
+    let same : relation_key_in row ≡ relation_key start kind end = λ i. starts i ∷ types i ∷ ends i ∷ [] in
+    ap (λ k. eq_by_cmp key_cmp k (relation_key_in row)) (sym same) ∙ key_itself (relation_key_in row))
+
+-- two exceptions have one key exactly where they have one code and one category
+key_of_exception : (lei : List ℕ) (category : ExceptionCategory) (row : Row)
+    → eq_by_cmp key_cmp (exception_key lei category) (exception_key_in row)
+    ≡ (bytes_eq (subject_in row) lei && is_same_category (exception_category_in row) category)
+unfolding first_text rest_texts
+key_of_exception lei category row =
+    let same_bytes : (a b : List ℕ) → a ≡ b → bytes_eq b a ≡ true = λ a b e. ap (λ x. bytes_eq b x) e ∙ bytes_itself b in
+    both_same _ _
+    (λ tied.
+    let same : exception_key lei category ≡ exception_key_in row = same_key _ _ tied in
+    both_true _ _ (same_bytes _ _ (ap first_text same)) (same_bytes _ _ (ap (λ k. first_text (rest_texts k)) same)))
+    (λ both.
+    let leis = bytes_same (subject_in row) lei (first_true _ _ both) in
+    let categories = bytes_same (exception_category_text (exception_category_in row)) (exception_category_text category) (second_true (bytes_eq (subject_in row) lei) _ both) in
+    let same : exception_key_in row ≡ exception_key lei category = λ i. leis i ∷ categories i ∷ [] in
+    ap (λ k. eq_by_cmp key_cmp k (exception_key_in row)) (sym same) ∙ key_itself (exception_key_in row))
+
+-- ---- a relationship is put
+
+seen_row : (b : Bool) (row : Row) (held : Option Row)
+    → seen (option_map rel_cell (cond b (Some row) held)) ≡ cond b (Seen.Held (rel_cell row)) (seen (option_map rel_cell held))
+seen_row true row held = refl
+seen_row false row held = refl
+
+relation_cell : (table : Table) (row : Row) (start : List ℕ) (kind : RelationType) (end : List ℕ)
+    → seen (relation_of (with_relation table row) start kind end)
+    ≡ cond (is_between start kind end row) (Seen.Held (rel_cell row)) (seen (relation_of table start kind end))
+relation_cell table row start kind end =
+    let key = relation_key start kind end in
+    ap (λ r. seen (option_map rel_cell r)) (get-insert keys_total table.relations (relation_key_in row) row key)
+    ∙ (ap (λ b. seen (option_map rel_cell (cond b (Some row) (relation_row table start kind end)))) (key_between start kind end row)
+    ∙ seen_row (is_between start kind end row) row (relation_row table start kind end))
+
+seen_left : (own : List ℕ) (held : Option (List ℕ)) → seen (checking.unless_own own held) ≡ unless_own own (seen held)
+seen_left own None = refl
+seen_left own (Some end) =
+    elim (bytes_eq end own) as (λ b. seen (cond b None (Some end)) ≡ cond b Seen.Empty (Seen.Held end)) [ true ↦ refl | false ↦ refl ]
+
+-- the row's end where it is active of the start and the type, and else what is left of what was held
+seen_active : (active of_them : Bool) (end : List ℕ) (held : Option (List ℕ))
+    → seen (cond (active && of_them) (Some end) (cond of_them (checking.unless_own end held) held))
+    ≡ cond of_them (cond active (Seen.Held end) (unless_own end (seen held))) (seen held)
+seen_active true true end held = refl
+seen_active true false end held = refl
+seen_active false true end held = seen_left end held
+seen_active false false end held = refl
+
+active_by : (start : List ℕ) (kind : RelationType) (row : Row) → is_active_of start kind row ≡ (is_active row && is_from start kind row)
+unfolding is_active_of
+active_by start kind row = refl
+
+active_cell : (table : Table) (row : Row) (start : List ℕ) (kind : RelationType) → AreRelationsKeyed table → HasActives table → IsFitting table row
+    → seen (active_of (with_relation table row) start kind)
+    ≡ cond (is_from start kind row) (with_active row (seen (active_of table start kind))) (seen (active_of table start kind))
+active_cell table row start kind keyed actives fits =
+    let held = active_of table start kind in
+    ap seen (active_of-put table row start kind keyed actives fits)
+    ∙ (ap (λ b. seen (cond b (Some (end_in row)) (cond (is_from start kind row) (checking.unless_own (end_in row) held) held))) (active_by start kind row)
+    ∙ seen_active (is_active row) (is_from start kind row) (end_in row) held)
+
+-- putting a fitting relationship into a table puts it over the table's cells
+pub cells-put_relation : (table : Table) (row : Row) → AreRelationsKeyed table → HasActives table → IsFitting table row
+    → put_relation (cells_of table) row ≡ cells_of (put table (Item.Relation row))
+cells-put_relation table row keyed actives fits = λ i. record (cells_of table) {
+  relation = λ start kind end. sym (relation_cell table row start kind end) i;
+  active = λ start kind. sym (active_cell table row start kind keyed actives fits) i;
+}
+
+pub AreRelationsKeyed-put : (table : Table) (row : Row) → AreRelationsKeyed table → AreRelationsKeyed (put table (Item.Relation row))
+AreRelationsKeyed-put table row keyed key other at =
+    split table row key other (key ≡ relation_key_in other) at (λ own same. own ∙ ap relation_key_in same) (λ _ was. keyed key other was)
+
+-- ---- an exception is put, or withdrawn
+
+seen_put : (b : Bool) (row : Row) (held : Option Row) → seen_fact (is_some (cond b (Some row) held)) ≡ cond b (seen_fact true) (seen_fact (is_some held))
+seen_put true row held = refl
+seen_put false row held = refl
+
+seen_gone : (b : Bool) (held : Option Row) → seen_fact (is_some (cond b None held)) ≡ cond b (seen_fact false) (seen_fact (is_some held))
+seen_gone true held = refl
+seen_gone false held = refl
+
+exception_cell : (table : Table) (row : Row) (withdraws : Bool) (lei : List ℕ) (category : ExceptionCategory)
+    → seen_fact (has_exception (put table (Item.Exception (row, withdraws))) lei category)
+    ≡ cond (bytes_eq (subject_in row) lei && is_same_category (exception_category_in row) category) (seen_fact (not withdraws)) (seen_fact (has_exception table lei category))
+exception_cell table row false lei category =
+    let held = exception_row table lei category in
+    ap (λ r. seen_fact (is_some r)) (get-insert keys_total table.exceptions (exception_key_in row) row (exception_key lei category))
+    ∙ (ap (λ b. seen_fact (is_some (cond b (Some row) held))) (key_of_exception lei category row) ∙ seen_put _ row held)
+exception_cell table row true lei category =
+    let held = exception_row table lei category in
+    ap (λ r. seen_fact (is_some r)) (get-remove keys_total table.exceptions (exception_key_in row) (exception_key lei category))
+    ∙ (ap (λ b. seen_fact (is_some (cond b None held))) (key_of_exception lei category row) ∙ seen_gone _ held)
+
+-- putting an exception into a table, or taking it out, does so over the table's cells
+pub cells-put_exception : (table : Table) (row : Row) (withdraws : Bool)
+    → put_exception (cells_of table) (subject_in row) (exception_category_in row) (not withdraws) ≡ cells_of (put table (Item.Exception (row, withdraws)))
+cells-put_exception table row true = λ i. record (cells_of table) { exception = λ lei category. sym (exception_cell table row true lei category) i }
+cells-put_exception table row false = λ i. record (cells_of table) { exception = λ lei category. sym (exception_cell table row false lei category) i }
