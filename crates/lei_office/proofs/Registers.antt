@@ -37,6 +37,7 @@ use Rattle.register_judge.specs.Taking.{Taken, take, in_front, is_new, verdict_o
 use Rattle.register_judge.specs.declared.outcome.JudgeStop.{JudgeStop}
 use Rattle.register_judge.specs.declared.outcome.Outcome.{Outcome}
 use Rattle.register_judge.proofs.ChainLemmas.{take-chains}
+use Rattle.register_judge.proofs.ParentLemmas.{take-apart, take-parents}
 use Rattle.register_judge.proofs.TakingLemmas.{take-sound}
 use Rattle.register_table.specs.Lists.{no_rows}
 use Rattle.register_table.specs.Undos.{WriteList, AreOwn, IsOwn, MayApply, StaysKept}

@@ -12,7 +12,8 @@ use Rattle.lei_records.specs.Rows.{Row}
 use Rattle.lei_records.specs.Tables.{seen_fact}
 use Rattle.authority_rules.specs.Taken.{unless_own}
 use Rattle.authority_rules.proofs.HolderLemmas.{bytes_itself}
-use Rattle.register_judge.specs.Overlays.{Ends, Records, Relations, Standing, Takers, end_at, has_record, is_active_row, is_between, is_from, is_same_category, overlaid, put_exception, put_record, put_relation, record_at, relation_at, row_holds, stands_at, taker_at, unless_replaced, with_active, with_end, with_exception, with_record, with_relation, with_taker}
+use Rattle.lei_records.specs.Exceptions.{is_same_category}
+use Rattle.register_judge.specs.Overlays.{Ends, Records, Relations, Standing, Takers, end_at, has_record, is_active_row, is_between, is_from, overlaid, put_exception, put_record, put_relation, record_at, relation_at, row_holds, stands_at, taker_at, unless_replaced, with_active, with_end, with_exception, with_record, with_relation, with_taker}
 
 -- ---- the key that a record holds
 

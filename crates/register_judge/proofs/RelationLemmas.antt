@@ -10,7 +10,7 @@ use Rattle.lei_shapes.specs.declared.lists.RelationType.{RelationType}
 use Rattle.lei_shapes.specs.Lists.{exception_category_text, relation_type_text}
 use Rattle.lei_records.specs.declared.item.Item.{Item}
 use Rattle.lei_records.specs.declared.view.Seen.{Seen}
-use Rattle.lei_records.specs.Exceptions.{exception_category_in, subject_in}
+use Rattle.lei_records.specs.Exceptions.{exception_category_in, subject_in, is_same_category}
 use Rattle.lei_records.specs.Relations.{end_in, is_active, is_active_of, kind_in, rel_cell, start_in}
 use Rattle.lei_records.specs.Rows.{Row}
 use Rattle.lei_records.specs.Tables.{AreRelationsKeyed, HasActives, KeyTexts, Table, active_of, cells_of, exception_key, exception_key_in, exception_row, has_exception, key_cmp, put, relation_key, relation_key_in, relation_of, relation_row, seen, seen_fact}
@@ -20,7 +20,7 @@ use Rattle.relation_rules.specs.Checking as checking
 use Rattle.relation_rules.specs.Checking.{check_active, check_category, check_end, check_end_taken, check_held, check_managed, check_parents, check_relation, check_start, check_walked, checked_of, on_seen, unless_failed, walk_parents}
 use Rattle.relation_rules.proofs.ActiveLemmas.{IsFitting, active_of-put, split, with_relation}
 use Rattle.relation_rules.proofs.RowLemmas.{key_itself}
-use Rattle.register_judge.specs.Overlays.{is_between, is_from, is_same_category, put_exception, put_relation, with_active}
+use Rattle.register_judge.specs.Overlays.{is_between, is_from, put_exception, put_relation, with_active}
 
 -- ---- keys
 

@@ -15,7 +15,7 @@ use Rattle.lei_records.specs.declared.view.RelCell.{RelCell}
 use Rattle.lei_records.specs.declared.view.RowKey.{RowKey}
 use Rattle.lei_records.specs.declared.view.Seen.{Seen}
 use Rattle.lei_records.specs.Cells.{Cells, lei_in, rec_cell, holds}
-use Rattle.lei_records.specs.Exceptions.{exception_category_in, subject_in}
+use Rattle.lei_records.specs.Exceptions.{exception_category_in, is_same_category, subject_in}
 use Rattle.lei_records.specs.Relations.{end_in, is_active, is_same_type, kind_in, rel_cell, start_in}
 use Rattle.lei_records.specs.Rows.{Row}
 use Rattle.lei_records.specs.Tables.{seen_fact}
@@ -51,10 +51,6 @@ put_relation cells row = record cells {
   relation = λ start kind end. if is_between start kind end row then Seen.Held (rel_cell row) else cells.relation start kind end;
   active = λ start kind. if is_from start kind row then with_active row (cells.active start kind) else cells.active start kind;
 }
-
--- two categories are one: they have one text
-abbrev pub is_same_category : ExceptionCategory → ExceptionCategory → Bool
-is_same_category a b = bytes_eq (exception_category_text a) (exception_category_text b)
 
 -- after the exception of this code and category was put, or withdrawn: its own cell says whether it stands
 abbrev pub put_exception : Cells → List ℕ → ExceptionCategory → Bool → Cells

@@ -6,7 +6,7 @@ ghost use Rattle.lei_shapes.specs.declared.lists.ExceptionCategory.{ExceptionCat
 ghost use Rattle.lei_shapes.specs.declared.lists.RelationType.{RelationType};
 ghost use Rattle.lei_records.specs.Cells;
 ghost use Rattle.lei_records.specs.Cells.{lei_in};
-ghost use Rattle.lei_records.specs.Exceptions.{exception_category_in, subject_in};
+ghost use Rattle.lei_records.specs.Exceptions.{exception_category_in, is_same_category, subject_in};
 ghost use Rattle.lei_records.specs.Relations.{end_in, kind_in, start_in};
 ghost use Rattle.lei_records.specs.Relations as Spelled;
 ghost use Rattle.lei_records.specs.Tables.{row_key};
@@ -315,7 +315,7 @@ fn insert_relation<'a>(relations: &mut Relations<'a>, item: &'a Relation) -> Res
 // Notes whether an exception stands behind this item.
 fn insert_standing(standing: &mut Standing, item: &ExceptionItem) -> Result<(), NoMemory>
     ensures { OnOk result ((lei : List ℕ) (category : ExceptionCategory) → Overlays.stands_at standing.new lei category
-        ≡ (if bytes_eq (subject_in item.now.0) lei && Overlays.is_same_category (exception_category_in item.now.0) category
+        ≡ (if bytes_eq (subject_in item.now.0) lei && is_same_category (exception_category_in item.now.0) category
         then Some (not item.now.1) else Overlays.stands_at standing.old lei category)) }
 {
     match standing.insert((item.lei(), category_of(item).text()), !item.withdraws()) {

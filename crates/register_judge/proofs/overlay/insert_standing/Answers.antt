@@ -2,8 +2,8 @@ use Rattle.std.specs.Prelude.{◌&&◌, Some, cond, not}
 use Rattle.std.specs.Str.{bytes_eq}
 use Rattle.std.proofs.Common.{ap, ◌∙◌}
 use Rattle.lei_shapes.specs.Lists.{exception_category_text}
-use Rattle.lei_records.specs.Exceptions.{exception_category_in, subject_in}
-use Rattle.register_judge.specs.Overlays.{is_same_category, stands_at}
+use Rattle.lei_records.specs.Exceptions.{exception_category_in, subject_in, is_same_category}
+use Rattle.register_judge.specs.Overlays.{stands_at}
 use Rattle.register_judge.proofs.MapLemmas.{pair_at-insert}
 use Rattle.register_judge.proofs.overlay.insert_standing.Goals as goal
 
