@@ -96,7 +96,13 @@ impl Session {
     }
 
     // An upload of one exception or withdrawal that is taken, with this verdict.
-    fn except(&mut self, alloc: Global, number: u32, item: &str, verdict: &str) -> Result<(), Fail> {
+    fn except(
+        &mut self,
+        alloc: Global,
+        number: u32,
+        item: &str,
+        verdict: &str,
+    ) -> Result<(), Fail> {
         let body = exceptions_body(alloc, item)?;
         self.send(OFFICE, number, body.as_str(), verdict)
     }
@@ -297,7 +303,12 @@ fn an_exception_is_put_with_a_reason_and_withdrawn_without(rt: HostRuntime) -> R
         (2, "PUT", "", r#""C02 FIELD_MISSING ExceptionReason""#),
         (3, "PUT", "NO_LEI", r#""ACCEPTED""#),
         (4, "", "NATURAL_PERSONS", r#""ACCEPTED""#),
-        (5, "WITHDRAW", "NOBODY", r#""C03 FIELD_SHAPE ExceptionReason""#),
+        (
+            5,
+            "WITHDRAW",
+            "NOBODY",
+            r#""C03 FIELD_SHAPE ExceptionReason""#,
+        ),
         (6, "WITHDRAW", "", r#""ACCEPTED""#),
         (7, "WITHDRAW", "NO_LEI", r#""C53 NOTHING_TO_WITHDRAW""#),
     ] {

@@ -196,13 +196,7 @@ impl Session {
     }
 
     // An upload of this body that is taken, with these verdicts.
-    pub fn send(
-        &mut self,
-        office: &str,
-        number: u32,
-        body: &str,
-        items: &str,
-    ) -> Result<(), Fail> {
+    pub fn send(&mut self, office: &str, number: u32, body: &str, items: &str) -> Result<(), Fail> {
         let alloc = self.alloc;
         self.entries = self.entries.saturating_add(1);
         let entry = self.entries;
@@ -230,4 +224,3 @@ impl Session {
         Ok((status, sink))
     }
 }
-
