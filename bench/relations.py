@@ -9,7 +9,8 @@ import json
 import pathlib
 import subprocess
 import tempfile
-import time
+
+from timing import least
 
 ROOT = pathlib.Path(__file__).resolve().parent.parent
 PROGRAM = ROOT / "crates" / "leireg" / "out" / "leireg"
@@ -69,15 +70,6 @@ def relationship(number):
 
 def compact(value):
     return json.dumps(value, separators=(",", ":"), sort_keys=True).encode()
-
-
-def least(run):
-    times = []
-    for _ in range(3):
-        start = time.perf_counter()
-        run()
-        times.append(time.perf_counter() - start)
-    return min(times)
 
 
 def main():

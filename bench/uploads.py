@@ -9,7 +9,8 @@ import os
 import pathlib
 import subprocess
 import tempfile
-import time
+
+from timing import least
 
 ROOT = pathlib.Path(__file__).resolve().parent.parent
 PROGRAM = ROOT / "crates" / "leireg" / "out" / "leireg"
@@ -58,15 +59,6 @@ def body(upload):
     room = min(500, (MAX_BODY - bare) // RECORDS)
     names = (f"{upload}-{number} ".ljust(room, "x") for number in range(RECORDS))
     return compact({"records": [{**FIELDS, "Entity.LegalName": name} for name in names]})
-
-
-def least(run):
-    times = []
-    for _ in range(3):
-        start = time.perf_counter()
-        run()
-        times.append(time.perf_counter() - start)
-    return min(times)
 
 
 def main():
