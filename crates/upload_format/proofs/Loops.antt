@@ -11,14 +11,14 @@ use Rattle.std.specs.Map.{keys_of}
 use Rattle.serde_json.specs.Find.{as_str}
 use Rattle.serde_json.specs.View.{view, items_view, members_view}
 use Rattle.serde_json.specs.declared.value.Value.{Value}
+use Rattle.lei_records.specs.declared.fields.Kind.{Kind}
 use Rattle.lei_records.specs.declared.item.RawItem.{RawItem}
 use Rattle.lei_records.specs.Names.{AreRising, names}
-use Rattle.upload_format.specs.Bodies.{fields_of, record_of, records_of, member_names, found}
+use Rattle.upload_format.specs.Bodies.{behind, fields_of, found, item_of, list_of, member_names}
 
 -- what was found, and then what the rest gives
 abbrev pub with_front : {X : Type 0} → List X → Option (List X) → Option (List X)
-with_front front None = None
-with_front front (Some rest) = Some (front ++ rest)
+with_front front rest = behind (Some front) rest
 
 -- one more of the front is the first of the rest
 pub with_front-push : {X : Type 0} (front : List X) (x : X) (rest : Option (List X)) → with_front (front ++ x ∷ []) rest ≡ with_front front (option_map (λ xs. x ∷ xs) rest)
@@ -68,7 +68,15 @@ pub list_all-member_names : (test : List ℕ → Bool) (es : List (String Global
 list_all-member_names test [] = refl
 list_all-member_names test (e ∷ es) = ap (λ b. test (string_bytes e.0) && b) (list_all-member_names test es)
 
--- the next value is one more record
-pub records_step : (front : List RawItem) (value : Value) (item : RawItem) (rest : List Value) → found (record_of (view value)) ≡ Ok item
-    → with_front (front ++ item ∷ []) (records_of (items_view rest)) ≡ with_front front (records_of (items_view (value ∷ rest)))
-records_step front value item rest is = with_front-push front item (records_of (items_view rest)) ∙ ap (with_front front) (sym (rw (some_found (record_of (view value)) item is) refl))
+-- the next value is one more item
+pub list_step : (kind : Kind) (front : List RawItem) (value : Value) (item : RawItem) (rest : List Value) → found (item_of kind (view value)) ≡ Ok item
+    → with_front (front ++ item ∷ []) (list_of kind (items_view rest)) ≡ with_front front (list_of kind (items_view (value ∷ rest)))
+list_step kind front value item rest is =
+    with_front-push front item (list_of kind (items_view rest)) ∙ ap (with_front front) (sym (rw (some_found (item_of kind (view value)) item is) refl))
+
+-- ---- the three lists
+
+-- where the first is read, what comes behind it comes behind its items
+pub found_behind : (first : Option (List RawItem)) (items : List RawItem) (list : Option (List RawItem)) → found first ≡ Ok items
+    → found (behind (Some items) list) ≡ found (behind first list)
+found_behind first items list is = ap (λ o. found (behind o list)) (sym (some_found first items is))

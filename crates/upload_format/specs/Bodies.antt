@@ -1,5 +1,5 @@
 -- What an upload's body says: a definition over the value that the JSON of its bytes has (RFC 8259).
-use Rattle.std.specs.Prelude.{◌≡◌, ℕ, List, [], ◌∷◌, length, codes, Bool, ◌==◌, nat_lt, if◌then◌else◌, Option, Some, None, option_map, option_and_then, Result, Ok, Err}
+use Rattle.std.specs.Prelude.{◌≡◌, ℕ, List, [], ◌∷◌, ◌++◌, length, codes, Bool, ◌||◌, ◌==◌, nat_lt, if◌then◌else◌, Option, Some, None, option_map, option_and_then, Result, Ok, Err}
 use Rattle.std.specs.List.{list_all}
 use Rattle.std.specs.Str.{is_utf8, bytes_eq}
 use Rattle.serde_json.specs.Data.{Data, Items, no_items, item, Members, no_members, member}
@@ -9,8 +9,8 @@ use Rattle.upload_format.specs.declared.fault.Malformed.{Malformed}
 use Rattle.upload_format.specs.declared.fault.Malformed.TheVariants.{NotJson, NotAnUpload, NoItems, TooManyItems}
 use Rattle.upload_format.specs.declared.fault.UploadFault.{UploadFault}
 use Rattle.upload_format.specs.declared.fault.UploadFault.TheVariants as faults
+use Rattle.lei_records.specs.declared.fields.Kind.{Kind}
 use Rattle.lei_records.specs.declared.item.RawItem.{RawItem}
-use Rattle.lei_records.specs.declared.item.RawItem.TheVariants.{Record}
 
 -- The value of the bytes: they are UTF-8, and JSON. A name that an object repeats has its last value.
 unfoldable pub value_of : List ℕ → Option Data
@@ -21,30 +21,61 @@ abbrev pub fields_of : Members → Option (List (List ℕ × List ℕ))
 fields_of no_members = Some []
 fields_of (member name value others) = option_and_then (λ text. option_map (λ fields. (name, text) ∷ fields) (fields_of others)) (as_str value)
 
--- a record as it was sent: an object whose values are texts
-abbrev pub record_of : Data → Option RawItem
-record_of value = option_map Record (option_and_then fields_of (as_object value))
+-- the item of a kind that has these fields
+abbrev pub sent : Kind → List (List ℕ × List ℕ) → RawItem
+sent Kind.Record fields = RawItem.Record fields
+sent Kind.Relation fields = RawItem.Relation fields
+sent Kind.Exception fields = RawItem.Exception fields
 
-abbrev pub records_of : Items → Option (List RawItem)
-records_of no_items = Some []
-records_of (item value others) = option_and_then (λ first. option_map (λ records. first ∷ records) (records_of others)) (record_of value)
+-- an item as it was sent: an object whose values are texts
+abbrev pub item_of : Kind → Data → Option RawItem
+item_of kind value = option_map (sent kind) (option_and_then fields_of (as_object value))
 
--- the member of this name, a list of records. An absent one has no item.
-abbrev pub listed : Option Data → Option (List RawItem)
-listed None = Some []
-listed (Some value) = option_and_then records_of (as_array value)
+abbrev pub list_of : Kind → Items → Option (List RawItem)
+list_of kind no_items = Some []
+list_of kind (item value others) =
+    option_and_then (λ first. option_map (λ more. first ∷ more) (list_of kind others)) (item_of kind value)
+
+-- the value of a member, a list of items of a kind. An absent one has no item.
+abbrev pub listed : Kind → Option Data → Option (List RawItem)
+listed kind None = Some []
+listed kind (Some value) = option_and_then (list_of kind) (as_array value)
 
 abbrev pub member_names : Members → List (List ℕ)
 member_names no_members = []
 member_names (member name value others) = name ∷ member_names others
 
+-- the name of the member that lists the items of a kind
+abbrev pub list_name : Kind → List ℕ
+list_name Kind.Record = codes "records"
+list_name Kind.Relation = codes "relationships"
+list_name Kind.Exception = codes "exceptions"
+
 -- the names that the members of an upload may have
 abbrev pub is_list_name : List ℕ → Bool
-is_list_name name = bytes_eq name (codes "records")
+is_list_name name =
+    bytes_eq name (list_name Kind.Record) || bytes_eq name (list_name Kind.Relation) || bytes_eq name (list_name Kind.Exception)
+
+-- one list, and another behind it. There is none where either has no reading.
+abbrev pub behind : {X : Type 0} → Option (List X) → Option (List X) → Option (List X)
+behind None list = None
+behind (Some front) None = None
+behind (Some front) (Some list) = Some (front ++ list)
+
+-- the items of members: records, then relationships, then exceptions
+abbrev pub in_order : Option Data → Option Data → Option Data → Option (List RawItem)
+in_order records relationships exceptions =
+    behind (behind (behind (Some []) (listed Kind.Record records)) (listed Kind.Relation relationships)) (listed Kind.Exception exceptions)
+
+abbrev pub items_in : Members → Option (List RawItem)
+items_in members =
+    in_order (get_member (list_name Kind.Record) members) (get_member (list_name Kind.Relation) members)
+    (get_member (list_name Kind.Exception) members)
 
 -- The items that a value lists: it is an object that has no other member. It has no reading where it is no upload.
 abbrev pub items_of : Data → Option (List RawItem)
-items_of value = option_and_then (λ members. if list_all is_list_name (member_names members) then listed (get_member (codes "records") members) else None) (as_object value)
+items_of value =
+    option_and_then (λ members. if list_all is_list_name (member_names members) then items_in members else None) (as_object value)
 
 -- from 1 to 5,000 items
 abbrev pub counted : List RawItem → Result (List RawItem) Malformed

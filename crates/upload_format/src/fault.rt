@@ -13,12 +13,12 @@ pub enum Malformed {
     /// order mark, nest deeper than 127 levels, or have a number too large for a double or half of a surrogate pair,
     /// also where the value would be dropped.
     NotJson,
-    /// The value isn't an object, has another member than `records`, `records` isn't a list of objects, or a value
-    /// in one of them isn't a text.
+    /// The value isn't an object, has another member than `records`, `relationships` and `exceptions`, one of these
+    /// isn't a list of objects, or a value in one of the objects isn't a text.
     NotAnUpload,
-    /// The body lists no item: `records` is absent or empty.
+    /// The body lists no item: each of its lists is absent or empty.
     NoItems,
-    /// The body lists more than [`MAX_ITEMS`](crate::MAX_ITEMS) items.
+    /// The body lists more than [`MAX_ITEMS`](crate::MAX_ITEMS) items in all.
     TooManyItems,
 }
 

@@ -279,7 +279,7 @@ fn record_of(alloc: Global, body: &str) -> Result<Record, Fail> {
     };
     match ready(alloc, item)? {
         Readied::Good(Item::Record(record)) => Ok(record),
-        Readied::Bad(_) => Err(Fail::from("a record")),
+        _ => Err(Fail::from("a record")),
     }
 }
 

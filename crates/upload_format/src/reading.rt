@@ -1,21 +1,25 @@
-ghost use Rattle.std.specs.Prelude.{◌≡◌, None, Some, option_map, option_and_then};
+ghost use Rattle.std.specs.Prelude.{◌≡◌, ℕ, List, false, Some, option_map};
+ghost use Rattle.std.specs.Str.{bytes_eq};
 ghost use Rattle.std.specs.List.{list_all};
 ghost use Rattle.serde_json.specs.Find.{as_str, get_member};
 ghost use Rattle.serde_json.specs.View.{view, members_view, items_view};
-ghost use Rattle.upload_format.specs.Bodies.{Gives, found, fields_of, record_of, records_of, items_of, is_list_name, member_names, parsed, value_of, upload};
+ghost use Rattle.lei_records.specs.declared.fields.Kind.{Kind};
+ghost use Rattle.upload_format.specs.Bodies;
+ghost use Rattle.upload_format.specs.Bodies.{Gives, behind, fields_of, found, in_order, item_of, items_of, list_name, list_of, listed, member_names, parsed, upload, value_of};
 
 use crate::fault::{Malformed, UploadFault};
 use lei_outside::{List, Text};
-use lei_records::{Fields, RawItem, Upload};
+use lei_records::{Fields, Kind, RawItem, Upload};
 use serde_json::{Map, Value};
 use std::alloc::Global;
 
 /// The greatest number of items in an upload. This project's profile.
 pub const MAX_ITEMS: usize = 5000;
 
-/// Reads the body of an upload, an RFC 8259 text with a list `records` of objects of texts. A repeated name in an
-/// object has its last value. There are from 1 to [`MAX_ITEMS`] items, in the order in which they were sent. Names,
-/// texts and the list move out of the JSON value and aren't copied.
+/// Reads the body of an upload, an RFC 8259 text of an object with the lists `records`, `relationships` and
+/// `exceptions`, or some of them. Each lists objects of texts. A repeated name in an object has its last value. There
+/// are from 1 to [`MAX_ITEMS`] items in all: first the records, then the relationships, then the exceptions, and each in
+/// the order in which they were sent. Names and texts move out of the JSON value and aren't copied.
 #[tactic(auto, unfolding(crate::specs::Bodies::upload))]
 pub fn read_upload(alloc: Global, body: &[u8]) -> Result<Upload, UploadFault>
     ensures { Gives (λ read. read.items) result (upload body.now) }
@@ -51,49 +55,118 @@ fn read_value(alloc: Global, body: &[u8]) -> Result<Value, UploadFault>
 fn read_items(alloc: Global, value: Value) -> Result<Vec<RawItem>, UploadFault>
     ensures { Gives (λ items. items.items) result (found (items_of (view value))) }
 {
-    let Value::Object(mut members) = value else {
+    let Value::Object(members) = value else {
         return Err(UploadFault::Malformed(Malformed::NotAnUpload));
     };
     if !has_known_names(&members) {
         return Err(UploadFault::Malformed(Malformed::NotAnUpload));
     }
-    match take_member(&mut members, "records") {
-        None => Ok(Vec::new(alloc)),
-        Some(Value::Array(list)) => read_records(alloc, list),
-        Some(_) => Err(UploadFault::Malformed(Malformed::NotAnUpload)),
+    read_lists(alloc, lists_of(members))
+}
+
+fn has_known_names(members: &Map<String, Value>) -> bool
+    ensures { result ≡ list_all Bodies.is_list_name (member_names (members_view members.now.entries)) }
+{
+    members.keys().all(|name| is_list_name(name.as_str()))
+}
+
+fn is_list_name(name: &str) -> bool
+    ensures { result ≡ Bodies.is_list_name name.now }
+{
+    matches!(name, "records" | "relationships" | "exceptions")
+}
+
+// The values of an upload's members, each of which may be absent.
+#[derive(Drop)]
+struct Lists {
+    records: Option<Value>,
+    relationships: Option<Value>,
+    exceptions: Option<Value>,
+}
+
+fn lists_of(mut members: Map<String, Value>) -> Lists
+    ensures records { option_map view result.records ≡ get_member (list_name Kind.Record) (members_view members.entries) }
+    ensures relationships { option_map view result.relationships ≡ get_member (list_name Kind.Relation) (members_view members.entries) }
+    ensures exceptions { option_map view result.exceptions ≡ get_member (list_name Kind.Exception) (members_view members.entries) }
+{
+    let records = take_member(&mut members, "records");
+    let relationships = take_member(&mut members, "relationships");
+    let exceptions = take_member(&mut members, "exceptions");
+    Lists {
+        records,
+        relationships,
+        exceptions,
     }
 }
 
 // The member's value, which leaves the object.
 fn take_member(members: &mut Map<String, Value>, name: &str) -> Option<Value>
-    ensures { option_map view result ≡ get_member name.now (members_view members.old.entries) }
+    ensures value { option_map view result ≡ get_member name.now (members_view members.old.entries) }
+    ensures others { (other : List ℕ) → bytes_eq other name.now ≡ false
+        → get_member other (members_view members.new.entries) ≡ get_member other (members_view members.old.entries) }
 {
     members.remove(name)
 }
 
-fn has_known_names(members: &Map<String, Value>) -> bool
-    ensures { result ≡ list_all is_list_name (member_names (members_view members.now.entries)) }
+// The items of the three lists, one behind the other.
+fn read_lists(alloc: Global, lists: Lists) -> Result<Vec<RawItem>, UploadFault>
+    ensures { Gives (λ items. items.items) result
+        (found (in_order (option_map view lists.records) (option_map view lists.relationships) (option_map view lists.exceptions))) }
 {
-    members.keys().all(|name| name.as_str() == "records")
+    let items = Vec::new(alloc);
+    let items = read_list(alloc, items, Kind::Record, lists.records)?;
+    let items = read_list(alloc, items, Kind::Relation, lists.relationships)?;
+    read_list(alloc, items, Kind::Exception, lists.exceptions)
 }
 
-fn read_records(alloc: Global, list: Vec<Value>) -> Result<Vec<RawItem>, UploadFault>
-    ensures { Gives (λ items. items.items) result (found (records_of (items_view list.items))) }
+// These items, and those of a list behind them.
+fn read_list(
+    alloc: Global,
+    items: Vec<RawItem>,
+    kind: Kind,
+    list: Option<Value>,
+) -> Result<Vec<RawItem>, UploadFault>
+    ensures { Gives (λ read. read.items) result (found (behind (Some items.items) (listed kind (option_map view list)))) }
 {
-    let mut records = Vec::with_capacity(alloc, list.len())?;
-    for value in list {
-        records.push(read_record(alloc, value)?)?;
+    match list {
+        None => Ok(items),
+        Some(Value::Array(values)) => read_values(alloc, items, kind, values),
+        Some(_) => Err(UploadFault::Malformed(Malformed::NotAnUpload)),
     }
-    Ok(records)
 }
 
-fn read_record(alloc: Global, value: Value) -> Result<RawItem, UploadFault>
-    ensures { Gives (λ item. item) result (found (record_of (view value))) }
+fn read_values(
+    alloc: Global,
+    mut items: Vec<RawItem>,
+    kind: Kind,
+    values: Vec<Value>,
+) -> Result<Vec<RawItem>, UploadFault>
+    ensures { Gives (λ read. read.items) result (found (behind (Some items.items) (list_of kind (items_view values.items)))) }
+{
+    items.reserve(values.len())?;
+    for value in values {
+        items.push(read_item(alloc, kind, value)?)?;
+    }
+    Ok(items)
+}
+
+fn read_item(alloc: Global, kind: Kind, value: Value) -> Result<RawItem, UploadFault>
+    ensures { Gives (λ item. item) result (found (item_of kind (view value))) }
 {
     let Value::Object(members) = value else {
         return Err(UploadFault::Malformed(Malformed::NotAnUpload));
     };
-    Ok(RawItem::Record(read_fields(alloc, members)?))
+    Ok(sent(kind, read_fields(alloc, members)?))
+}
+
+fn sent(kind: Kind, fields: Fields) -> RawItem
+    ensures { result ≡ Bodies.sent kind fields }
+{
+    match kind {
+        Kind::Record => RawItem::Record(fields),
+        Kind::Relation => RawItem::Relation(fields),
+        Kind::Exception => RawItem::Exception(fields),
+    }
 }
 
 fn read_fields(alloc: Global, members: Map<String, Value>) -> Result<Fields, UploadFault>

@@ -31,7 +31,9 @@ fn fault_of(alloc: Global, body: &[u8]) -> Option<UploadFault> {
 
 // Each field as its name, '=', its text and ';'.
 fn spelled(alloc: Global, item: &RawItem) -> Result<String, AllocError> {
-    let RawItem::Record(fields) = item;
+    let fields = match item {
+        RawItem::Record(fields) | RawItem::Relation(fields) | RawItem::Exception(fields) => fields,
+    };
     let mut text = String::new(alloc);
     for (name, value) in fields.as_slice() {
         text.push_str(name.as_str())?;
@@ -97,8 +99,16 @@ fn json_that_is_no_upload(rt: HostRuntime) {
         "{\"x\":1}",
         "{\"Records\":[{}]}",
         "{\"records \":[{}]}",
-        "{\"relationships\":[]}",
-        "{\"records\":[{}],\"exceptions\":[]}",
+        "{\"Relationships\":[{}]}",
+        "{\"relationship\":[{}]}",
+        "{\"exception\":[]}",
+        "{\"relationships\":{}}",
+        "{\"exceptions\":null}",
+        "{\"records\":[{}],\"relationships\":\"\"}",
+        "{\"records\":[{}],\"relationships\":[1]}",
+        "{\"records\":[{}],\"exceptions\":[[]]}",
+        "{\"relationships\":[{}],\"exceptions\":[{\"a\":1}]}",
+        "{\"relationships\":[{\"a\":null}],\"records\":[{}]}",
     ] {
         let told = fault_of(rt.alloc(), body.as_bytes());
         assert_eq!(rt; told, malformed(Malformed::NotAnUpload), "{body}");
@@ -107,6 +117,8 @@ fn json_that_is_no_upload(rt: HostRuntime) {
         "{}",
         "{\"records\":[]}",
         "{\"records\":[{}],\"records\":[]}",
+        "{\"relationships\":[]}",
+        "{\"exceptions\":[],\"relationships\":[],\"records\":[]}",
     ] {
         let told = fault_of(rt.alloc(), body.as_bytes());
         assert_eq!(rt; told, malformed(Malformed::NoItems), "{body}");
@@ -196,17 +208,137 @@ fn from_1_to_5000_items(rt: HostRuntime) -> Result<(), Fail> {
     Ok(())
 }
 
-#[test]
-fn items_in_the_order_sent(rt: HostRuntime) -> Result<(), Fail> {
-    let body =
-        "{\"records\":[{\"b\":\"1\",\"a\":\"2\"},{},{\"a\":\"1\"},{\"a\":\"2\",\"b\":\"1\"}]}";
-    let upload = read_upload(rt.alloc(), body.as_bytes())?;
-    let mut told = String::new(rt.alloc());
+// The items of a body, each with a letter for the list that it stands in.
+fn listed(alloc: Global, body: &str) -> Result<String, Fail> {
+    let upload = read_upload(alloc, body.as_bytes())?;
+    let mut told = String::new(alloc);
     for item in upload.items.as_slice() {
-        told.push_str(spelled(rt.alloc(), item)?.as_str())?;
+        told.push_str(match item {
+            RawItem::Record(_) => "r ",
+            RawItem::Relation(_) => "l ",
+            RawItem::Exception(_) => "x ",
+        })?;
+        told.push_str(spelled(alloc, item)?.as_str())?;
         told.push_str(" ")?;
     }
-    assert_eq!(rt; told.as_str(), "a=2;b=1;  a=1; a=2;b=1; ");
+    Ok(told)
+}
+
+// Records come before relationships and these before exceptions, in whatever order the lists were sent, and the items
+// of a list come in the order in which they were sent.
+#[test]
+fn items_in_their_order(rt: HostRuntime) -> Result<(), Fail> {
+    for (body, told) in [
+        (
+            "{\"records\":[{\"b\":\"1\",\"a\":\"2\"},{},{\"a\":\"1\"},{\"a\":\"2\",\"b\":\"1\"}]}",
+            "r a=2;b=1; r  r a=1; r a=2;b=1; ",
+        ),
+        (
+            "{\"relationships\":[{\"b\":\"1\"},{\"a\":\"2\"}]}",
+            "l b=1; l a=2; ",
+        ),
+        (
+            "{\"exceptions\":[{\"b\":\"1\"},{\"a\":\"2\"}]}",
+            "x b=1; x a=2; ",
+        ),
+        (
+            "{\"records\":[{\"a\":\"1\"}],\"relationships\":[{\"a\":\"2\"}]}",
+            "r a=1; l a=2; ",
+        ),
+        (
+            "{\"relationships\":[{\"a\":\"2\"}],\"records\":[{\"a\":\"1\"}]}",
+            "r a=1; l a=2; ",
+        ),
+        (
+            "{\"records\":[{\"a\":\"1\"}],\"exceptions\":[{\"a\":\"3\"}]}",
+            "r a=1; x a=3; ",
+        ),
+        (
+            "{\"exceptions\":[{\"a\":\"3\"}],\"records\":[{\"a\":\"1\"}]}",
+            "r a=1; x a=3; ",
+        ),
+        (
+            "{\"relationships\":[{\"a\":\"2\"}],\"exceptions\":[{\"a\":\"3\"}]}",
+            "l a=2; x a=3; ",
+        ),
+        (
+            "{\"exceptions\":[{\"a\":\"3\"}],\"relationships\":[{\"a\":\"2\"}]}",
+            "l a=2; x a=3; ",
+        ),
+        // A list that stands twice is the last one, and an empty one has no item.
+        (
+            "{\"exceptions\":[{\"a\":\"3\"}],\"records\":[],\"exceptions\":[{\"a\":\"4\"}]}",
+            "x a=4; ",
+        ),
+    ] {
+        assert_eq!(rt; listed(rt.alloc(), body)?.as_str(), told, "{body}");
+    }
+    Ok(())
+}
+
+#[test]
+fn three_lists_in_every_order(rt: HostRuntime) -> Result<(), Fail> {
+    let alloc = rt.alloc();
+    let records = "\"records\":[{\"a\":\"1\"},{\"a\":\"2\"}]";
+    let relationships = "\"relationships\":[{\"a\":\"3\"},{\"a\":\"4\"}]";
+    let exceptions = "\"exceptions\":[{\"a\":\"5\"}]";
+    for (first, second, third) in [
+        (records, relationships, exceptions),
+        (records, exceptions, relationships),
+        (relationships, records, exceptions),
+        (relationships, exceptions, records),
+        (exceptions, records, relationships),
+        (exceptions, relationships, records),
+    ] {
+        let body = format!(in alloc; "{{{first},{second},{third}}}")?;
+        let told = listed(alloc, body.as_str())?;
+        assert_eq!(rt;
+            told.as_str(),
+            "r a=1; r a=2; l a=3; l a=4; x a=5; ",
+            "{body}"
+        );
+    }
+    Ok(())
+}
+
+// The three lists with so many empty items.
+fn lists(
+    alloc: Global,
+    records: usize,
+    relationships: usize,
+    exceptions: usize,
+) -> Result<String, AllocError> {
+    let body = repeated(alloc, "{\"records\":[{}", ",{}", records, "],")?;
+    let body = repeated(alloc, &body, "", 0, "\"relationships\":[{}")?;
+    let body = repeated(alloc, &body, ",{}", relationships, "],")?;
+    let body = repeated(alloc, &body, "", 0, "\"exceptions\":[{}")?;
+    repeated(alloc, &body, ",{}", exceptions, "]}")
+}
+
+// The items of all lists are counted together. Each list of the bodies has one more item than is said.
+#[test]
+fn from_1_to_5000_items_in_three_lists(rt: HostRuntime) -> Result<(), Fail> {
+    for (records, relationships, exceptions, fault) in [
+        (0, 0, 0, None),
+        (1999, 1999, 999, None),
+        (1999, 1999, 1000, malformed(Malformed::TooManyItems)),
+        (1999, 2000, 999, malformed(Malformed::TooManyItems)),
+        (4999, 0, 0, malformed(Malformed::TooManyItems)),
+    ] {
+        let body = lists(rt.alloc(), records, relationships, exceptions)?;
+        let read = read_upload(rt.alloc(), body.as_bytes());
+        assert_eq!(rt;
+            read.as_ref().err().copied(),
+            fault,
+            "{records} {relationships}"
+        );
+        if let Ok(upload) = read {
+            assert_eq!(rt;
+                upload.items.len(),
+                records + relationships + exceptions + 3
+            );
+        }
+    }
     Ok(())
 }
 
@@ -220,6 +352,8 @@ fn uploads_are_compared(rt: HostRuntime) -> Result<(), Fail> {
         ("{\"records\":[{\"a\":\"1\",\"c\":\"2\"}]}", false),
         ("{\"records\":[{\"a\":\"1\"}]}", false),
         ("{\"records\":[{\"a\":\"1\",\"b\":\"2\"},{}]}", false),
+        ("{\"relationships\":[{\"a\":\"1\",\"b\":\"2\"}]}", false),
+        ("{\"exceptions\":[{\"a\":\"1\",\"b\":\"2\"}]}", false),
     ] {
         let other = read_upload(rt.alloc(), body.as_bytes())?;
         assert_eq!(rt; first == other, alike, "{body}");
