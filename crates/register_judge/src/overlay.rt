@@ -73,7 +73,7 @@ impl<'a, V: View> View for Overlay<'a, V> {
 
     fn relation(&self, start: &Lei, kind: RelationType, end: &Lei) -> Seen<RelCell> {
         match self.accepted_relation(start, kind, end) {
-            Some(item) => Seen::Held(item.cell()),
+            Some(relation) => Seen::Held(relation.cell()),
             None => self.view.relation(start, kind, end),
         }
     }

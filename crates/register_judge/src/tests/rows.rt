@@ -4,7 +4,7 @@ use crate::overlay::Overlay;
 use crate::{JudgeStop, Outcome, Verdict, judge_all};
 use lei_code::Lei;
 use lei_outside::NoMemory;
-use lei_records::{Check, Detail, Item, Readied, Record};
+use lei_records::{Check, Detail, Readied};
 use std::alloc::Global;
 use std::process::Abort;
 use std::test::Fail;
@@ -46,10 +46,10 @@ pub const TRANSFER_TO: &str = "Register.TransferTo";
 // 2025-01-11, counted from 1970-01-01.
 pub const TODAY: i32 = 20_099;
 
-/// What came of the items of an upload over these records, where so many further ones fit.
+/// What came of the items of an upload over these items, which were accepted before, where so many further records fit.
 pub fn outcome_of(
     alloc: Global,
-    held: &[Record],
+    held: &[Readied],
     office: &str,
     today: i32,
     room: u32,
@@ -63,7 +63,9 @@ pub fn outcome_of(
     }
     let mut overlay = Overlay::new(alloc, &Nothing);
     for item in held {
-        overlay.put(alloc, item)?;
+        if let Readied::Good(item) = item {
+            overlay.put(alloc, item)?;
+        }
     }
     judge_all(alloc, &overlay, room, &office, today, items)
 }
@@ -88,23 +90,49 @@ pub fn told_of(alloc: Global, outcome: &Outcome, place: usize) -> Result<String,
     }
 }
 
-/// Judges one item over these records, says the check that it fails, and keeps it where it fails none.
+/// Judges an upload over these items, and keeps those of it that are accepted. Says the check that each item fails, or
+/// nothing where it fails none, with a comma between two items.
+pub fn upload(
+    alloc: Global,
+    held: &mut Vec<Readied>,
+    office: &str,
+    today: i32,
+    room: u32,
+    items: Vec<Readied>,
+) -> Result<String, Fail> {
+    let outcome = outcome_of(
+        alloc,
+        held.as_slice(),
+        office,
+        today,
+        room,
+        items.as_slice(),
+    )?;
+    let mut told = String::new(alloc);
+    for (place, item) in items.into_iter().enumerate() {
+        let check = told_of(alloc, &outcome, place)?;
+        if place > 0 {
+            told.push_str(",")?;
+        }
+        told.push_str(check.as_str())?;
+        if check.is_empty() {
+            held.push(item)?;
+        }
+    }
+    Ok(told)
+}
+
+/// Judges one record over these items, says the check that it fails, and keeps it where it fails none.
 pub fn send(
     alloc: Global,
-    held: &mut Vec<Record>,
+    held: &mut Vec<Readied>,
     office: &str,
     today: i32,
     room: u32,
     changes: Changes,
 ) -> Result<String, Fail> {
-    let items = [item(alloc, changes)?];
-    let outcome = outcome_of(alloc, held.as_slice(), office, today, room, &items)?;
-    for (_, written) in outcome.writes.as_slice() {
-        if let Some(Item::Record(written)) = written {
-            held.push(written.copy(alloc)?)?;
-        }
-    }
-    told_of(alloc, &outcome, 0)
+    let items = vec![in alloc; item(alloc, changes)?]?;
+    upload(alloc, held, office, today, room, items)
 }
 
 #[test]
