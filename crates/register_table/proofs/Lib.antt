@@ -9,3 +9,4 @@ mod TableLemmas
 pub mod UndoLemmas
 mod WriteLemmas
 pub mod KeptLemmas
+mod TestLemmas

@@ -40,8 +40,7 @@ pub fn exception_place(
 ) -> Option<usize>
     ensures { result ≡ position (is_exception_of lei.now category) rows.now }
 {
-    rows.iter()
-        .position(|row| is_exception(row, lei, category))
+    rows.iter().position(|row| is_exception(row, lei, category))
 }
 
 /// The record of an entity.
