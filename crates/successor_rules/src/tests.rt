@@ -7,8 +7,8 @@ ghost use Rattle.lei_records.specs.declared.view.Seen as seen;
 
 use crate::{Walked, walk};
 use lei_code::{Lei, check_digits};
-use lei_records::{CellKey, RecCell, Seen, View};
-use lei_shapes::{Category, Moment, RecordStatus};
+use lei_records::{CellKey, RecCell, RelCell, Seen, View};
+use lei_shapes::{Category, ExceptionCategory, Moment, RecordStatus, RelationType};
 use std::alloc::Global;
 use std::collections::BTreeMap;
 use std::test::Fail;
@@ -33,6 +33,18 @@ impl View for Records {
     }
 
     fn holder(&self, _authority: &str, _id: &str) -> Seen<Lei> {
+        Seen::Missing
+    }
+
+    fn relation(&self, _start: &Lei, _kind: RelationType, _end: &Lei) -> Seen<RelCell> {
+        Seen::Missing
+    }
+
+    fn active(&self, _start: &Lei, _kind: RelationType) -> Seen<Lei> {
+        Seen::Missing
+    }
+
+    fn exception(&self, _lei: &Lei, _category: ExceptionCategory) -> Seen<()> {
         Seen::Missing
     }
 }
