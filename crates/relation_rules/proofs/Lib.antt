@@ -7,3 +7,4 @@ pub mod PassLemmas
 pub mod PutLemmas
 pub mod ChainLemmas
 pub mod ApartLemmas
+pub mod NeedLemmas

@@ -43,13 +43,3 @@ pub fn failed(code: u8) -> Checked
 {
     Checked::Fails(plain(code))
 }
-
-// Passes where no check failed.
-pub fn checked_of(failed: Option<Check>) -> Checked
-    ensures { result ≡ Checking.checked_of failed }
-{
-    match failed {
-        None => Checked::Passes,
-        Some(check) => Checked::Fails(check),
-    }
-}

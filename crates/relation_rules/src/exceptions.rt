@@ -1,11 +1,14 @@
 //! The checks of an exception, over any view.
-ghost use Rattle.std.specs.Prelude.{◌≡◌, Some, false, true};
+ghost use Rattle.std.specs.Prelude.{◌≡◌, Contains, IsTrue, Some, false, true};
 ghost use Rattle.lei_shapes.specs.declared.lists.ExceptionCategory.{ExceptionCategory};
 ghost use Rattle.lei_shapes.specs.declared.lists.RelationType.{RelationType};
+ghost use Rattle.lei_records.specs.declared.view.CellKey.{CellKey};
 ghost use Rattle.lei_records.specs.Lines.{first_failing};
 ghost use Rattle.lei_records.specs.Tables.{IsSound, Table, cells_of};
 ghost use Rattle.relation_rules.specs.Checking;
 ghost use Rattle.relation_rules.specs.Checks.{exception_checks};
+ghost use Rattle.relation_rules.specs.Needs.{exception_names, lacks};
+ghost use Rattle.relation_rules.specs.declared.checked.Checked.{Checked};
 
 use crate::checked::{Checked, failed, telling};
 use crate::checks::{LEI_UNKNOWN, NOTHING_TO_WITHDRAW, PARENT_STANDS, category_of, manager_check};
@@ -20,6 +23,10 @@ use lei_shapes::{ExceptionCategory, RelationType};
 /// exception itself with a withdrawal.
 pub fn exception_check<V: View>(view: &V, office: &Lei, item: &ExceptionItem) -> Checked
     ensures answers { result ≡ Checking.check_exception (V.cells view.now) office.now item.now }
+
+    // A cell that is told missing is one that the view lacks and the item names.
+    ensures lacking { (key : CellKey) → result ≡ Checked.Missing key → IsTrue (lacks (V.cells view.now) key) }
+    ensures named { (key : CellKey) → result ≡ Checked.Missing key → Contains (exception_names item.now.0) key }
 
     // Over the cells of a sound table: the first that fails of all checks, each asked over all rows.
     ensures over_tables { (table : Table) → IsSound table → V.cells view.now ≡ cells_of table

@@ -1,14 +1,17 @@
 //! The checks of a relationship, over any view.
-ghost use Rattle.std.specs.Prelude.{◌≡◌, Some, true};
+ghost use Rattle.std.specs.Prelude.{◌≡◌, IsTrue, Some, true};
 ghost use Rattle.lei_shapes.specs.declared.lists.ExceptionCategory.{ExceptionCategory};
+ghost use Rattle.lei_records.specs.declared.view.CellKey.{CellKey};
 ghost use Rattle.lei_records.specs.Lines.{first_failing};
 ghost use Rattle.lei_records.specs.Relations;
 ghost use Rattle.lei_records.specs.Tables.{IsSound, Table, cells_of};
 ghost use Rattle.relation_rules.specs.Checking;
 ghost use Rattle.relation_rules.specs.Checks.{relation_checks};
+ghost use Rattle.relation_rules.specs.Needs.{IsNeeded, lacks};
 ghost use Rattle.relation_rules.specs.Parents;
+ghost use Rattle.relation_rules.specs.declared.checked.Checked.{Checked};
 
-use crate::checked::{Checked, checked_of, failed};
+use crate::checked::{Checked, failed};
 use crate::checks::{
     END_UNKNOWN, EXCEPTION_STANDS, PARENT_CHAIN_LONG, PARENT_CYCLE, START_UNKNOWN, end_check,
     held_check, is_active, kind_of, own_check, start_check,
@@ -26,6 +29,10 @@ use successor_rules::Walked;
 /// the exception in a parent's place.
 pub fn relation_check<V: View>(view: &V, office: &Lei, item: &Relation) -> Checked
     ensures answers { result ≡ Checking.check_relation (V.cells view.now) office.now item.now }
+
+    // A cell that is told missing is one that the view lacks and the item needs.
+    ensures lacking { (key : CellKey) → result ≡ Checked.Missing key → IsTrue (lacks (V.cells view.now) key) }
+    ensures needed { (key : CellKey) → result ≡ Checked.Missing key → IsNeeded (V.cells view.now) item.now key }
 
     // Over the cells of a sound table: the first that fails of all checks, each asked over all rows.
     ensures over_tables { (table : Table) → IsSound table → V.cells view.now ≡ cells_of table

@@ -23,6 +23,9 @@ impl View for Records {
     ghost cells = { λ records. record {
       record_cell = λ lei. unwrap_or (get_by (slice_cmp nat_cmp lei) records.cells) seen.Seen.Missing;
       holder = λ authority id. seen.Seen.Missing;
+      relation = λ start kind end. seen.Seen.Missing;
+      active = λ start kind. seen.Seen.Missing;
+      exception = λ lei category. seen.Seen.Missing;
     } };
 
     fn record_cell(&self, lei: &Lei) -> Seen<RecCell> {
