@@ -59,12 +59,12 @@ fn slot_of_item(alloc: Global, item: &Item) -> Result<Slot, NoMemory>
     }
 }
 
-fn slot_of_record(alloc: Global, record: &Record) -> Result<Slot, NoMemory>
-    ensures slot { IfOk result (λ slot. note_of slot ≡ (row_key (item.Item.Record record.now), Some (item.Item.Record record.now))) }
+fn slot_of_record(alloc: Global, row: &Record) -> Result<Slot, NoMemory>
+    ensures slot { IfOk result (λ slot. note_of slot ≡ (row_key (item.Item.Record row.now), Some (item.Item.Record row.now))) }
     ensures own { IfOk result IsSlot }
 {
-    let copy = record.copy(alloc)?;
-    Ok(Slot::Record(record.lei(), Some(copy)))
+    let copy = row.copy(alloc)?;
+    Ok(Slot::Record(row.lei(), Some(copy)))
 }
 
 fn slot_of_relation(alloc: Global, relation: &Relation) -> Result<Slot, NoMemory>
