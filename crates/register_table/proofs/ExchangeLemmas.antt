@@ -1,14 +1,12 @@
 -- What stands under the key of a record, a relationship or an exception is exchanged.
-use Rattle.std.specs.Prelude.{◌≡◌, ℕ, Bool, List, ◌++◌, Option, None, IfSome, length, option_map, option_to_list, position}
+use Rattle.std.specs.Prelude.{◌≡◌, ℕ, Bool, List, ◌++◌, Option, None, IfSome, option_map, option_to_list, position}
 use Rattle.std.specs.FinMap.{get}
 use Rattle.std.proofs.Common.{sym, ap, subst, ◌∙◌}
-use Rattle.lei_shapes.specs.declared.lists.ExceptionCategory.{ExceptionCategory}
-use Rattle.lei_shapes.specs.declared.lists.RelationType.{RelationType}
 use Rattle.lei_records.specs.Rows.{Row}
-use Rattle.lei_records.specs.Tables.{KeyTexts, exception_key, record_key, relation_key, relation_key_in}
-use Rattle.register_table.specs.Lists.{exception_item_key, exception_rows, exchanged, is_exception_of, is_of, is_relation_of, record_key_in, record_rows, relation_rows, remaining, rows_under, standing}
+use Rattle.lei_records.specs.Tables.{KeyTexts}
+use Rattle.register_table.specs.Lists.{exchanged, remaining, rows_under, standing}
 use Rattle.register_table.specs.Undos.{with_under}
-use Rattle.register_table.proofs.KeyLemmas.{has_key, is_exception_of-key, is_of-key, is_relation_of-key}
+use Rattle.register_table.proofs.KeyLemmas.{has_key}
 use Rattle.register_table.proofs.ListLemmas.{Exchange, IsOnce, exchange_exchanged, exchange_joined, get-rows_under, mapped_itself, unplaced}
 
 -- a place by the test of a key's parts is that by the key, where the list that was searched is the list

@@ -1,11 +1,11 @@
 -- Exceptions that are held: no withdrawal stands among them.
-use Rattle.std.specs.Prelude.{◌≡◌, ℕ, zero, suc, Bool, false, List, [], ◌∷◌, ◌++◌, take, drop, length, slice_get, ◌+◌, ◌≤◌, Option, Some, None, IfSome, option_map, option_to_list}
+use Rattle.std.specs.Prelude.{◌≡◌, ℕ, zero, suc, Bool, false, List, [], ◌∷◌, ◌++◌, take, drop, length, slice_get, ◌+◌, ◌≤◌, Option, Some, None, IfSome, option_to_list}
 use Rattle.std.specs.List.{AllByRecursion}
 use Rattle.std.proofs.Common.{refl, sym, ap, subst, ◌∙◌, arith}
 use Rattle.std.proofs.lemmas.Grind.{common_steps}
 use Rattle.lei_records.specs.Rows.{Row}
 use Rattle.lei_records.specs.Tables.{KeyTexts}
-use Rattle.register_table.specs.Lists.{HasNoWithdrawal, exception_item_key, remaining, standing, without}
+use Rattle.register_table.specs.Lists.{HasNoWithdrawal, exception_item_key, remaining, standing}
 
 module _ {X : Type 0} (P : X → Type 0) where
   pub all-append : (xs ys : List X) → AllByRecursion P xs → AllByRecursion P ys → AllByRecursion P (xs ++ ys)
@@ -46,16 +46,13 @@ no_withdrawal item = item.1 ≡ false
 abbrev pub IsHeldUnder : KeyTexts → Row × Bool → Type 0
 IsHeldUnder k item = (exception_item_key item ≡ k) × (item.1 ≡ false)
 
-own_of : (k : KeyTexts) (o : Option (Row × Bool)) → IfSome o (IsHeldUnder k) → IfSome o (λ item. exception_item_key item ≡ k)
-own_of k None is = tt
-own_of k (Some item) is = is.0
-
 held_of : (k : KeyTexts) (o : Option (Row × Bool)) → IfSome o (IsHeldUnder k) → IfSome o no_withdrawal
 held_of k None is = tt
 held_of k (Some item) is = is.1
 
 pub own_part : (k : KeyTexts) (o : Option (Row × Bool)) → IfSome o (IsHeldUnder k) → IfSome o (λ item. exception_item_key item ≡ k)
-own_part = own_of
+own_part k None is = tt
+own_part k (Some item) is = is.0
 
 both_parts : (k : KeyTexts) (o : Option (Row × Bool)) → IfSome o (λ item. exception_item_key item ≡ k) → IfSome o no_withdrawal → IfSome o (IsHeldUnder k)
 both_parts k None own held = tt

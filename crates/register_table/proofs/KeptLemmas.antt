@@ -1,11 +1,11 @@
 -- Tables that stay kept.
-use Rattle.std.specs.Prelude.{◌≡◌, ℕ, ◌+◌, ◌^◌, ◌<◌, ◌≤◌, Bool, List, [], ◌∷◌, ◌++◌, length, Option, Some, Result, Ok, Err, OnOk, OnErr, IfOk}
+use Rattle.std.specs.Prelude.{◌≡◌, ◌+◌, ◌<◌, ◌≤◌, [], ◌∷◌, ◌++◌, length, Some, Result, Ok, Err, OnOk, OnErr, IfOk}
 use Rattle.std.specs.FinMap.{empty, get, get-empty, len-empty}
 use Rattle.std.proofs.Common.{refl, sym, ap, subst, rules, ◌∙◌}
 use Rattle.lei_records.specs.Rows.{Row}
 use Rattle.lei_records.specs.Tables.{KeyTexts, Table, key_cmp, put_write, put_all, record_key, record_count, IsSound}
 use Rattle.authority_rules.proofs.HolderLemmas.{some_apart}
-use Rattle.register_table.specs.Lists.{AreKept, AreListed, Listed, exception_count, exception_rows, IsKept, no_rows, record_rows, relation_rows, rows_under, table_of}
+use Rattle.register_table.specs.Lists.{AreKept, AreListed, Listed, exception_count, IsKept, no_rows, rows_under, table_of}
 use Rattle.register_table.specs.Undos.{WriteList, Notes, AreOwn, StaysKept, notes_of, IsOfLast}
 
 -- ---- the table without rows

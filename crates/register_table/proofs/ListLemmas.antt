@@ -1,6 +1,6 @@
 -- Lists whose items have a key each, seen as rows under their keys: what is found, changed, added and taken out.
-use Rattle.std.specs.Prelude.{◌≡◌, ℕ, suc, ◌+◌, ◌-◌, ◌<◌, ◌≤◌, Bool, true, false, not, cond, List, [], ◌∷◌, ◌++◌, map, length, take, drop, set, find, position, slice_get, Option, Some, None, IfSome, is_some, option_map, option_to_list}
-use Rattle.std.specs.FinMap.{get, insert, remove, len, contains_key, from_entries, get-empty, get-insert, len-empty, len-insert, len-remove, same_map, values}
+use Rattle.std.specs.Prelude.{◌≡◌, ℕ, suc, ◌+◌, ◌-◌, ◌<◌, ◌≤◌, Bool, true, false, not, cond, List, [], ◌∷◌, ◌++◌, length, set, find, position, slice_get, Option, Some, None, IfSome, is_some, option_map, option_to_list}
+use Rattle.std.specs.FinMap.{get, insert, len, contains_key, get-empty, get-insert, len-empty, len-insert, len-remove, same_map}
 use Rattle.std.specs.List.{position_or_len}
 use Rattle.std.specs.Ordering.{eq_by_cmp}
 use Rattle.std.proofs.Common.{refl, sym, ap, subst, ◌∙◌, arith, rules, ltb}
@@ -10,7 +10,6 @@ use mathlib.Core.Bool.{true≢false}
 use Rattle.lei_records.specs.Rows.{Row}
 use Rattle.lei_records.specs.Tables.{KeyTexts, Rows, key_cmp}
 use Rattle.authority_rules.proofs.HolderLemmas.{keys_total, same_key}
-use Rattle.authority_rules.proofs.MapLemmas.{find-values, values-find}
 use Rattle.register_table.specs.Lists.{exchanged, remaining, rows_under, standing, without}
 use Rattle.register_table.specs.Undos.{with_under}
 use Rattle.register_table.proofs.KeyLemmas.{has_key, keys_antisymmetric}
@@ -113,7 +112,8 @@ no_more_items : {X : Type 0} (xs : List X) → xs ++ [] ≡ xs
 no_more_items [] = refl
 no_more_items (x ∷ xs) = ap (λ ys. x ∷ ys) (no_more_items xs)
 
-length_push : {X : Type 0} (xs : List X) (new : X) → length (xs ++ new ∷ []) ≡ length xs + 1
+-- there is one item more
+pub length_push : {X : Type 0} (xs : List X) (new : X) → length (xs ++ new ∷ []) ≡ length xs + 1
 length_push [] new = refl
 length_push (x ∷ xs) new = let rest = length_push xs new in omega (arith, rest)
 
@@ -142,7 +142,7 @@ none_mapped : {A B : Type 0} (f : A → B) (o : Option A) → is_some (option_ma
 none_mapped f None is = refl
 none_mapped f (Some x) is = absurd (true≢false is)
 
-some_mapped : {A B : Type 0} (f : A → B) (o : Option A) → is_some (option_map f o) ≡ is_some o
+pub some_mapped : {A B : Type 0} (f : A → B) (o : Option A) → is_some (option_map f o) ≡ is_some o
 some_mapped f None = refl
 some_mapped f (Some x) = refl
 

@@ -1,7 +1,7 @@
 -- Rows under keys: what stands under a key is changed, and what stood there is put back.
-use Rattle.std.specs.Prelude.{◌≡◌, ◌+◌, ◌-◌, ◌≤◌, ℕ, Bool, true, false, cond, Option, Some, None, option_map, IsSome, is_some}
+use Rattle.std.specs.Prelude.{◌≡◌, ◌+◌, ◌-◌, ◌≤◌, ℕ, Bool, true, false, cond, Option, Some, None}
 use Rattle.std.specs.Cmp.{tied_itself}
-use Rattle.std.specs.FinMap.{get, insert, remove, len, contains_key, get-insert, get-remove, len-insert, len-remove, same_map}
+use Rattle.std.specs.FinMap.{get, len, contains_key, get-insert, get-remove, len-insert, len-remove, same_map}
 use Rattle.std.specs.Ordering.{eq_by_cmp, is_eq}
 use Rattle.std.proofs.Common.{refl, sym, ap, subst, ◌∙◌, arith}
 use Rattle.lei_records.specs.Rows.{Row}

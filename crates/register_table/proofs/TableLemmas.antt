@@ -9,11 +9,11 @@ use Rattle.lei_records.specs.Cells.{holds, lei_in}
 use Rattle.lei_records.specs.Relations.{end_in, is_active_of}
 use Rattle.lei_records.specs.Rows.{Row}
 use Rattle.lei_records.specs.Tables.{KeyTexts, Table, IsSound, active_of, exception_key, has_exception, holder_of, record_key, relation_key, relation_key_in, relation_row, row_at}
-use Rattle.authority_rules.proofs.HolderLemmas.{keys_total, some_apart}
+use Rattle.authority_rules.proofs.HolderLemmas.{keys_total}
 use Rattle.authority_rules.proofs.MapLemmas.{find-values, values-find}
-use Rattle.register_table.specs.Lists.{Listed, AreKept, HasKeysOnce, exception_item_key, is_exception_of, is_of, is_relation_of, record_key_in, record_rows, relation_rows, rows_under, table_of}
+use Rattle.register_table.specs.Lists.{Listed, AreKept, HasKeysOnce, exception_item_key, is_exception_of, is_of, is_relation_of, record_key_in, record_rows, rows_under, table_of}
 use Rattle.register_table.proofs.KeyLemmas.{has_key, is_exception_of-key, is_of-key, is_relation_of-key}
-use Rattle.register_table.proofs.ListLemmas.{IsOnce, find-other, find-own, find-passes, get-rows_under, mapped_itself}
+use Rattle.register_table.proofs.ListLemmas.{IsOnce, find-other, find-own, find-passes, get-rows_under, mapped_itself, some_mapped}
 
 -- ---- by key
 
@@ -36,10 +36,6 @@ found_any test (x ∷ xs) = elim (test x) as (λ b. is_some (cond b (Some x) (fi
   | true ↦ refl
   | false ↦ found_any test xs
 ]
-
-some_mapped : {A B : Type 0} (f : A → B) (o : Option A) → is_some (option_map f o) ≡ is_some o
-some_mapped f None = refl
-some_mapped f (Some x) = refl
 
 -- there is an exception where a search finds one
 pub has_exception-found : (lists : Listed) (lei : List ℕ) (category : ExceptionCategory) → has_exception (table_of lists) lei category ≡ list_any (is_exception_of lei category) lists.exceptions

@@ -1,7 +1,7 @@
 -- What the tests build: fields whose names rise, and writes that may be applied.
-use Rattle.std.specs.Prelude.{◌≡◌, ℕ, ◌+◌, ◌<◌, ◌≤◌, Bool, true, false, cond, not, ◌&&◌, List, [], ◌∷◌, ◌++◌, Option, Some, None, IsTrue, find, option_map}
+use Rattle.std.specs.Prelude.{◌≡◌, ℕ, ◌+◌, ◌<◌, ◌≤◌, Bool, true, false, cond, ◌&&◌, List, [], ◌∷◌, ◌++◌, Option, Some, None, option_map}
 use Rattle.std.specs.Cmp.Lexicographic.{slice_cmp}
-use Rattle.std.specs.FinMap.{contains_key, get, len, len-insert, values}
+use Rattle.std.specs.FinMap.{contains_key, get, len-insert}
 use Rattle.std.specs.List.{AllByRecursion, list_all}
 use Rattle.std.specs.List.Sorted.{IsStrictlySortedBy}
 use Rattle.std.specs.Ordering.{eq_by_cmp, is_lt, nat_cmp}
@@ -23,13 +23,14 @@ use Rattle.lei_records.specs.Names.{AreRising, names}
 use Rattle.lei_records.specs.Relations.{end_in, is_active, is_active_of, is_same_type, kind_in, start_in}
 use Rattle.lei_records.specs.Rows.{Row}
 use Rattle.lei_records.specs.Spelled.{IsExceptionRow, IsRelationRow, IsRow}
-use Rattle.lei_records.specs.Tables.{KeyTexts, Rows, Table, IsSound, active_of, exception_key, exception_key_in, key_cmp, other_holder, put, put_write, record_count, record_key, relation_key_in, relations_of, row_key, seen}
+use Rattle.lei_records.specs.Tables.{KeyTexts, Rows, Table, IsSound, active_of, exception_key, exception_key_in, key_cmp, other_holder, put, put_write, record_count, record_key, relation_key_in, row_key, seen}
 use Rattle.authority_rules.proofs.HolderLemmas.{bytes_same, first_true, keys_total, same_key, second_true, some_apart}
 use Rattle.authority_rules.proofs.MapLemmas.{values-find}
 use Rattle.authority_rules.proofs.PutLemmas.{IsSound-put}
 use Rattle.register_table.specs.Lists.{IsKept}
 use Rattle.register_table.specs.Undos.{MayApply, with_under}
 use Rattle.register_table.proofs.MapLemmas.{get-with_under}
+use Rattle.register_table.proofs.ValueLemmas.{one_value}
 
 -- ---- names that rise
 
@@ -102,9 +103,7 @@ same_row a b is = cc
 
 one_type : (a b : RelationType) → is_same_type a b ≡ true → a ≡ b
 one_type a b is =
-    let texts : relation_type_text a ≡ relation_type_text b = bytes_same (relation_type_text a) (relation_type_text b) is in
-    let known = sym (relation_type_of-text a) ∙ (ap relation_type_of texts ∙ relation_type_of-text b) in
-    cc
+    one_value relation_type_text relation_type_of relation_type_of-text a b (bytes_same (relation_type_text a) (relation_type_text b) is)
 
 active_parts : (start : List ℕ) (kind : RelationType) (row : Row) → is_active_of start kind row ≡ true → (is_active row ≡ true) × ((start_in row ≡ start) × (kind_in row ≡ kind))
 unfolding is_active_of

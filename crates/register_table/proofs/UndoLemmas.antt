@@ -1,6 +1,6 @@
 -- Writes that were put, and what their notes put back.
-use Rattle.std.specs.Prelude.{◌≡◌, ℕ, suc, ◌+◌, ◌^◌, ◌<◌, ◌≤◌, Bool, true, false, if◌then◌else◌, List, [], ◌∷◌, ◌++◌, length, Option, Some, None, option_map, IsSome, is_some}
-use Rattle.std.specs.FinMap.{get, insert, len, remove}
+use Rattle.std.specs.Prelude.{◌≡◌, ◌+◌, ◌<◌, ◌≤◌, false, if◌then◌else◌, [], ◌∷◌, ◌++◌, length, Option, Some, None, option_map, IsSome, is_some}
+use Rattle.std.specs.FinMap.{insert, remove}
 use Rattle.std.proofs.Common.{refl, sym, ap, subst, ◌∙◌, arith}
 use Rattle.lei_records.specs.declared.item.Item.{Item}
 use Rattle.lei_records.specs.declared.view.RowKey.{RowKey}
@@ -8,7 +8,8 @@ use Rattle.lei_records.specs.Rows.{Row}
 use Rattle.lei_records.specs.Tables.{Table, exception_key, exception_key_in, exception_row, put, put_all, put_write, record_key, relation_key, relation_row, row_at, row_key, with_exceptions, with_records, with_relations}
 use Rattle.register_table.specs.Lists.{exception_count}
 use Rattle.register_table.specs.Slots.{NeedsNoRoom}
-use Rattle.register_table.specs.Undos.{WriteList, Notes, IsOwn, AreOwn, held_exception, is_withdrawal, item_at, notes_of, put_back, row_of, undone, with_under, IsOfLast}
+use Rattle.register_table.specs.Undos.{WriteList, Notes, IsOwn, AreOwn, held_exception, is_withdrawal, item_at, notes_of, put_back, row_of, undone, IsOfLast}
+use Rattle.register_table.proofs.ListLemmas.{length_push}
 use Rattle.register_table.proofs.MapLemmas.{len-with_under, stands, under_again}
 
 -- ---- a write puts its item under its key, or nothing
@@ -134,10 +135,6 @@ count_back : (table : Table) (note : RowKey × Option Item) → exception_count 
 count_back table (RowKey.Rec lei, item) = omega arith
 count_back table (RowKey.Rel start kind end, item) = omega arith
 count_back table (RowKey.Exc lei category, item) = len-with_under table.exceptions (exception_key lei category) (option_map row_of item)
-
-length_push : (notes : Notes) (note : RowKey × Option Item) → length (notes ++ note ∷ []) ≡ length notes + 1
-length_push [] note = refl
-length_push (first ∷ notes) note = let rest = length_push notes note in omega (arith, rest)
 
 few_back : (notes : Notes) (note : RowKey × Option Item) (table : Table) → exception_count table + length (notes ++ note ∷ []) < 9223372036854775808
     → exception_count (put_back table note) + length notes < 9223372036854775808

@@ -11,7 +11,7 @@ use Rattle.authority_rules.proofs.HolderLemmas.{bytes_itself, bytes_same}
 
 -- a test that passes exactly where two values are one is that of their texts
 module _ {V : Type 0} (text_of : V → List ℕ) (of_text : List ℕ → Option V) (back : (v : V) → of_text (text_of v) ≡ Some v) where
-  one_value : (a b : V) → text_of a ≡ text_of b → a ≡ b
+  pub one_value : (a b : V) → text_of a ≡ text_of b → a ≡ b
   one_value a b e = let known = sym (back a) ∙ (ap of_text e ∙ back b) in cc
 
   by_texts : (a b : V) (test texts : Bool) → (test ≡ true → a ≡ b) → (test ≡ false → a ≡ b → ⊥) → bytes_eq (text_of a) (text_of b) ≡ texts → test ≡ texts

@@ -84,7 +84,7 @@ undone [] table = table
 undone (note ∷ notes) table = put_back (undone notes table) note
 
 -- The table was made by writes that were applied to a table that was kept, and these are the notes of it. Its exceptions
--- and the notes are few enough to be counted together, and so are the exceptions with those that come back.
+-- and the notes are together few enough to be counted, so that each exception that comes back can be joined to the others.
 pub record IsOfLast (notes : Notes) (table : Table) : Type 0 where
   pub before : Table
   pub kept : IsKept before

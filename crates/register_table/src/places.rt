@@ -101,7 +101,7 @@ fn is_relation(row: &Relation, start: &Lei, kind: RelationType, end: &Lei) -> bo
 fn is_active(row: &Relation, start: &Lei, kind: RelationType) -> bool
     ensures { result ≡ is_active_of start.now kind row.now }
 {
-    has_status_active(row) && row.start() == *start && has_type(row, kind)
+    has_active_status(row) && row.start() == *start && has_type(row, kind)
 }
 
 fn is_exception(row: &ExceptionItem, lei: &Lei, category: ExceptionCategory) -> bool
@@ -116,7 +116,7 @@ fn has_type(row: &Relation, kind: RelationType) -> bool
     row.kind() == kind
 }
 
-fn has_status_active(row: &Relation) -> bool
+fn has_active_status(row: &Relation) -> bool
     ensures { result ≡ is_active_row row.now }
 {
     is_active_status(row.status())

@@ -12,7 +12,7 @@ use crate::undo::Undo;
 use lei_outside::NoMemory;
 use lei_records::{Item, RowKey};
 
-// More rows or writes than any memory has, few enough to be counted.
+// Fewer exceptions and fewer writes than this are counted together in a `usize`. No memory has so many.
 const MOST: usize = 0x2000_0000_0000_0000;
 
 /// Puts writes, from the first to the last, and notes what they replace. All memory is taken before

@@ -1,4 +1,4 @@
-use Rattle.std.proofs.Common.{◌≡◌, ap, ◌∙◌, rules, tests}
+use Rattle.std.proofs.Common.{ap, ◌∙◌, rules, tests}
 use Rattle.std.specs.Str.{bytes_eq}
 use Rattle.lei_shapes.specs.Lists.{exception_category_text}
 use Rattle.lei_records.proofs.CellLemmas.{exception_category_in-is}

@@ -1,7 +1,6 @@
-use Rattle.std.proofs.Common.{◌≡◌, ap, ◌∙◌, rules, tests}
+use Rattle.std.proofs.Common.{ap, ◌∙◌, rules, tests}
 use Rattle.std.specs.Str.{bytes_eq}
 use Rattle.lei_shapes.specs.Lists.{relation_type_text}
-use Rattle.lei_records.specs.Relations.{kind_in}
 use Rattle.lei_records.proofs.CellLemmas.{kind_in-is}
 use Rattle.register_table.proofs.ValueLemmas.{same_types}
 use Rattle.register_table.proofs.places.has_type.Goals as goal

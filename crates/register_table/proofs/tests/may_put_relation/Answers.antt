@@ -1,4 +1,4 @@
-use Rattle.std.proofs.Common.{◌≡◌, true, false, sym, ap, ◌∙◌}
+use Rattle.std.proofs.Common.{◌≡◌, false, sym, ap, ◌∙◌}
 use mathlib.Core.Bool.{true≢false}
 use Rattle.lei_records.specs.Relations.{is_active, is_active_status}
 use Rattle.lei_records.specs.Tables.{active_of, seen}

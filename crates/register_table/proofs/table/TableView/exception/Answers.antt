@@ -1,4 +1,4 @@
-use Rattle.std.proofs.Common.{sym, ap, ◌≡◌, ◌∙◌, true, false}
+use Rattle.std.proofs.Common.{sym, ap, ◌∙◌}
 use Rattle.lei_records.specs.Tables.{has_exception, seen_fact}
 use Rattle.register_table.specs.Slots.{listed}
 use Rattle.register_table.proofs.TableLemmas.{has_exception-found}
