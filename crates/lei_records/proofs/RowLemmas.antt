@@ -1,6 +1,6 @@
 -- The checks of an item by its texts in order of place, and the row that it has where they pass.
 use Rattle.std.proofs.Common.{◌≡◌, ℕ, ℤ, ◌<◌, ◌%◌, zero, suc, List, [], ◌∷◌, Bool, true, false, not, ◌&&◌, cond, length, get_or, map, take, min, Option, None, Some, unwrap_or, refl, sym, ap, subst, ◌∙◌, arith, lit<}
-use Rattle.std.specs.Prelude.{◌==◌, codes, IsSome, IfSome, is_some, IfOk, Result, Ok, Err}
+use Rattle.std.specs.Prelude.{◌==◌, codes, IfSome, is_some, IfOk, Result, Ok, Err}
 use Rattle.std.proofs.lemmas.Bool.{false≢true}
 use Rattle.std.proofs.lemmas.Int.{ints}
 use Rattle.std.specs.List.{find, zip}
@@ -24,7 +24,6 @@ use Rattle.lei_records.specs.declared.fields.Content.{Content}
 use Rattle.lei_records.specs.declared.fields.Facts.{Facts}
 use Rattle.lei_records.specs.declared.fields.Kind.{Kind}
 use Rattle.lei_records.specs.declared.fields.Need.{Need}
-use Rattle.lei_records.specs.declared.item.Item.{Item}
 use Rattle.lei_records.specs.declared.item.Readied.{Readied}
 use Rattle.lei_records.specs.declared.readying.Ask.{Ask}
 use Rattle.lei_records.specs.Fields.{Field, exception_fields, field_count, fields, fields_of, fits_content, is_code_content, is_needed, may_stand, relation_fields, row_fields, row_len}

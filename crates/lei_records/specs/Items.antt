@@ -1,7 +1,7 @@
 -- Whether an item that was sent is a record, a relationship or an exception: its checks, each a sentence over its
 -- fields, and the row that it has.
 -- This project's profile.
-use Rattle.std.specs.Prelude.{◌≢◌, ℕ, ◌%◌, List, map, Contains, IsTrue, codes, Bool, true, false, not, ◌&&◌, ◌==◌, if◌then◌else◌, find, Option, Some, None, option_map, unwrap_or}
+use Rattle.std.specs.Prelude.{◌≢◌, ℕ, ◌%◌, List, map, Contains, IsTrue, codes, Bool, not, ◌&&◌, ◌==◌, if◌then◌else◌, find, Option, Some, None, option_map, unwrap_or}
 use Rattle.std.specs.Cmp.Lexicographic.{slice_cmp}
 use Rattle.std.specs.Option.{option_or}
 use Rattle.std.specs.Ordering.{nat_cmp}

@@ -272,7 +272,7 @@ pub fn fields_of(kind: Kind) -> &'static [Field]
 }
 
 impl Kind {
-    // How many fields an item of this kind may have.
+    /// How many fields an item of this kind may have.
     pub fn field_count(self) -> usize
         ensures { result ≡ field_count self }
     {
@@ -283,7 +283,7 @@ impl Kind {
         }
     }
 
-    // How many of them stand in its row.
+    /// How many of them stand in its row.
     pub fn row_len(self) -> usize
         ensures { result ≡ Fields.row_len self }
     {
@@ -331,9 +331,6 @@ impl Need {
     pub fn may_stand(self, facts: Facts) -> bool
         ensures { result ≡ may_stand facts self }
     {
-        match self {
-            Need::WherePendingArchival => facts.archival,
-            _ => true,
-        }
+        facts.archival || self != Need::WherePendingArchival
     }
 }

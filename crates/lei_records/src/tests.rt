@@ -315,20 +315,25 @@ fn a_relationship_has_its_row_and_its_parts(rt: HostRuntime) -> Result<(), Fail>
         assert_eq!(rt; relation.field(index as u8 + 1), *want, "at {index}");
     }
     let copy = relation.copy(rt.alloc())?;
-    let codes = (copy.start(), copy.end(), copy.manager());
-    assert_eq!(rt; codes.0.as_str(), row[0]);
-    assert_eq!(rt; codes.1.as_str(), row[2]);
-    assert_eq!(rt; codes.2.as_str(), row[9]);
-    assert_eq!(rt; copy.kind(), RelationType::IsDirectlyConsolidatedBy);
+    for (code, place) in [(copy.start(), 1), (copy.end(), 3), (copy.manager(), 10)] {
+        assert_eq!(rt; code.as_str(), row[place - 1], "at {place}");
+    }
+    for (moment, place) in [
+        (Some(copy.start_date()), 5),
+        (copy.end_date(), 6),
+        (Some(copy.initial()), 7),
+        (Some(copy.updated()), 8),
+    ] {
+        assert_eq!(rt; moment, Moment::read(row[place - 1]), "at {place}");
+    }
     let cell = RelCell {
         status: RelationStatus::Active,
         registration: RelationRegistration::Published,
     };
-    assert_eq!(rt; copy.cell(), cell);
-    assert_eq!(rt; Some(copy.start_date()), Moment::read(row[4]));
-    assert_eq!(rt; copy.end_date(), Moment::read(row[5]));
-    assert_eq!(rt; Some(copy.initial()), Moment::read(row[6]));
-    assert_eq!(rt; Some(copy.updated()), Moment::read(row[7]));
+    assert_eq!(rt;
+        (copy.kind(), copy.cell()),
+        (RelationType::IsDirectlyConsolidatedBy, cell)
+    );
     Ok(())
 }
 
