@@ -99,10 +99,10 @@ def main():
 
     times = [session(count) for count in (3, 4, 5, 6)]
     loads = least(lambda: json.loads(bodies[2]))
-    print(f"two uploads of {RECORDS + 1} records            {times[0]:8.3f} s")
+    print(f"two uploads of {RECORDS + 1} records              {times[0]:8.3f} s")
     for name, before, after in zip(("from the upper ends", "once more", "from the lower ends"), times, times[1:]):
         print(f"{RECORDS} relationships, {name:20} {after - before:8.3f} s")
-    print(f"json.loads of {len(bodies[2])} bytes             {loads:8.3f} s")
+    print(f"json.loads of {len(bodies[2])} bytes               {loads:8.3f} s")
 
 
 if __name__ == "__main__":
