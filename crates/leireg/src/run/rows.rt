@@ -1,7 +1,7 @@
 // Records that are judged on the table. Each office, moment and verdict comes from the profile's rules.
 use super::sessions::{
     A, B, BEGIN, C, Changes, D, DAY_BEHIND, OFFICE, RENEWAL_DAY, SECOND, Session, THIRD, begin,
-    codes_of, issued, managed_by, renewed, retired, successor, verdicts, without_authority,
+    chain_of, issued, managed_by, renewed, retired, successor, verdicts, without_authority,
 };
 use crate::status::OK;
 use lei_outside::{List, ListClock};
@@ -163,16 +163,14 @@ fn successors_do_not_go_round(rt: HostRuntime) -> Result<(), Fail> {
 #[test]
 fn a_chain_of_successors_has_at_most_200_members(rt: HostRuntime) -> Result<(), Fail> {
     let alloc = rt.alloc();
-    let codes = codes_of(alloc, 202)?;
+    let chain = chain_of(alloc, 202)?;
     let mut held = Vec::new(alloc);
-    let mut names = Vec::new(alloc);
-    for code in &codes {
-        held.push(without_authority(code.as_str()))?;
-        names.push(successor(alloc, code.as_str())?)?;
+    for link in &chain {
+        held.push(without_authority(link.0.as_str()))?;
     }
     let mut turned = Vec::new(alloc);
-    for (record, name) in held.iter().skip(1).zip(names.iter()) {
-        turned.push(retired(*record, name.as_str()))?;
+    for link in chain.iter().skip(1) {
+        turned.push(retired(without_authority(link.0.as_str()), link.1.as_str()))?;
     }
     let mut session = Session::new(alloc);
     session.accredit(OFFICE)?;

@@ -114,6 +114,18 @@ pub fn codes_of(alloc: Global, count: u32) -> Result<Vec<String>, Fail> {
     Ok(codes)
 }
 
+// So many codes of numbers in order, each with the member that names the one before it as its successor. The first one's
+// names itself.
+pub fn chain_of(alloc: Global, count: u32) -> Result<Vec<(String, String)>, Fail> {
+    let mut chain = Vec::new(alloc);
+    for number in 0..count {
+        let before = code_of(alloc, number.saturating_sub(1))?;
+        let more = successor(alloc, before.as_str())?;
+        chain.push((code_of(alloc, number)?, more))?;
+    }
+    Ok(chain)
+}
+
 // The verdicts on items of which so many are accepted, and the last has this verdict.
 pub fn verdicts(alloc: Global, accepted: u32, last: &str) -> Result<String, Fail> {
     let mut items = String::new(alloc);
