@@ -1,11 +1,12 @@
 -- The check digits that are made for the first 18 characters of a code (ISO/IEC 7064 MOD 97-10).
-use Rattle.std.specs.Prelude.{ℕ, ◌+◌, ◌-◌, ◌/◌, ◌%◌, List, [], ◌∷◌, ◌++◌, codes}
+use Rattle.std.specs.Prelude.{ℕ, ◌+◌, ◌-◌, ◌/◌, ◌%◌, [], ◌∷◌, ◌++◌, codes}
 use Rattle.lei_code.specs.Number.{number}
+use Rattle.lei_code.specs.Texts.{Text}
 
 -- a number below 100 in two digits
-abbrev pub two_digits : ℕ → List ℕ
+abbrev pub two_digits : ℕ → Text
 two_digits n = (48 + n / 10) ∷ (48 + n % 10) ∷ []
 
 -- 98 less the remainder by 97 of the number of the text with `00` behind it
-unfoldable pub digits : List ℕ → List ℕ
+unfoldable pub digits : Text → Text
 digits text = two_digits (98 - number (text ++ codes "00") % 97)

@@ -1,3 +1,4 @@
+pub mod Texts
 pub mod Number
 pub mod Code
 pub mod Digits

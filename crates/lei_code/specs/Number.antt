@@ -2,6 +2,7 @@
 -- (ISO 17442-1, ISO/IEC 7064 MOD 97-10).
 use Rattle.std.specs.Prelude.{ℕ, ◌+◌, ◌-◌, ◌*◌, ◌/◌, ◌%◌, List, [], ◌∷◌, if◌then◌else◌, fold, flat_map}
 use Rattle.std.specs.Char.{is_ascii_digit}
+use Rattle.lei_code.specs.Texts.{Text}
 
 -- the decimal digits that replace a character: a digit's own value, and two digits for a letter (A is 10, Z is 35)
 abbrev pub spelled : ℕ → List ℕ
@@ -12,5 +13,5 @@ abbrev pub decimal : List ℕ → ℕ
 decimal digits = fold (λ n digit. 10 * n + digit) 0 digits
 
 -- the number that stands when each letter of the text is replaced by its two digits
-unfoldable pub number : List ℕ → ℕ
+unfoldable pub number : Text → ℕ
 number text = decimal (flat_map spelled text)
