@@ -1,5 +1,5 @@
 //! What helps a person where a run ends with another status than `OK`.
-use crate::status::{INPUT_TOO_LONG, NO_MEMORY, READ_FAULT, REFUSED, USAGE, WRITE_FAULT};
+use leireg_run::status::{INPUT_TOO_LONG, NO_MEMORY, READ_FAULT, REFUSED, USAGE, WRITE_FAULT};
 
 const COMMANDS: &'static str = "usage:
   leireg lines        answers each line of the standard input, as in ACCREDIT OFFICE, UPLOAD OFFICE NUMBER BODY or SHOW LEI

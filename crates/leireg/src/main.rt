@@ -1,27 +1,16 @@
 //! The program of the register.
 #![tactic(auto)]
 
-mod answering;
 mod clock;
-mod codes;
-mod command;
 #[cfg(test)]
 mod fakes;
 mod help;
-pub mod laws;
-mod outbox;
-mod reader;
-pub mod requests;
-pub mod run;
-pub mod status;
 mod streams;
-mod window;
-mod writing;
 
 use clock::SystemClock;
 use help::help_text;
-use run::run;
-use status::{NO_MEMORY, OK, USAGE, status_text};
+use leireg_run::run::run;
+use leireg_run::status::{NO_MEMORY, OK, USAGE, status_text};
 use std::process::ExitCode;
 use std::{env, io};
 use streams::{StdSink, StdSource};

@@ -1,5 +1,5 @@
 use crate::help::help_text;
-use crate::status::{INPUT_TOO_LONG, NO_MEMORY, READ_FAULT, REFUSED, USAGE, WRITE_FAULT};
+use leireg_run::status::{INPUT_TOO_LONG, NO_MEMORY, READ_FAULT, REFUSED, USAGE, WRITE_FAULT};
 
 #[test]
 fn names_each_command_with_its_words(rt: HostRuntime) {

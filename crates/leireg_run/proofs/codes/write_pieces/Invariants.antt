@@ -1,0 +1,12 @@
+use Rattle.std.proofs.Common.{◌≤◌, [], take, flat_map}
+use Rattle.leireg_run.specs.Outbox.{Sends}
+use Rattle.leireg_run.proofs.codes.write_pieces.Given as goal
+
+abbrev pub invariant-loop-piece : goal.invariant-loop-piece
+invariant-loop-piece g l =
+    let taken = g.W.Sink.taken in
+    let faults = g.W.Sink.faults in
+    record {
+      sent : Sends (taken l.fn.out) (taken l.out) (flat_map (λ piece. piece.now) (take l.piece-index l.pieces)) [];
+      count : faults l.fn.out ≤ faults l.out;
+    }

@@ -1,0 +1,42 @@
+-- Statuses that the program ends with, and their words.
+use Rattle.std.specs.Prelude.{ℕ, List, [], ◌∷◌, codes, get_or, Result, Ok, Err}
+use Rattle.lei_outside.specs.declared.faults.SinkFault.{SinkFault}
+use Rattle.lei_outside.specs.declared.faults.SinkFault.TheVariants.{Failed, NoMemory}
+use Rattle.leireg_run.specs.declared.status.Stop.{Stop}
+use Rattle.leireg_run.specs.declared.status.Stop.TheVariants as stop
+
+-- the status of a command that ends so
+abbrev pub stop_status : Stop → ℕ
+stop_status stop.Refused = 2
+stop_status stop.ReadFault = 3
+stop_status stop.WriteFault = 4
+stop_status stop.NoMemory = 6
+stop_status stop.InputTooLong = 8
+
+-- what a fault of the sink stops a command as
+abbrev pub stop_of : SinkFault → Stop
+stop_of Failed = stop.WriteFault
+stop_of NoMemory = stop.NoMemory
+
+-- the status of a command
+abbrev pub end_status : Result (Unit {0}) Stop → ℕ
+end_status (Ok done) = 0
+end_status (Err stopped) = stop_status stopped
+
+-- the words of the statuses from 0 on
+abbrev pub status_words : List (List ℕ)
+status_words =
+    codes "OK"
+    ∷ codes "USAGE"
+    ∷ codes "REFUSED"
+    ∷ codes "READ_FAULT"
+    ∷ codes "WRITE_FAULT"
+    ∷ codes "KEEPER_FAULT"
+    ∷ codes "NO_MEMORY"
+    ∷ codes "STORE_DAMAGED"
+    ∷ codes "INPUT_TOO_LONG"
+    ∷ codes "DOOR_FAULT"
+    ∷ []
+
+abbrev pub status_text : ℕ → List ℕ
+status_text status = get_or status_words status (codes "UNKNOWN")

@@ -1,0 +1,117 @@
+//! Lines that are answered.
+ghost use Rattle.std.specs.Prelude.{◌≡◌, ◌≤◌, ◌<◌, ◌+◌, [], ◌∷◌, length, take, drop, IfSome, IfNone, IsErrOf};
+ghost use Rattle.lei_outside.specs.Count.{Rose};
+ghost use Rattle.lei_outside.specs.Clock.{Gave, IsClockMoment};
+ghost use Rattle.leireg_run.specs.Lines.{HasNoEnd, Ends, line_of};
+ghost use Rattle.leireg_run.specs.Runs.{AnswersLine, AnswersAndPuts, AnswersWhole};
+
+use crate::outbox::Outbox;
+use crate::requests::line_request;
+use crate::writing::put_reply;
+use lei_office::{Asked, Office, Refusal, Reply};
+use lei_outside::{Clock, NoMemory, Sink, SinkFault};
+use lei_shapes::Moment;
+use memchr::memchr;
+use std::alloc::Global;
+use std::thread::Threads;
+
+// The moment that the clock gives.
+fn moment_of<C: Clock>(clock: &mut C) -> Moment
+    ensures range { IsClockMoment result }
+    ensures given { Gave (C.given clock.old) (C.given clock.new) (result ∷ []) }
+{
+    match Moment::of(clock.now()) {
+        Some(moment) => moment,
+        None => unreachable!(),
+    }
+}
+
+// The reply to a line that isn't empty. The clock is asked after the line was read, and only where it asks something.
+fn reply_to<R: Threads + Sync, C: Clock>(
+    rt: &R,
+    alloc: Global,
+    office: &mut Office,
+    line: &[u8],
+    clock: &mut C,
+) -> Reply
+    ensures { AnswersLine office.old line.now (C.given clock.old) (C.given clock.new) result office.new }
+{
+    match line_request(alloc, line) {
+        Ok(Asked::Ask(request)) => office.answer(rt, &request, moment_of(clock)),
+        Ok(Asked::Refuse(refusal)) => Reply::Words(refusal),
+        Err(NoMemory) => Reply::Words(Refusal::NoMemory),
+    }
+}
+
+/// Answers a line, and puts its reply. An empty line asks nothing.
+pub fn answer_line<R: Threads + Sync, W: Sink, C: Clock>(
+    rt: &R,
+    alloc: Global,
+    office: &mut Office,
+    line: &[u8],
+    clock: &mut C,
+    outbox: &mut Outbox,
+    out: &mut W,
+) -> Result<(), SinkFault>
+    ensures answered { AnswersAndPuts office.old (line.now ∷ []) office.new (C.given clock.old) (C.given clock.new) (W.taken out.old) (W.taken out.new) outbox.old result outbox.new }
+    ensures count { W.faults out.old ≤ W.faults out.new }
+    ensures failed { IsErrOf result SinkFault.Failed → Rose (W.faults out.old) (W.faults out.new) }
+{
+    if line.is_empty() {
+        return Ok(());
+    }
+    let reply = reply_to(rt, alloc, office, line, clock);
+    put_reply(outbox, out, &reply)
+}
+
+// The line that has these bytes before its LF: one CR at their end belongs to the end of the line.
+fn line_of(part: &[u8]) -> &[u8]
+    ensures { result.now ≡ line_of part.now }
+{
+    match part {
+        [line @ .., b'\r'] => line,
+        _ => part,
+    }
+}
+
+/// Where the next line ends, if the first `seen` bytes have no line's end.
+pub fn next_end(rest: &[u8], seen: usize) -> Option<usize>
+    requires within { seen ≤ length rest.now }
+    requires seen { HasNoEnd (take seen rest.now) }
+    ensures found { IfSome result (λ end. Ends rest.now (take end rest.now) (drop (end + 1) rest.now)) }
+    ensures within { IfSome result (λ end. end < length rest.now) }
+    ensures none { IfNone result (HasNoEnd rest.now) }
+{
+    let (_, unseen) = rest.split_at(seen);
+    match memchr(b'\n', unseen) {
+        Some(at) => Some(seen + at),
+        None => None,
+    }
+}
+
+/// Answers each whole line of a block, of which the first `seen` bytes have no line's end, and says how many bytes
+/// these lines take.
+pub fn answer_lines<R: Threads + Sync, W: Sink, C: Clock>(
+    rt: &R,
+    alloc: Global,
+    office: &mut Office,
+    block: &[u8],
+    mut seen: usize,
+    clock: &mut C,
+    outbox: &mut Outbox,
+    out: &mut W,
+) -> Result<usize, SinkFault>
+    requires within { seen ≤ length block.now }
+    requires seen { HasNoEnd (take seen block.now) }
+    ensures answered { AnswersWhole office.old block.now office.new (C.given clock.old) (C.given clock.new) (W.taken out.old) (W.taken out.new) outbox.old result outbox.new }
+    ensures count { W.faults out.old ≤ W.faults out.new }
+    ensures failed { IsErrOf result SinkFault.Failed → Rose (W.faults out.old) (W.faults out.new) }
+{
+    let mut rest = block;
+    while let Some(end) = next_end(rest, seen) {
+        answer_line(rt, alloc, office, line_of(&rest[..end]), clock, outbox, out)?;
+        (_, rest) = rest.split_at(end + 1);
+        seen = 0;
+    }
+    Ok(block.len() - rest.len())
+}

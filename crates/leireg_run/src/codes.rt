@@ -1,0 +1,83 @@
+//! The commands over a single code. They take no memory.
+ghost use Rattle.std.specs.Prelude.{◌≡◌, ◌≤◌, [], Some, flat_map, IfOk, IsErrOf};
+ghost use Rattle.std.specs.Result.{result_err};
+ghost use Rattle.lei_code.specs.Digits.{digits};
+ghost use Rattle.lei_outside.specs.Count.{Rose};
+ghost use Rattle.lei_code.specs.Fault.{fault_of};
+ghost use Rattle.leireg_run.specs.Codes.{check_line, digits_fault, digits_line, line_or, IsWritten, TellsLine};
+ghost use Rattle.leireg_run.specs.Status.{end_status};
+
+use crate::status::Stop;
+use lei_code::{Lei, LeiFault, check_digits};
+use lei_outside::{Sink, SinkFault, write_all};
+
+/// Writes whether the text is a code, or why it is none.
+pub fn check<W: Sink>(text: &str, out: &mut W) -> Result<(), Stop>
+    ensures tells { TellsLine (fault_of text.now) (check_line text.now) (W.taken out.old) (W.taken out.new) (end_status result) }
+    ensures count { W.faults out.old ≤ W.faults out.new }
+    ensures failed { IsErrOf result Stop.WriteFault → Rose (W.faults out.old) (W.faults out.new) }
+{
+    match Lei::read(text.as_bytes()) {
+        Ok(_) => Ok(write_pieces(out, &[b"valid", b"\n"])?),
+        Err(fault) => refuse(fault, out),
+    }
+}
+
+/// Writes the check digits that make the text a code, or why there are none.
+pub fn digits<W: Sink>(text: &str, out: &mut W) -> Result<(), Stop>
+    ensures tells { TellsLine (digits_fault text.now) (digits_line text.now) (W.taken out.old) (W.taken out.new) (end_status result) }
+    ensures count { W.faults out.old ≤ W.faults out.new }
+    ensures failed { IsErrOf result Stop.WriteFault → Rose (W.faults out.old) (W.faults out.new) }
+{
+    match digits_of(text.as_bytes()) {
+        Ok(digits) => Ok(write_pieces(out, &[&digits, b"\n"])?),
+        Err(fault) => refuse(fault, out),
+    }
+}
+
+fn digits_of(text: &[u8]) -> Result<[u8; 2], LeiFault>
+    ensures value { IfOk result (λ made. made ≡ digits text.now) }
+    ensures fault { result_err result ≡ digits_fault text.now }
+{
+    match <&[u8; 18]>::try_from(text) {
+        Ok(front) => check_digits(front),
+        Err(_) => Err(LeiFault::Length),
+    }
+}
+
+// Writes the refusal of a text.
+fn refuse<W: Sink>(fault: LeiFault, out: &mut W) -> Result<(), Stop>
+    ensures tells { TellsLine (Some fault) (line_or [] (Some fault)) (W.taken out.old) (W.taken out.new) (end_status result) }
+    ensures count { W.faults out.old ≤ W.faults out.new }
+    ensures failed { IsErrOf result Stop.WriteFault → Rose (W.faults out.old) (W.faults out.new) }
+{
+    write_refusal(fault, out)?;
+    Err(Stop::Refused)
+}
+
+fn write_refusal<W: Sink>(fault: LeiFault, out: &mut W) -> Result<(), SinkFault>
+    ensures written { IsWritten (W.taken out.old) (W.taken out.new) (line_or [] (Some fault)) result }
+    ensures count { W.faults out.old ≤ W.faults out.new }
+    ensures failed { IsErrOf result SinkFault.Failed → Rose (W.faults out.old) (W.faults out.new) }
+{
+    match fault {
+        LeiFault::Length => write_pieces(out, &[b"refused LENGTH", b"\n"]),
+        LeiFault::Character(place) => {
+            let mut number = itoa::Buffer::new();
+            let number = number.format(place).as_bytes();
+            write_pieces(out, &[b"refused CHARACTER ", number, b"\n"])
+        }
+        LeiFault::CheckDigits => write_pieces(out, &[b"refused CHECK_DIGITS", b"\n"]),
+    }
+}
+
+fn write_pieces<W: Sink>(out: &mut W, pieces: &[&[u8]]) -> Result<(), SinkFault>
+    ensures written { IsWritten (W.taken out.old) (W.taken out.new) (flat_map (λ piece. piece.now) pieces.now) result }
+    ensures count { W.faults out.old ≤ W.faults out.new }
+    ensures failed { IsErrOf result SinkFault.Failed → Rose (W.faults out.old) (W.faults out.new) }
+{
+    for piece in pieces {
+        write_all(out, piece)?;
+    }
+    Ok(())
+}

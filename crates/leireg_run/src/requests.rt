@@ -1,0 +1,179 @@
+//! What a line asks.
+ghost use Rattle.std.specs.Prelude.{◌≡◌, None, Some, option_map, option_and_then, position, decimal, length, ◌==◌, ◌<◌, ◌↔◌, IfOk, IfSome, OnErr, IsTrue};
+ghost use Rattle.std.specs.Option.{option_copied};
+ghost use Rattle.leireg_run.specs.Requests.{cut, code_of, number_of, accreditation_of, show_of, upload_of, asked_by, asked, or_path, IsUpload};
+
+use lei_code::Lei;
+use lei_office::{Asked, Call, MAX_NUMBER, Refusal, Request};
+use lei_outside::{Bytes, NoMemory};
+use std::alloc::Global;
+
+/// The greatest length of a line, without its end, in bytes. This project's profile.
+pub const MAX_LINE: usize = 4_194_340;
+
+fn first_space(bytes: &[u8]) -> Option<usize>
+    ensures first { result ≡ position (λ byte. byte == 32) bytes.now }
+    ensures within { IfSome result (λ at. at < length bytes.now) }
+{
+    bytes.iter().position(|byte| *byte == b' ')
+}
+
+// The bytes before the first space and those behind it.
+fn cut(bytes: &[u8]) -> Option<(&[u8], &[u8])>
+    ensures { option_map (λ parts. (parts.0.now, parts.1.now)) result ≡ cut bytes.now }
+{
+    match first_space(bytes) {
+        Some(at) => Some((&bytes[..at], &bytes[at + 1..])),
+        None => None,
+    }
+}
+
+fn code_of(bytes: &[u8]) -> Option<Lei>
+    ensures { result ≡ code_of bytes.now }
+{
+    Lei::read(bytes).ok()
+}
+
+// The number from 1 to MAX_NUMBER that is written so, without sign or leading zero.
+fn number_of(bytes: &[u8]) -> Option<u32>
+    ensures { result ≡ number_of bytes.now }
+{
+    match str::from_utf8(bytes) {
+        Ok(text) => number_in(text),
+        Err(_) => None,
+    }
+}
+
+fn number_in(text: &str) -> Option<u32>
+    ensures { result ≡ number_of text.now }
+{
+    let Ok(number) = text.parse::<u32>() else {
+        return None;
+    };
+    if 1 <= number && number <= MAX_NUMBER && is_decimal(text, number) {
+        Some(number)
+    } else {
+        None
+    }
+}
+
+fn is_decimal(text: &str, number: u32) -> bool
+    ensures { IsTrue result ↔ (text.now ≡ decimal number) }
+{
+    itoa::Buffer::new().format(number) == text
+}
+
+#[tactic(auto, unfolding(crate::specs::Requests::upload_of))]
+fn upload_of(alloc: Global, rest: &[u8]) -> Result<Option<Request>, NoMemory>
+    ensures ok { IfOk result (λ request. request ≡ upload_of rest.now) }
+    ensures err { OnErr result (IsUpload (or_path (upload_of rest.now))) }
+{
+    let Some((office, rest)) = cut(rest) else {
+        return Ok(None);
+    };
+    let Some((number, body)) = cut(rest) else {
+        return Ok(None);
+    };
+    let (Some(office), Some(number)) = (code_of(office), number_of(number)) else {
+        return Ok(None);
+    };
+    Ok(Some(Request::Upload(Call {
+        office,
+        number,
+        body: Bytes::copy_of(alloc, body)?,
+    })))
+}
+
+fn accreditation_of(rest: &[u8]) -> Option<Request>
+    ensures { result ≡ accreditation_of rest.now }
+{
+    match code_of(rest) {
+        Some(office) => Some(Request::Accredit(office)),
+        None => None,
+    }
+}
+
+fn show_of(rest: &[u8]) -> Option<Request>
+    ensures { result ≡ show_of rest.now }
+{
+    match code_of(rest) {
+        Some(code) => Some(Request::Show(code)),
+        None => None,
+    }
+}
+
+// What is asked where there is such a request, and the refusal where there is none.
+fn or_path(request: Option<Request>) -> Asked
+    ensures { result ≡ or_path request }
+{
+    match request {
+        Some(request) => Asked::Ask(request),
+        None => Asked::Refuse(Refusal::Path),
+    }
+}
+
+/// What a line asks, without its end: a request, or the refusal that is its reply. Its one error is want of memory
+/// for the body of an upload.
+#[tactic(auto, unfolding(crate::specs::Requests::asked))]
+pub fn line_request(alloc: Global, line: &[u8]) -> Result<Asked, NoMemory>
+    ensures ok { IfOk result (λ found. found ≡ asked line.now) }
+    ensures err { OnErr result (IsUpload (asked line.now)) }
+{
+    if line.len() > MAX_LINE {
+        return Ok(Asked::Refuse(Refusal::TooLong));
+    }
+    match cut(line) {
+        Some((word, rest)) => asked_by(alloc, word, Some(rest)),
+        None => asked_by(alloc, line, None),
+    }
+}
+
+#[tactic(auto, unfolding(crate::specs::Requests::asked_by))]
+fn asked_by(alloc: Global, word: &[u8], rest: Option<&[u8]>) -> Result<Asked, NoMemory>
+    ensures ok { IfOk result (λ found. found ≡ asked_by word.now (option_copied rest.entry)) }
+    ensures err { OnErr result (IsUpload (asked_by word.now (option_copied rest.entry))) }
+{
+    if word == b"ACCREDIT".as_slice() {
+        return Ok(accreditation_asked(rest));
+    }
+    if word == b"UPLOAD".as_slice() {
+        return upload_asked(alloc, rest);
+    }
+    if word == b"SHOW".as_slice() {
+        return Ok(show_asked(rest));
+    }
+    Ok(Asked::Refuse(Refusal::NoRoute))
+}
+
+fn accreditation_asked(rest: Option<&[u8]>) -> Asked
+    ensures { result ≡ or_path (option_and_then accreditation_of (option_copied rest.entry)) }
+{
+    match rest {
+        Some(rest) => or_path(accreditation_of(rest)),
+        None => Asked::Refuse(Refusal::Path),
+    }
+}
+
+fn show_asked(rest: Option<&[u8]>) -> Asked
+    ensures { result ≡ or_path (option_and_then show_of (option_copied rest.entry)) }
+{
+    match rest {
+        Some(rest) => or_path(show_of(rest)),
+        None => Asked::Refuse(Refusal::Path),
+    }
+}
+
+fn upload_asked(alloc: Global, rest: Option<&[u8]>) -> Result<Asked, NoMemory>
+    ensures ok { IfOk result
+        (λ found. found ≡ or_path (option_and_then upload_of (option_copied rest.entry))) }
+    ensures err { OnErr result
+        (IsUpload (or_path (option_and_then upload_of (option_copied rest.entry)))) }
+{
+    match rest {
+        Some(rest) => Ok(or_path(upload_of(alloc, rest)?)),
+        None => Ok(Asked::Refuse(Refusal::Path)),
+    }
+}
+
+#[cfg(test)]
+mod tests;

@@ -1,0 +1,43 @@
+//! Replies as they are written.
+ghost use Rattle.std.specs.Prelude.{◌≤◌, ◌++◌, flat_map, IsErrOf};
+ghost use Rattle.lei_outside.specs.Count.{Rose};
+ghost use Rattle.leireg_run.specs.Outbox.{Puts};
+ghost use Rattle.leireg_run.specs.Replies.{reply_text};
+
+use crate::outbox::Outbox;
+use lei_office::Reply;
+use lei_outside::{Sink, SinkFault};
+
+/// Puts a reply: its code, a space, its text and the end of the line.
+#[tactic(auto, unfolding(crate::specs::Replies::reply_text))]
+pub fn put_reply<W: Sink>(outbox: &mut Outbox, out: &mut W, reply: &Reply) -> Result<(), SinkFault>
+    ensures puts { Puts (W.taken out.old) (W.taken out.new) (outbox.old ++ reply_text reply.now) result outbox.new }
+    ensures count { W.faults out.old ≤ W.faults out.new }
+    ensures failed { IsErrOf result SinkFault.Failed → Rose (W.faults out.old) (W.faults out.new) }
+{
+    let mut code = itoa::Buffer::new();
+    let code = code.format(reply.code()).as_bytes();
+    match reply {
+        Reply::Text { text, .. } => { put_all(outbox, out, &[code, b" ", text.as_slice(), b"\n"]) }
+        Reply::Words(refusal) => match refusal.number() {
+            None => put_all(outbox, out, &[code, b" ", refusal.name().as_bytes(), b"\n"]),
+            Some(number) => {
+                let mut digits = itoa::Buffer::new();
+                let digits = digits.format(number).as_bytes();
+                let name = refusal.name().as_bytes();
+                put_all(outbox, out, &[code, b" ", name, b" ", digits, b"\n"])
+            }
+        },
+    }
+}
+
+fn put_all<W: Sink>(outbox: &mut Outbox, out: &mut W, pieces: &[&[u8]]) -> Result<(), SinkFault>
+    ensures puts { Puts (W.taken out.old) (W.taken out.new) (outbox.old ++ flat_map (λ piece. piece.now) pieces.now) result outbox.new }
+    ensures count { W.faults out.old ≤ W.faults out.new }
+    ensures failed { IsErrOf result SinkFault.Failed → Rose (W.faults out.old) (W.faults out.new) }
+{
+    for piece in pieces {
+        outbox.put(out, piece)?;
+    }
+    Ok(())
+}
