@@ -9,7 +9,7 @@ mod streams;
 
 use clock::SystemClock;
 use help::help_text;
-use leireg_run::run::run;
+use leireg_run::run;
 use leireg_run::status::{NO_MEMORY, OK, USAGE, status_text};
 use std::process::ExitCode;
 use std::{env, io};

@@ -6,9 +6,11 @@ mod codes;
 mod command;
 pub mod laws;
 mod outbox;
+mod program;
 mod reader;
 pub mod requests;
-pub mod run;
 pub mod status;
 mod window;
 mod writing;
+
+pub use program::{MAX_INPUT, run};

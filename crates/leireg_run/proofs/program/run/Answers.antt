@@ -1,5 +1,5 @@
 use Rattle.leireg_run.proofs.Completing.{completes_meant}
-use Rattle.leireg_run.proofs.run.run.Goals as goal
+use Rattle.leireg_run.proofs.program.run.Goals as goal
 
 pub returns-in-Ok-clause-complete : goal.returns-in-Ok-clause-complete
 returns-in-Ok-clause-complete g c =

@@ -1,6 +1,6 @@
 use Rattle.std.proofs.Common.{◌≤◌, ◌-◌}
 use Rattle.leireg_run.proofs.Ending.{Midway}
-use Rattle.leireg_run.proofs.run.run_lines.Given as goal
+use Rattle.leireg_run.proofs.program.run_lines.Given as goal
 
 abbrev pub invariant-loop-reader : goal.invariant-loop-reader
 invariant-loop-reader g l =

@@ -2,7 +2,7 @@ use Rattle.std.proofs.Common.{◌<◌, ◌+◌, ℕ, length, sym, ap, subst, ari
 use Rattle.leireg_run.specs.Ends.{RunsLines}
 use Rattle.leireg_run.proofs.Ending.{begins, ends_at_once, ends_too_long, ends_well, fails_reading, flushed, reaches_end, stops_in, stops_last, stops_sending, stops_waiting, takes_in, unseen}
 use Rattle.leireg_run.proofs.Stopping.{memory_cause, read_status, sink_cause}
-use Rattle.leireg_run.proofs.run.run_lines.Goals as goal
+use Rattle.leireg_run.proofs.program.run_lines.Goals as goal
 
 pub returns-in_err-reader-clause-runs : goal.returns-in_err-reader-clause-runs
 returns-in_err-reader-clause-runs g c =
