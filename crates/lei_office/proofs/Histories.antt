@@ -24,7 +24,7 @@ use Rattle.lei_office.specs.declared.request.Request.TheVariants.{Accredit, Show
 use Rattle.lei_office.specs.declared.reply.Refusal.TheVariants.{TooLong}
 use Rattle.lei_office.specs.declared.reply.Reply.{Reply}
 use Rattle.lei_office.specs.declared.reply.Reply.TheVariants.{Words}
-use Rattle.lei_office.specs.History.{History, accredited, Place, unknown_office, repeat_of, taken, ahead, fresh, place, last_entry, later, stamp}
+use Rattle.lei_office.specs.History.{History, accredited, Place, unknown_issuer, repeat_of, number_taken, ahead, fresh, place, last_entry, later, stamp}
 use Rattle.lei_office.specs.Register.{after, after_entry, items_in}
 use Rattle.lei_office.specs.Replies.{stays, adds, outcome, outcome_at, show_outcome, accredit_outcome, upload_outcome, place_outcome, body_outcome, accreditation, upload_entry, taken_upload, history_after, next, Comes}
 use Rattle.lei_office.specs.Legal.{IsRequest, request_of, IsNext, LegalAfter, Legal}
@@ -79,9 +79,9 @@ body_adds office call moment (Ok raws) e is =
 body_adds office call moment (Err fault) e is = cc
 
 place_adds : (office : OfficeState) (call : Call) (moment : ℤ) (at : Place) (e : KeptEntry) → place_outcome office call moment at ≡ adds e → (at ≡ fresh) × IsAdded (Upload call) moment e
-place_adds office call moment unknown_office e is = cc
+place_adds office call moment unknown_issuer e is = cc
 place_adds office call moment (repeat_of answer) e is = cc
-place_adds office call moment taken e is = cc
+place_adds office call moment number_taken e is = cc
 place_adds office call moment (ahead next) e is = cc
 place_adds office call moment fresh e is = (refl, body_adds office call moment (upload call.body) e is)
 

@@ -13,7 +13,7 @@ use Rattle.lei_outside.specs.declared.entry.KeptEntry.{KeptEntry}
 use Rattle.lei_office.specs.declared.limits.Limits.{Limits}
 use Rattle.lei_office.specs.declared.request.Call.{Call}
 use Rattle.lei_office.specs.declared.request.Request.TheVariants.{Upload}
-use Rattle.lei_office.specs.History.{History, accredited, ahead, fresh, is_upload_of, last, later, place, place_of_taken, repeat_of, stamp, taken, unknown_office, upload_at, uploads}
+use Rattle.lei_office.specs.History.{History, accredited, ahead, fresh, is_upload_of, last, later, place, place_of_taken, repeat_of, stamp, number_taken, unknown_issuer, upload_at, uploads}
 use Rattle.lei_office.specs.Replies.{outcome}
 use Rattle.lei_office.specs.Legal.{IsNext, LegalAfter, Legal, MomentsNeverFall, UploadsAreNumbered, request_of}
 use Rattle.lei_office.specs.State.{OfficeState, office_of}
@@ -64,11 +64,11 @@ taken-is_taken : (body : List ℕ) (found : Option KeptEntry) → place_of_taken
 taken-is_taken body None is = cc
 taken-is_taken body (Some e) is = by_test (bytes_eq e.body body) is
   where
-    by_test : (b : Bool) → cond b (repeat_of e.answer) taken ≡ fresh → ⊥
+    by_test : (b : Bool) → cond b (repeat_of e.answer) number_taken ≡ fresh → ⊥
     by_test true is = cc
     by_test false is = cc
 
-fresh-tests : (known old early : Bool) (next : ℕ) (body : List ℕ) (found : Option KeptEntry) → cond known (cond old (place_of_taken body found) (cond early (ahead next) fresh)) unknown_office ≡ fresh
+fresh-tests : (known old early : Bool) (next : ℕ) (body : List ℕ) (found : Option KeptEntry) → cond known (cond old (place_of_taken body found) (cond early (ahead next) fresh)) unknown_issuer ≡ fresh
     → (old ≡ false) × (early ≡ false)
 fresh-tests false old early next body found is = cc
 fresh-tests true true early next body found is = absurd (taken-is_taken body found is)

@@ -20,13 +20,13 @@ pub exact : (asks : List Asked) (old new : OfficeState) (moments : List ℤ) (re
 exact [] old new moments [] session lacks = refl
 exact [] old new moments (answered ∷ replies) session lacks = absurd session
 exact (asked ∷ asks) old new moments [] session lacks = absurd session
-exact (Refuse refusal ∷ asks) old new moments (answered ∷ replies) (taken, rest, between, parts, step, others) lacks =
+exact (Refuse refusal ∷ asks) old new moments (answered ∷ replies) (given, rest, between, parts, step, others) lacks =
     let all : rest ≡ moments = sym (parts ∙ ap (λ (t : List ℤ). t ++ rest) step.0) in
     let told : replies ≡ replies_to old asks moments = exact asks between new rest replies others (rest-lacks (Words NoMemory) answered replies lacks) ∙ (ap (λ (h : OfficeState). replies_to h asks rest) step.2 ∙ ap (replies_to old asks) all) in
     ap (λ (r : Reply). r ∷ replies) step.1 ∙ ap (λ (l : List Reply). Words refusal ∷ l) told
-exact (Ask request ∷ asks) old new moments (answered ∷ replies) (taken, rest, between, parts, inl (m, is, inl step), others) lacks =
+exact (Ask request ∷ asks) old new moments (answered ∷ replies) (given, rest, between, parts, inl (m, is, inl step), others) lacks =
     let all : m ∷ rest ≡ moments = sym (parts ∙ ap (λ (t : List ℤ). t ++ rest) is) in
     let told : replies ≡ replies_to (next old request m) asks rest = exact asks between new rest replies others (rest-lacks (Words NoMemory) answered replies lacks) ∙ ap (λ (h : OfficeState). replies_to h asks rest) step.1 in
     ap (λ (r : Reply). r ∷ replies) step.0 ∙ (ap (λ (l : List Reply). reply old request m ∷ l) told ∙ ap (replies_to old (Ask request ∷ asks)) all)
-exact (Ask request ∷ asks) old new moments (answered ∷ replies) (taken, rest, between, parts, inl (m, is, inr wanting), others) lacks = absurd (first-is_other (Words NoMemory) answered replies lacks wanting.0)
-exact (Ask request ∷ asks) old new moments (answered ∷ replies) (taken, rest, between, parts, inr wanting, others) lacks = absurd (first-is_other (Words NoMemory) answered replies lacks wanting.1)
+exact (Ask request ∷ asks) old new moments (answered ∷ replies) (given, rest, between, parts, inl (m, is, inr wanting), others) lacks = absurd (first-is_other (Words NoMemory) answered replies lacks wanting.0)
+exact (Ask request ∷ asks) old new moments (answered ∷ replies) (given, rest, between, parts, inr wanting, others) lacks = absurd (first-is_other (Words NoMemory) answered replies lacks wanting.2)

@@ -1,11 +1,12 @@
 -- A history is the list of what was taken, in order. Who is accredited, which upload is which, and what was
--- answered to it are filters of that list. The moments of its entries never fall.
+-- answered to it are filters of that list. The moments of its entries never fall. This project's profile.
 use Rattle.std.specs.Prelude.{ℕ, ◌-◌, ◌+◌, ℤ, List, length, Bool, ◌&&◌, ◌==◌, nat_lt, nat_le, if◌then◌else◌, filter, find, slice_get, Option, Some, None, option_map, is_some}
 use Rattle.std.specs.Int.{int_max}
 use Rattle.std.specs.Str.{bytes_eq}
+use Rattle.lei_code.specs.Texts.{Body, Lei, Text}
 use Rattle.lei_outside.specs.declared.entry.KeptEntry.{KeptEntry}
-use Rattle.lei_office.specs.declared.ledger.TheConstants.{ACCREDIT, UPLOAD}
 
+-- the entries that were taken, in order
 abbrev pub History : Type 0
 History = List KeptEntry
 
@@ -22,50 +23,66 @@ later (Some e) moment = int_max e.moment moment
 abbrev pub stamp : History → ℤ → ℤ
 stamp history moment = later (last_entry history) moment
 
-abbrev pub is_accreditation_of : List ℕ → KeptEntry → Bool
-is_accreditation_of office e = (e.kind == ACCREDIT) && bytes_eq e.office office
+-- ---- what an entry is
 
-abbrev pub is_upload_of : List ℕ → KeptEntry → Bool
-is_upload_of office e = (e.kind == UPLOAD) && bytes_eq e.office office
+-- an entry of kind 1 accredits its issuer
+abbrev pub is_accreditation : KeptEntry → Bool
+is_accreditation e = e.kind == 1
 
--- what was answered when the office was accredited
-abbrev pub accredited : History → List ℕ → Option (List ℕ)
-accredited history office = option_map (λ e. e.answer) (find (is_accreditation_of office) history)
+-- an entry of kind 2 takes an upload of its issuer
+abbrev pub is_upload : KeptEntry → Bool
+is_upload e = e.kind == 2
 
--- the office's uploads, in order
-abbrev pub uploads : History → List ℕ → History
-uploads history office = filter (is_upload_of office) history
+-- the entry accredits this issuer
+abbrev pub is_accreditation_of : Lei → KeptEntry → Bool
+is_accreditation_of issuer e = is_accreditation e && bytes_eq e.office issuer
 
--- the number of the office's last upload, 0 for none
-abbrev pub last : History → List ℕ → ℕ
-last history office = length (uploads history office)
+-- the entry takes an upload of this issuer
+abbrev pub is_upload_of : Lei → KeptEntry → Bool
+is_upload_of issuer e = is_upload e && bytes_eq e.office issuer
 
--- the office's upload of this number, counted from 1
-abbrev pub upload_at : History → List ℕ → ℕ → Option KeptEntry
-upload_at history office number = if number == 0 then None else slice_get (uploads history office) (number - 1)
+-- ---- what a history has of an issuer
 
--- what was answered to the office's upload of this number
-abbrev pub kept : History → List ℕ → ℕ → Option (List ℕ)
-kept history office number = option_map (λ e. e.answer) (upload_at history office number)
+-- what was answered when the issuer was accredited
+abbrev pub accredited : History → Lei → Option Text
+accredited history issuer = option_map (λ e. e.answer) (find (is_accreditation_of issuer) history)
 
--- where an upload falls among those of its office
+-- the issuer's uploads, in order
+abbrev pub uploads : History → Lei → History
+uploads history issuer = filter (is_upload_of issuer) history
+
+-- the number of the issuer's last upload, 0 for none
+abbrev pub last : History → Lei → ℕ
+last history issuer = length (uploads history issuer)
+
+-- the issuer's upload of this number, counted from 1
+abbrev pub upload_at : History → Lei → ℕ → Option KeptEntry
+upload_at history issuer number = if number == 0 then None else slice_get (uploads history issuer) (number - 1)
+
+-- what was answered to the issuer's upload of this number
+abbrev pub kept : History → Lei → ℕ → Option Text
+kept history issuer number = option_map (λ e. e.answer) (upload_at history issuer number)
+
+-- ---- where an upload falls
+
+-- where an upload falls among those of its issuer
 pub data Place : Type 0 where
-  unknown_office : Place
-  repeat_of : List ℕ → Place
-  taken : Place
+  unknown_issuer : Place
+  repeat_of : Text → Place
+  number_taken : Place
   ahead : ℕ → Place
   fresh : Place
 
--- the same number was taken: its answer where it had this body
-abbrev pub place_of_taken : List ℕ → Option KeptEntry → Place
-place_of_taken body None = taken
-place_of_taken body (Some e) = if bytes_eq e.body body then repeat_of e.answer else taken
+-- the number belongs to an upload that was taken: a repeat of it where it had this body
+abbrev pub place_of_taken : Body → Option KeptEntry → Place
+place_of_taken body None = number_taken
+place_of_taken body (Some e) = if bytes_eq e.body body then repeat_of e.answer else number_taken
 
--- The first of these: the office isn't accredited; the number was taken, with this body or another; it isn't the
+-- The first of these: the issuer isn't accredited; the number was taken, with this body or another; it isn't the
 -- next one; it is.
-abbrev pub place : History → List ℕ → ℕ → List ℕ → Place
-place history office number body =
-    if is_some (accredited history office) then
-    (if nat_le number (last history office) then place_of_taken body (upload_at history office number)
-    else (if nat_lt (last history office + 1) number then ahead (last history office + 1) else fresh))
-    else unknown_office
+abbrev pub place : History → Lei → ℕ → Body → Place
+place history issuer number body =
+    if is_some (accredited history issuer) then
+    (if nat_le number (last history issuer) then place_of_taken body (upload_at history issuer number)
+    else (if nat_lt (last history issuer + 1) number then ahead (last history issuer + 1) else fresh))
+    else unknown_issuer

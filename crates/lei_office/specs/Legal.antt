@@ -1,9 +1,9 @@
 -- Which histories can come about, and runs of requests over them.
-use Rattle.std.specs.Prelude.{◌≡◌, ◌⊎◌, ◌≤◌, ℕ, ℤ, ◌≤ℤ◌, List, [], ◌∷◌, ◌++◌, ◌==◌, if◌then◌else◌, Option, Some, None}
+use Rattle.std.specs.Prelude.{◌≡◌, ◌⊎◌, ℕ, ℤ, ◌≤ℤ◌, List, [], ◌∷◌, ◌++◌, if◌then◌else◌, Option, Some, None}
 use Rattle.lei_code.specs.Code.{IsValid}
+use Rattle.lei_code.specs.Texts.{Lei}
 use Rattle.lei_shapes.specs.Moment.{IsMoment}
 use Rattle.lei_outside.specs.declared.entry.KeptEntry.{KeptEntry}
-use Rattle.lei_office.specs.declared.ledger.TheConstants.{ACCREDIT, UPLOAD}
 use Rattle.lei_office.specs.declared.request.Asked.{Asked}
 use Rattle.lei_office.specs.declared.request.Asked.TheVariants.{Ask, Refuse}
 use Rattle.lei_office.specs.declared.request.Request.{Request}
@@ -12,37 +12,38 @@ use Rattle.lei_office.specs.declared.reply.Refusal.TheVariants.{NoMemory}
 use Rattle.lei_office.specs.declared.reply.Reply.{Reply}
 use Rattle.lei_office.specs.declared.reply.Reply.TheVariants.{Words}
 use Rattle.lei_office.specs.declared.limits.Limits.{Limits}
-use Rattle.lei_office.specs.History.{History, upload_at}
+use Rattle.lei_office.specs.History.{History, is_accreditation, is_upload, upload_at}
+use Rattle.lei_office.specs.Limits.{IsFrom1To, number_limit}
 use Rattle.lei_office.specs.State.{OfficeState, office_of}
 use Rattle.lei_office.specs.Replies.{adds, next, outcome, reply, Step}
 
--- the number of an upload lies from 1 to 1,000,000
+-- the number of an upload lies from 1 to its limit
 abbrev pub IsUploadNumber : ℕ → Type 0
-IsUploadNumber number = (1 ≤ number) × (number ≤ 1_000_000)
+IsUploadNumber number = IsFrom1To number_limit number
 
+-- where a request has a number, it lies in its range
 abbrev pub IsNumbered : Request → Type 0
-IsNumbered (Accredit office) = Unit {0}
+IsNumbered (Accredit issuer) = Unit {0}
 IsNumbered (Upload call) = IsUploadNumber call.number
 IsNumbered (Show lei) = Unit {0}
 
--- whom the request names: the office that sends it, or the entity that it asks for
-abbrev pub code_of : Request → List ℕ
-code_of (Accredit office) = office
-code_of (Upload call) = call.office
-code_of (Show lei) = lei
-
--- a request as readers make it: whom it names is a code, and its number lies in its range
+-- a request as readers make it: each LEI that it names is one, and its number lies in its range
 abbrev pub IsRequest : Request → Type 0
-IsRequest request = IsValid (code_of request) × IsNumbered request
+IsRequest (Accredit issuer) = IsValid issuer
+IsRequest (Upload call) = IsValid call.office × IsUploadNumber call.number
+IsRequest (Show lei) = IsValid lei
 
 -- the request that an entry was taken for
 abbrev pub request_of : KeptEntry → Option Request
-request_of e = if e.kind == ACCREDIT then Some (Accredit e.office)
-    else (if e.kind == UPLOAD then Some (Upload (record { office = e.office; number = e.number; body = e.body })) else None)
+request_of e =
+    if is_accreditation e then Some (Accredit e.office)
+    else (if is_upload e then Some (Upload (record { office = e.office; number = e.number; body = e.body })) else None)
 
 -- the entry is what its own request adds to the office before it, at its own moment
 abbrev pub IsNext : OfficeState → KeptEntry → Type 0
-IsNext before e = (request : Request) × (request_of e ≡ Some request) × IsRequest request × IsMoment e.moment × (outcome before request e.moment ≡ adds e)
+IsNext before e =
+    (request : Request) × (request_of e ≡ Some request) × IsRequest request × IsMoment e.moment
+    × (outcome before request e.moment ≡ adds e)
 
 -- each entry of the rest is next after those before it
 abbrev pub LegalAfter : Limits → History → History → Type 0
@@ -55,20 +56,30 @@ Legal office = LegalAfter office.limits [] office.history
 
 -- the moment of no entry is later than that of the next one
 abbrev pub MomentsNeverFall : History → Type 0
-MomentsNeverFall history = (before after : History) (first second : KeptEntry) → history ≡ before ++ first ∷ second ∷ after → first.moment ≤ℤ second.moment
+MomentsNeverFall history =
+    (before after : History) (first second : KeptEntry) → history ≡ before ++ first ∷ second ∷ after
+    → first.moment ≤ℤ second.moment
 
--- each office's uploads are numbered 1, 2, 3 and so on
+-- each issuer's uploads are numbered 1, 2, 3 and so on
 abbrev pub UploadsAreNumbered : History → Type 0
-UploadsAreNumbered history = (office : List ℕ) (place : ℕ) (e : KeptEntry) → upload_at history office place ≡ Some e → e.number ≡ place
+UploadsAreNumbered history =
+    (issuer : Lei) (number : ℕ) (e : KeptEntry) → upload_at history issuer number ≡ Some e → e.number ≡ number
 
 -- ---- runs
 
--- A refusal of the reader is its own reply, and takes no moment. A request takes one, and makes a step; or want of
--- memory is answered in place of one that couldn't be read for it, which takes none.
+-- reading this request takes memory: an upload's, whose body is kept
+abbrev pub TakesMemoryToRead : Request → Type 0
+TakesMemoryToRead (Accredit issuer) = ⊥
+TakesMemoryToRead (Upload call) = Unit {0}
+TakesMemoryToRead (Show lei) = ⊥
+
+-- A refusal of the reader is its own reply, and takes no moment. A request takes one, and makes a step. Where there
+-- was no memory to read an upload, that is answered in place of its step: no moment is taken, and nothing changes.
 abbrev pub AskStep : OfficeState → Asked → List ℤ → Reply → OfficeState → Type 0
 AskStep old (Refuse refusal) moments answered new = (moments ≡ []) × (answered ≡ Words refusal) × (new ≡ old)
 AskStep old (Ask request) moments answered new =
-    ((m : ℤ) × (moments ≡ m ∷ []) × Step old request m answered new) ⊎ ((moments ≡ []) × (answered ≡ Words NoMemory) × (new ≡ old))
+    ((m : ℤ) × (moments ≡ m ∷ []) × Step old request m answered new)
+    ⊎ (TakesMemoryToRead request × (moments ≡ []) × (answered ≡ Words NoMemory) × (new ≡ old))
 
 -- these replies answer what was asked, in order, at these moments, from one office to the other
 abbrev pub Session : OfficeState → List Asked → List ℤ → List Reply → OfficeState → Type 0
@@ -76,7 +87,8 @@ Session old [] moments [] new = (moments ≡ []) × (new ≡ old)
 Session old [] moments (answered ∷ replies) new = ⊥
 Session old (asked ∷ asks) moments [] new = ⊥
 Session old (asked ∷ asks) moments (answered ∷ replies) new =
-    (taken : List ℤ) × (rest : List ℤ) × (between : OfficeState) × (moments ≡ taken ++ rest) × AskStep old asked taken answered between × Session between asks rest replies new
+    (given : List ℤ) × (rest : List ℤ) × (between : OfficeState) × (moments ≡ given ++ rest)
+    × AskStep old asked given answered between × Session between asks rest replies new
 
 -- The replies where memory is never wanting. Where the moments run out, nothing more is answered.
 abbrev pub replies_to : OfficeState → List Asked → List ℤ → List Reply

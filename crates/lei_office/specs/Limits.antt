@@ -2,9 +2,29 @@
 use Rattle.std.specs.Prelude.{ℕ, ◌≤◌}
 use Rattle.lei_office.specs.declared.limits.Limits.{Limits}
 
--- the standard limits: a body of 4 MiB, bodies of 2 GiB together, 10,000,000 entries, and 500,000 records
+-- an upload's body has at most 4,194,304 bytes (4 MiB)
+abbrev pub body_limit : ℕ
+body_limit = 4_194_304
+
+-- the bodies that are kept have at most 2,147,483,648 bytes together (2 GiB)
+abbrev pub kept_limit : ℕ
+kept_limit = 2_147_483_648
+
+-- a history has at most 10,000,000 entries
+abbrev pub entry_limit : ℕ
+entry_limit = 10_000_000
+
+-- at most 500,000 records are held
+abbrev pub record_limit : ℕ
+record_limit = 500_000
+
+-- an upload has a number of at most 1,000,000
+abbrev pub number_limit : ℕ
+number_limit = 1_000_000
+
+-- the standard limits
 abbrev pub standard : Limits
-standard = record { body = 4_194_304; kept = 2_147_483_648; entries = 10_000_000; records = 500_000 }
+standard = record { body = body_limit; kept = kept_limit; entries = entry_limit; records = record_limit }
 
 -- at least 1, and at most so many
 abbrev pub IsFrom1To : ℕ → ℕ → Type 0
@@ -12,4 +32,6 @@ IsFrom1To most number = (1 ≤ number) × (number ≤ most)
 
 -- each is at least 1 and at most its standard number
 abbrev pub AreLimits : Limits → Type 0
-AreLimits limits = IsFrom1To 4_194_304 limits.body × IsFrom1To 2_147_483_648 limits.kept × IsFrom1To 10_000_000 limits.entries × IsFrom1To 500_000 limits.records
+AreLimits limits =
+    IsFrom1To body_limit limits.body × IsFrom1To kept_limit limits.kept × IsFrom1To entry_limit limits.entries
+    × IsFrom1To record_limit limits.records

@@ -4,9 +4,10 @@ use Rattle.lei_office.specs.declared.ledger.Place.{Place}
 use Rattle.lei_office.specs.declared.ledger.Place.TheVariants as code
 use Rattle.lei_office.specs.History as history
 
+-- the code's place is this place
 abbrev pub IsPlace : Place → history.Place → Type 0
-IsPlace code.UnknownOffice place = place ≡ history.unknown_office
+IsPlace code.UnknownOffice place = place ≡ history.unknown_issuer
 IsPlace (code.Repeat answer) place = place ≡ history.repeat_of answer.now
-IsPlace code.Taken place = place ≡ history.taken
+IsPlace code.Taken place = place ≡ history.number_taken
 IsPlace (code.Ahead next) place = place ≡ history.ahead next
 IsPlace code.Fresh place = place ≡ history.fresh

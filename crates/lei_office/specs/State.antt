@@ -3,6 +3,7 @@ use Rattle.std.specs.Prelude.{[]}
 use Rattle.lei_office.specs.declared.limits.Limits.{Limits}
 use Rattle.lei_office.specs.History.{History}
 
+-- the state of an office
 pub record OfficeState : Type 0 where
   pub limits : Limits
   pub history : History

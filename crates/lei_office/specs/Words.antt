@@ -1,31 +1,35 @@
--- The codes and the words of refusals. This project's profile.
-use Rattle.std.specs.Prelude.{ℕ, List, [], ◌∷◌, ◌++◌, codes, decimal, Option, Some, None}
+-- The status codes and the words of refusals. This project's profile.
+use Rattle.std.specs.Prelude.{ℕ, [], ◌∷◌, ◌++◌, codes, decimal, Option, Some, None}
+use Rattle.lei_code.specs.Texts.{Text}
 use Rattle.upload_format.specs.declared.fault.Malformed.{Malformed}
 use Rattle.upload_format.specs.declared.fault.Malformed.TheVariants.{NotJson, NotAnUpload, NoItems, TooManyItems}
 use Rattle.lei_office.specs.declared.reply.Refusal.{Refusal}
 use Rattle.lei_office.specs.declared.reply.Refusal.TheVariants.{TooLong, NoRoute, Path, IssuerUnknown, NumberTaken, NumberAhead, LeiUnknown, NoMemory}
 use Rattle.lei_office.specs.declared.reply.Refusal.TheVariants as refusals
 use Rattle.lei_office.specs.declared.reply.Reply.{Reply}
-use Rattle.lei_office.specs.declared.reply.Reply.TheVariants.{Text, Words}
+use Rattle.lei_office.specs.declared.reply.Reply.TheVariants as replies
 
-abbrev pub refusal_code : Refusal → ℕ
-refusal_code TooLong = 413
-refusal_code NoRoute = 404
-refusal_code Path = 400
-refusal_code IssuerUnknown = 404
-refusal_code NumberTaken = 409
-refusal_code (NumberAhead k) = 409
-refusal_code (refusals.Malformed fault) = 400
-refusal_code LeiUnknown = 404
-refusal_code NoMemory = 500
+-- the status code of a refusal, after those of HTTP (RFC 9110)
+abbrev pub refusal_status_code : Refusal → ℕ
+refusal_status_code TooLong = 413
+refusal_status_code NoRoute = 404
+refusal_status_code Path = 400
+refusal_status_code IssuerUnknown = 404
+refusal_status_code NumberTaken = 409
+refusal_status_code (NumberAhead k) = 409
+refusal_status_code (refusals.Malformed fault) = 400
+refusal_status_code LeiUnknown = 404
+refusal_status_code NoMemory = 500
 
-abbrev pub malformed_name : Malformed → List ℕ
+-- how a body that is no upload is told
+abbrev pub malformed_name : Malformed → Text
 malformed_name NotJson = codes "MALFORMED NOT_JSON"
 malformed_name NotAnUpload = codes "MALFORMED NOT_AN_UPLOAD"
 malformed_name NoItems = codes "MALFORMED NO_ITEMS"
 malformed_name TooManyItems = codes "MALFORMED TOO_MANY_ITEMS"
 
-abbrev pub refusal_name : Refusal → List ℕ
+-- the name that a refusal is told by
+abbrev pub refusal_name : Refusal → Text
 refusal_name TooLong = codes "TOO_LONG"
 refusal_name NoRoute = codes "NO_ROUTE"
 refusal_name Path = codes "PATH"
@@ -49,20 +53,22 @@ refusal_number LeiUnknown = None
 refusal_number NoMemory = None
 
 -- a space and the number
-abbrev pub behind : Option ℕ → List ℕ
+abbrev pub behind : Option ℕ → Text
 behind None = []
 behind (Some k) = 32 ∷ decimal k
 
 -- a refusal in words
-abbrev pub refusal_words : Refusal → List ℕ
+abbrev pub refusal_words : Refusal → Text
 refusal_words refusal = refusal_name refusal ++ behind (refusal_number refusal)
 
 -- ---- replies
 
-abbrev pub reply_code : Reply → ℕ
-reply_code (Text code kind text) = code
-reply_code (Words refusal) = refusal_code refusal
+-- the status code of a reply
+abbrev pub reply_status_code : Reply → ℕ
+reply_status_code (replies.Text code kind text) = code
+reply_status_code (replies.Words refusal) = refusal_status_code refusal
 
-abbrev pub reply_words : Reply → List ℕ
-reply_words (Text code kind text) = text
-reply_words (Words refusal) = refusal_words refusal
+-- what is told in a reply: its text, or the refusal in words
+abbrev pub reply_words : Reply → Text
+reply_words (replies.Text code kind text) = text
+reply_words (replies.Words refusal) = refusal_words refusal

@@ -14,24 +14,24 @@ use register_judge::{JudgeStop, Outcome, judge_all};
 use register_table::Table;
 use std::alloc::Global;
 
-// Judges the items of an office's upload on the table, on the day of the moment, where the table may hold so many
+// Judges the items of an issuer's upload on the table, on the day of the moment, where the table may hold so many
 // records.
 pub fn judge(
     alloc: Global,
     table: &Table,
     records: u32,
-    office: &Lei,
+    issuer: &Lei,
     moment: i64,
     raws: &[RawItem],
 ) -> Result<Outcome, NoMemory>
     requires count { length raws.now ≤ 5000 }
     requires moment { IsMoment moment }
     requires fits { record_count table.now ≤ records }
-    ensures { IfOk result (λ outcome. ShowsTaken outcome (take table.now records (day_of moment) office.now (map ready_of raws.now))) }
+    ensures { IfOk result (λ outcome. ShowsTaken outcome (take table.now records (day_of moment) issuer.now (map ready_of raws.now))) }
 {
     let items = ready_all(alloc, raws)?;
     let room = records.saturating_sub(table.held());
-    match judge_all(alloc, table, room, office, day(moment), items.as_slice()) {
+    match judge_all(alloc, table, room, issuer, day(moment), items.as_slice()) {
         Ok(outcome) => Ok(outcome),
         Err(JudgeStop::NoMemory) => Err(NoMemory),
         Err(JudgeStop::NeedCell(_)) => unreachable!(),

@@ -8,7 +8,7 @@ ghost use Rattle.lei_office.specs.declared.reply.Reply.{Reply};
 ghost use Rattle.lei_office.specs.declared.reply.Reply.TheVariants.{Words};
 ghost use Rattle.lei_office.specs.declared.request.Asked.{Asked};
 ghost use Rattle.lei_office.specs.Legal.{Legal, MomentsNeverFall, Session, UploadsAreNumbered, replies_to};
-ghost use Rattle.lei_office.specs.Parties.{ChangesArePermitted};
+ghost use Rattle.lei_office.specs.Parties.{ChangesArePermitted, ChangesMakeRecords};
 ghost use Rattle.lei_office.specs.Register.{after};
 ghost use Rattle.lei_office.specs.State.{OfficeState};
 
@@ -17,7 +17,7 @@ pub fn moments_never_fall()
     ensures { (office : OfficeState) → Legal office → MomentsNeverFall office.history }
 {}
 
-/// In a history that can come about each office's uploads have the numbers 1, 2, 3 and so on.
+/// In a history that can come about each issuer's uploads have the numbers 1, 2, 3 and so on.
 pub fn uploads_are_numbered()
     ensures { (office : OfficeState) → Legal office → UploadsAreNumbered office.history }
 {}
@@ -44,9 +44,14 @@ pub fn exceptions_stand_apart()
     ensures { (office : OfficeState) → Legal office → AreApart (after office.limits office.history) }
 {}
 
-/// In a history that can come about each change of a record was permitted to the office that sent it.
+/// In a history that can come about each change of a record was permitted to the issuer that sent it.
 pub fn changes_are_permitted()
     ensures { (office : OfficeState) → Legal office → ChangesArePermitted office }
+{}
+
+/// The records of a register are what the changes of its history make.
+pub fn changes_make_records()
+    ensures { (office : OfficeState) → ChangesMakeRecords office }
 {}
 
 /// Where want of memory is never answered, the replies are those that the requests and their moments determine.

@@ -6,7 +6,7 @@ ghost use Rattle.lei_office.specs.Places.{IsPlace};
 use lei_outside::KeptEntry;
 use lei_shapes::Moment;
 
-/// The kind of an entry that accredits an office.
+/// The kind of an entry that accredits an issuer.
 pub const ACCREDIT: u8 = 1;
 
 /// The kind of an entry that takes an upload.
@@ -15,25 +15,25 @@ pub const UPLOAD: u8 = 2;
 /// The rules that uploads are judged by.
 pub const RULES: u16 = 1;
 
-fn is_accreditation_of(entry: &KeptEntry, office: &[u8]) -> bool
-    ensures { result ≡ is_accreditation_of office.now entry.now }
+fn is_accreditation_of(entry: &KeptEntry, issuer: &[u8]) -> bool
+    ensures { result ≡ is_accreditation_of issuer.now entry.now }
 {
-    entry.kind == ACCREDIT && entry.office.as_slice() == office
+    entry.kind == ACCREDIT && entry.office.as_slice() == issuer
 }
 
-fn is_upload_of(entry: &KeptEntry, office: &[u8]) -> bool
-    ensures { result ≡ is_upload_of office.now entry.now }
+fn is_upload_of(entry: &KeptEntry, issuer: &[u8]) -> bool
+    ensures { result ≡ is_upload_of issuer.now entry.now }
 {
-    entry.kind == UPLOAD && entry.office.as_slice() == office
+    entry.kind == UPLOAD && entry.office.as_slice() == issuer
 }
 
-// What was answered when the office was accredited.
-pub fn accredited<'a>(entries: &'a [KeptEntry], office: &[u8]) -> Option<&'a [u8]>
-    ensures { option_map (λ text. text.now) result ≡ accredited entries.now office.now }
+// What was answered when the issuer was accredited.
+pub fn accredited<'a>(entries: &'a [KeptEntry], issuer: &[u8]) -> Option<&'a [u8]>
+    ensures { option_map (λ text. text.now) result ≡ accredited entries.now issuer.now }
 {
     let entry = entries
         .iter()
-        .find(|entry| is_accreditation_of(entry, office))?;
+        .find(|entry| is_accreditation_of(entry, issuer))?;
     Some(entry.answer.as_slice())
 }
 
@@ -49,35 +49,35 @@ pub fn stamp(entries: &[KeptEntry], moment: Moment) -> i64
     }
 }
 
-// The number of the office's last upload, 0 for none.
-pub fn last(entries: &[KeptEntry], office: &[u8]) -> usize
-    ensures last { result ≡ last entries.now office.now }
+// The number of the issuer's last upload, 0 for none.
+pub fn last(entries: &[KeptEntry], issuer: &[u8]) -> usize
+    ensures last { result ≡ last entries.now issuer.now }
     ensures within { result ≤ length entries.now }
 {
     entries
         .iter()
-        .filter(|entry| is_upload_of(entry, office))
+        .filter(|entry| is_upload_of(entry, issuer))
         .count()
 }
 
-// The office's upload of this number, counted from 1.
+// The issuer's upload of this number, counted from 1.
 pub fn upload_at<'a>(
     entries: &'a [KeptEntry],
-    office: &[u8],
+    issuer: &[u8],
     number: usize,
 ) -> Option<&'a KeptEntry>
-    ensures { option_map (λ entry. entry.now) result ≡ upload_at entries.now office.now number }
+    ensures { option_map (λ entry. entry.now) result ≡ upload_at entries.now issuer.now number }
 {
     if number == 0 {
         return None;
     }
     entries
         .iter()
-        .filter(|entry| is_upload_of(entry, office))
+        .filter(|entry| is_upload_of(entry, issuer))
         .nth(number - 1)
 }
 
-/// Where an upload falls among those of its office.
+/// Where an upload falls among those of its issuer.
 #[derive(Clone, Copy, Debug, PartialEq, Eq)]
 pub enum Place<'a> {
     UnknownOffice,
@@ -91,16 +91,16 @@ pub enum Place<'a> {
 }
 
 /// Where the upload falls: the first that is so.
-pub fn place_of<'a>(entries: &'a [KeptEntry], office: &[u8], number: u32, body: &[u8]) -> Place<'a>
-    ensures { IsPlace result (place entries.now office.now number body.now) }
+pub fn place_of<'a>(entries: &'a [KeptEntry], issuer: &[u8], number: u32, body: &[u8]) -> Place<'a>
+    ensures { IsPlace result (place entries.now issuer.now number body.now) }
 {
-    if accredited(entries, office).is_none() {
+    if accredited(entries, issuer).is_none() {
         return Place::UnknownOffice;
     }
-    let last = last(entries, office);
+    let last = last(entries, issuer);
     let number = number as usize;
     if number <= last {
-        return match upload_at(entries, office, number) {
+        return match upload_at(entries, issuer, number) {
             Some(entry) if entry.body.as_slice() == body => Place::Repeat(entry.answer.as_slice()),
             _ => Place::Taken,
         };

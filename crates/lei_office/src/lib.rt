@@ -13,8 +13,9 @@ mod show;
 mod texts;
 
 pub use laws::{
-    changes_are_permitted, exceptions_stand_apart, moments_never_fall, parents_are_chained,
-    registers_are_sound, sessions_are_exact, successors_are_chained, uploads_are_numbered,
+    changes_are_permitted, changes_make_records, exceptions_stand_apart, moments_never_fall,
+    parents_are_chained, registers_are_sound, sessions_are_exact, successors_are_chained,
+    uploads_are_numbered,
 };
 pub use ledger::{ACCREDIT, RULES, UPLOAD};
 pub use limits::Limits;

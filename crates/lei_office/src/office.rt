@@ -124,7 +124,7 @@ fn reply_to(
     ensures request { IsRequest request.now }
 {
     match request {
-        Request::Accredit(office) => accredit(alloc, entries, office, moment),
+        Request::Accredit(issuer) => accredit(alloc, entries, issuer, moment),
         Request::Upload(call) => upload(alloc, limits, entries, table, call, moment),
         Request::Show(lei) => show(alloc, table, lei),
     }
@@ -147,12 +147,12 @@ fn json_reply(text: Bytes) -> Reply
     }
 }
 
-// Shows the record of this code, and changes nothing.
+// Shows the record of this LEI, and changes nothing.
 fn show(alloc: Global, table: &Table, lei: &Lei) -> Result<Reply, NoMemory>
     ensures step { (history : History) → Comes (show_outcome (row_at table.now lei.now)) history result history }
-    ensures code { IsValid lei.now }
+    ensures lei { IsValid lei.now }
 {
-    // What is asked for is a code.
+    // What is asked for is an LEI.
     let _ = lei.as_bytes();
     match table.show(lei) {
         Some(record) => Ok(json_reply(record_text(alloc, record)?)),
@@ -163,17 +163,17 @@ fn show(alloc: Global, table: &Table, lei: &Lei) -> Result<Reply, NoMemory>
 fn accredit(
     alloc: Global,
     entries: &mut Vec<KeptEntry>,
-    office: &Lei,
+    issuer: &Lei,
     moment: i64,
 ) -> Result<Reply, NoMemory>
-    ensures step { Comes (accredit_outcome entries.old.items office.now moment (accredited entries.old.items office.now))
+    ensures step { Comes (accredit_outcome entries.old.items issuer.now moment (accredited entries.old.items issuer.now))
         entries.old.items result entries.new.items }
-    ensures code { IsValid office.now }
+    ensures lei { IsValid issuer.now }
 {
-    if let Some(text) = accredited(entries, office.as_bytes()) {
+    if let Some(text) = accredited(entries, issuer.as_bytes()) {
         return kept_reply(alloc, text);
     }
-    let entry = accreditation(alloc, entries, office, moment)?;
+    let entry = accreditation(alloc, entries, issuer, moment)?;
     let reply = kept_reply(alloc, entry.answer.as_slice())?;
     entries.push(entry)?;
     Ok(reply)
@@ -182,21 +182,21 @@ fn accredit(
 fn accreditation(
     alloc: Global,
     entries: &[KeptEntry],
-    office: &Lei,
+    issuer: &Lei,
     moment: i64,
 ) -> Result<KeptEntry, NoMemory>
-    ensures { IfOk result (λ entry. entry ≡ accreditation entries.now office.now moment) }
+    ensures { IfOk result (λ entry. entry ≡ accreditation entries.now issuer.now moment) }
 {
     let seq = next_seq(entries)?;
     Ok(KeptEntry {
         seq,
         kind: ACCREDIT,
-        office: Bytes::copy_of(alloc, office.as_bytes())?,
+        office: Bytes::copy_of(alloc, issuer.as_bytes())?,
         number: 0,
         moment,
         rules: RULES,
         body: Bytes::copy_of(alloc, &[])?,
-        answer: accreditation_text(alloc, seq, office)?,
+        answer: accreditation_text(alloc, seq, issuer)?,
     })
 }
 
@@ -213,13 +213,13 @@ fn upload(
     requires table { table.old ≡ after limits entries.old.items }
     ensures step { Comes (upload_outcome (office_of limits entries.old.items) call.now moment) entries.old.items result entries.new.items }
     ensures table { table.new ≡ after limits entries.new.items }
-    ensures code { IsValid call.now.office }
+    ensures lei { IsValid call.now.office }
 {
-    let office = call.office.as_bytes();
+    let issuer = call.office.as_bytes();
     if call.body.len() as u64 > limits.body {
         return Ok(Reply::Words(Refusal::TooLong));
     }
-    match place_of(entries, office, call.number, call.body.as_slice()) {
+    match place_of(entries, issuer, call.number, call.body.as_slice()) {
         Place::UnknownOffice => Ok(Reply::Words(Refusal::IssuerUnknown)),
         Place::Repeat(answer) => kept_reply(alloc, answer),
         Place::Taken => Ok(Reply::Words(Refusal::NumberTaken)),
@@ -248,8 +248,8 @@ fn take_upload(
         Err(UploadFault::Malformed(fault)) => return Ok(Reply::Words(Refusal::Malformed(fault))),
         Err(UploadFault::NoMemory) => return Err(NoMemory),
     };
-    let (records, office, items) = (limits.records, &call.office, upload.items.as_slice());
-    let judged = judge(alloc, table, records, office, moment, items)?;
+    let (records, items) = (limits.records, upload.items.as_slice());
+    let judged = judge(alloc, table, records, &call.office, moment, items)?;
     let entry = taken_upload(alloc, entries, call, moment, judged.verdicts.as_slice())?;
     let reply = kept_reply(alloc, entry.answer.as_slice())?;
     entries.reserve(1)?;

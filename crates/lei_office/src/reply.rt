@@ -19,24 +19,24 @@ pub enum Refusal {
     NoRoute,
     /// A word of the request is missing, too many or of another form.
     Path,
-    /// The office isn't accredited.
+    /// The issuer isn't accredited.
     IssuerUnknown,
-    /// The office has sent another body under this number.
+    /// The issuer has sent another body under this number.
     NumberTaken,
-    /// The number that the office's next upload has.
+    /// The number that the issuer's next upload has.
     NumberAhead(u32),
     Malformed(Malformed),
-    /// No record of this code is held.
+    /// No record of this LEI is held.
     LeiUnknown,
     NoMemory,
 }
 
 impl Refusal {
-    ghost use Rattle.lei_office.specs.Words.{refusal_code, refusal_name, refusal_number};
+    ghost use Rattle.lei_office.specs.Words.{refusal_status_code, refusal_name, refusal_number};
 
-    /// The code of its reply, after the status codes of HTTP (RFC 9110).
-    pub fn code(self) -> u16
-        ensures { result ≡ refusal_code self }
+    /// The status code of its reply, after those of HTTP (RFC 9110).
+    pub fn status_code(self) -> u16
+        ensures { result ≡ refusal_status_code self }
     {
         match self {
             Refusal::Path | Refusal::Malformed(_) => 400,
@@ -100,15 +100,15 @@ pub enum Reply {
 }
 
 impl Reply {
-    ghost use Rattle.lei_office.specs.Words.{reply_code};
+    ghost use Rattle.lei_office.specs.Words.{reply_status_code};
 
-    /// Its code, after the status codes of HTTP (RFC 9110).
-    pub fn code(&self) -> u16
-        ensures { result ≡ reply_code self.now }
+    /// Its status code, after those of HTTP (RFC 9110).
+    pub fn status_code(&self) -> u16
+        ensures { result ≡ reply_status_code self.now }
     {
         match self {
             Reply::Text { code, .. } => *code,
-            Reply::Words(refusal) => refusal.code(),
+            Reply::Words(refusal) => refusal.status_code(),
         }
     }
 }

@@ -31,7 +31,7 @@ pub enum Request {
     Accredit(Lei),
     /// To take an upload.
     Upload(Call),
-    /// To show the record of this code.
+    /// To show the record of this LEI.
     Show(Lei),
 }
 

@@ -10,48 +10,48 @@ use register_judge::Verdict;
 use serde_json::{Value, json};
 use std::alloc::Global;
 
-// What is answered when the office is accredited by the entry of this number.
-pub fn accreditation_text(alloc: Global, entry: u64, office: &Lei) -> Result<Bytes, NoMemory>
-    ensures { IfOk result (λ text. text ≡ accreditation_text entry office.now) }
+// What is answered when the issuer is accredited by the entry of this number.
+pub fn accreditation_text(alloc: Global, entry: u64, issuer: &Lei) -> Result<Bytes, NoMemory>
+    ensures { IfOk result (λ text. text ≡ accreditation_text entry issuer.now) }
 {
-    let answer = accreditation_answer(alloc, entry, office)?;
+    let answer = accreditation_answer(alloc, entry, issuer)?;
     Ok(Bytes::from(answer.to_vec(alloc)?))
 }
 
-fn accreditation_answer(alloc: Global, entry: u64, office: &Lei) -> Result<Value, NoMemory>
-    ensures { IfOk result (λ answer. view answer ≡ accreditation_answer entry office.now) }
+fn accreditation_answer(alloc: Global, entry: u64, issuer: &Lei) -> Result<Value, NoMemory>
+    ensures { IfOk result (λ answer. view answer ≡ accreditation_answer entry issuer.now) }
 {
-    Ok(json!(in alloc; {"entry": entry, "issuer": office.as_str()})?)
+    Ok(json!(in alloc; {"entry": entry, "issuer": issuer.as_str()})?)
 }
 
-// What is answered to the office's upload of this number, taken by the entry of that number.
+// What is answered to the issuer's upload of this number, taken by the entry of that number.
 pub fn upload_text(
     alloc: Global,
     entry: u64,
-    office: &Lei,
+    issuer: &Lei,
     number: u32,
     verdicts: &[Verdict],
 ) -> Result<Bytes, NoMemory>
-    ensures { IfOk result (λ text. text ≡ upload_text entry office.now number verdicts.now) }
+    ensures { IfOk result (λ text. text ≡ upload_text entry issuer.now number verdicts.now) }
 {
     let items = verdict_values(alloc, verdicts)?;
-    let answer = upload_answer(alloc, entry, office, number, items)?;
+    let answer = upload_answer(alloc, entry, issuer, number, items)?;
     Ok(Bytes::from(answer.to_vec(alloc)?))
 }
 
 fn upload_answer(
     alloc: Global,
     entry: u64,
-    office: &Lei,
+    issuer: &Lei,
     number: u32,
     items: Vec<Value>,
 ) -> Result<Value, NoMemory>
     ensures { IfOk result
-        (λ answer. view answer ≡ upload_answer entry office.now (items_view items.items) number) }
+        (λ answer. view answer ≡ upload_answer entry issuer.now (items_view items.items) number) }
 {
     Ok(json!(in alloc; {
         "entry": entry,
-        "issuer": office.as_str(),
+        "issuer": issuer.as_str(),
         "items": Value::Array(items),
         "number": number
     })?)

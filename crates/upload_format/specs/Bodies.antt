@@ -5,6 +5,7 @@ use Rattle.std.specs.Str.{is_utf8, bytes_eq}
 use Rattle.serde_json.specs.Data.{Data, Items, no_items, item, Members, no_members, member}
 use Rattle.serde_json.specs.Find.{get_member, as_str, as_array, as_object}
 use Rattle.serde_json.specs.Read.{read}
+use Rattle.lei_code.specs.Texts.{Body, Text}
 use Rattle.upload_format.specs.declared.fault.Malformed.{Malformed}
 use Rattle.upload_format.specs.declared.fault.Malformed.TheVariants.{NotJson, NotAnUpload, NoItems, TooManyItems}
 use Rattle.upload_format.specs.declared.fault.UploadFault.{UploadFault}
@@ -13,16 +14,17 @@ use Rattle.lei_records.specs.declared.fields.Kind.{Kind}
 use Rattle.lei_records.specs.declared.item.RawItem.{RawItem}
 
 -- The value of the bytes: they are UTF-8, and JSON. A name that an object repeats has its last value.
-unfoldable pub value_of : List ℕ → Option Data
+unfoldable pub value_of : Body → Option Data
 value_of body = if is_utf8 body then read body else None
 
 -- The members of an object as pairs of a name and a text. It has no reading where a value isn't a text.
-abbrev pub fields_of : Members → Option (List (List ℕ × List ℕ))
+abbrev pub fields_of : Members → Option (List (Text × Text))
 fields_of no_members = Some []
-fields_of (member name value others) = option_and_then (λ text. option_map (λ fields. (name, text) ∷ fields) (fields_of others)) (as_str value)
+fields_of (member name value others) =
+    option_and_then (λ text. option_map (λ fields. (name, text) ∷ fields) (fields_of others)) (as_str value)
 
 -- the item of a kind that has these fields
-abbrev pub sent : Kind → List (List ℕ × List ℕ) → RawItem
+abbrev pub sent : Kind → List (Text × Text) → RawItem
 sent Kind.Record fields = RawItem.Record fields
 sent Kind.Relation fields = RawItem.Relation fields
 sent Kind.Exception fields = RawItem.Exception fields
@@ -31,6 +33,7 @@ sent Kind.Exception fields = RawItem.Exception fields
 abbrev pub item_of : Kind → Data → Option RawItem
 item_of kind value = option_map (sent kind) (option_and_then fields_of (as_object value))
 
+-- the items of a kind that an array lists. It has no reading where one of its values is no item
 abbrev pub list_of : Kind → Items → Option (List RawItem)
 list_of kind no_items = Some []
 list_of kind (item value others) =
@@ -41,20 +44,22 @@ abbrev pub listed : Kind → Option Data → Option (List RawItem)
 listed kind None = Some []
 listed kind (Some value) = option_and_then (list_of kind) (as_array value)
 
-abbrev pub member_names : Members → List (List ℕ)
+-- the names of an object's members
+abbrev pub member_names : Members → List Text
 member_names no_members = []
 member_names (member name value others) = name ∷ member_names others
 
 -- the name of the member that lists the items of a kind
-abbrev pub list_name : Kind → List ℕ
+abbrev pub list_name : Kind → Text
 list_name Kind.Record = codes "records"
 list_name Kind.Relation = codes "relationships"
 list_name Kind.Exception = codes "exceptions"
 
 -- the names that the members of an upload may have
-abbrev pub is_list_name : List ℕ → Bool
+abbrev pub is_list_name : Text → Bool
 is_list_name name =
-    bytes_eq name (list_name Kind.Record) || bytes_eq name (list_name Kind.Relation) || bytes_eq name (list_name Kind.Exception)
+    bytes_eq name (list_name Kind.Record) || bytes_eq name (list_name Kind.Relation)
+    || bytes_eq name (list_name Kind.Exception)
 
 -- one list, and another behind it. There is none where either has no reading.
 abbrev pub behind : {X : Type 0} → Option (List X) → Option (List X) → Option (List X)
@@ -65,8 +70,10 @@ behind (Some front) (Some list) = Some (front ++ list)
 -- the items of members: records, then relationships, then exceptions
 abbrev pub in_order : Option Data → Option Data → Option Data → Option (List RawItem)
 in_order records relationships exceptions =
-    behind (behind (behind (Some []) (listed Kind.Record records)) (listed Kind.Relation relationships)) (listed Kind.Exception exceptions)
+    behind (behind (behind (Some []) (listed Kind.Record records)) (listed Kind.Relation relationships))
+    (listed Kind.Exception exceptions)
 
+-- the items of an object's members, by their lists
 abbrev pub items_in : Members → Option (List RawItem)
 items_in members =
     in_order (get_member (list_name Kind.Record) members) (get_member (list_name Kind.Relation) members)
@@ -75,30 +82,40 @@ items_in members =
 -- The items that a value lists: it is an object that has no other member. It has no reading where it is no upload.
 abbrev pub items_of : Data → Option (List RawItem)
 items_of value =
-    option_and_then (λ members. if list_all is_list_name (member_names members) then items_in members else None) (as_object value)
+    option_and_then (λ members. if list_all is_list_name (member_names members) then items_in members else None)
+    (as_object value)
 
--- from 1 to 5,000 items
+-- an upload has at most 5,000 items
+abbrev pub item_limit : ℕ
+item_limit = 5_000
+
+-- from 1 item to as many as an upload may have
 abbrev pub counted : List RawItem → Result (List RawItem) Malformed
-counted items = if length items == 0 then Err NoItems else (if nat_lt 5000 (length items) then Err TooManyItems else Ok items)
+counted items =
+    if length items == 0 then Err NoItems else (if nat_lt item_limit (length items) then Err TooManyItems else Ok items)
 
+-- the items if they are an upload's, and else the fault
 abbrev pub of_items : Option (List RawItem) → Result (List RawItem) Malformed
 of_items None = Err NotAnUpload
 of_items (Some items) = counted items
 
+-- the items that a value lists, or the fault; where there is no value, the body is no JSON
 abbrev pub of_value : Option Data → Result (List RawItem) Malformed
 of_value None = Err NotJson
 of_value (Some value) = of_items (items_of value)
 
 -- The items of a body, or the first of the four faults that it has.
-unfoldable pub upload : List ℕ → Result (List RawItem) Malformed
+unfoldable pub upload : Body → Result (List RawItem) Malformed
 upload body = of_value (value_of body)
 
 -- ---- what a reader answers: exactly the items or the fault, unless memory ran out
 
+-- a reader's fault is the one that is to be found; want of memory may come in its place, and in that of items
 abbrev pub Fails : {Y : Type 0} → UploadFault → Result Y Malformed → Type 0
 Fails faults.NoMemory read = Unit {0}
 Fails (faults.Malformed fault) read = read ≡ Err fault
 
+-- what a reader gives is what is to be read, as contracts see it, or its fault
 abbrev pub Gives : {X Y : Type 0} → (X → Y) → Result X UploadFault → Result Y Malformed → Type 0
 Gives view (Ok x) read = read ≡ Ok (view x)
 Gives view (Err fault) read = Fails fault read

@@ -7,7 +7,7 @@ use Rattle.lei_office.proofs.ledger.upload_at.Goals as goal
 pub returns : goal.returns
 returns c =
     let entries = c.args.entries.now in
-    let office = c.args.office.now in
+    let issuer = c.args.issuer.now in
     let counted : (c.args.number == 0) ≡ false = search (rules, tests) in
-    nth_from_yields_List c.nth.result _ _ c.nth.ensures.ran (YieldsList-from_filter _ (is_upload_of office) (YieldsList-from_slice entries cc) c.filter.ensures.closure (λ x r q k. search (rules, tests)))
-    ∙ sym (ap (λ b. cond b None (slice_get (uploads entries office) (c.args.number - 1))) counted)
+    nth_from_yields_List c.nth.result _ _ c.nth.ensures.ran (YieldsList-from_filter _ (is_upload_of issuer) (YieldsList-from_slice entries cc) c.filter.ensures.closure (λ x r q k. search (rules, tests)))
+    ∙ sym (ap (λ b. cond b None (slice_get (uploads entries issuer) (c.args.number - 1))) counted)

@@ -7,5 +7,5 @@ use Rattle.lei_office.proofs.texts.upload_text.Goals as goal
 pub returns : goal.returns
 unfolding upload_text
 returns c =
-    let is = c.in_ok-answer.ensures ∙ ap (λ items. upload_answer c.args.entry c.args.office.now items c.args.number) c.in_ok-items.ensures in
+    let is = c.in_ok-answer.ensures ∙ ap (λ items. upload_answer c.args.entry c.args.issuer.now items c.args.number) c.in_ok-items.ensures in
     c.from.ensures ∙ c.in_ok-to_vec.ensures.text (rw is (ap (λ b. b || false) (no_float_in_strings (map verdict_text c.args.verdicts.now)))) ∙ ap compact_text is
