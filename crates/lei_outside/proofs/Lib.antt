@@ -1,3 +1,4 @@
 pub mod Handing
 pub mod Told
 pub mod Clocks
+pub mod Faulting

@@ -1,4 +1,5 @@
 pub mod Told
 pub mod Count
+pub mod Faults
 pub mod Memory
 pub mod Clock

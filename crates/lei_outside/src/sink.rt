@@ -1,7 +1,8 @@
 // Where bytes go.
-ghost use Rattle.std.specs.Prelude.{ℕ, ◌<◌, ◌≤◌, List, Option, length, OnOk, OnErr, IsErrOf};
+ghost use Rattle.std.specs.Prelude.{◌≡◌, ℕ, ◌<◌, ◌≤◌, List, Option, length, OnOk, OnErr, IsErrOf};
 ghost use Rattle.lei_outside.specs.Told.{Grows, TakesFront, Writes};
 ghost use Rattle.lei_outside.specs.Count.{Rose};
+ghost use Rattle.lei_outside.specs.Faults.{FailsLast};
 
 use crate::SinkFault;
 
@@ -18,6 +19,7 @@ pub trait Sink {
         requires { 0 < length piece.now }
         ensures bytes { Writes (taken self.old) (taken self.new) result piece.now }
         ensures count { faults self.old ≤ faults self.new }
+        ensures kept { ¬ (IsErrOf result SinkFault.Failed) → faults self.new ≡ faults self.old }
         ensures failed { IsErrOf result SinkFault.Failed → Rose (faults self.old) (faults self.new) };
 }
 
@@ -25,8 +27,8 @@ pub trait Sink {
 pub fn write_all<W: Sink>(out: &mut W, piece: &[u8]) -> Result<(), SinkFault>
     ensures written { OnOk result (Grows (W.taken out.old) (W.taken out.new) piece.now) }
     ensures front { OnErr result (TakesFront (W.taken out.old) (W.taken out.new) piece.now) }
-    ensures count { W.faults out.old ≤ W.faults out.new }
-    ensures failed { IsErrOf result SinkFault.Failed → Rose (W.faults out.old) (W.faults out.new) }
+    ensures kept { ¬ (IsErrOf result SinkFault.Failed) → W.faults out.new ≡ W.faults out.old }
+    ensures failed { IsErrOf result SinkFault.Failed → FailsLast W.taken W.faults out.old out.new }
 {
     let mut rest = piece;
     while !rest.is_empty() {

@@ -1,5 +1,5 @@
 // Where bytes come from.
-ghost use Rattle.std.specs.Prelude.{ℕ, ◌<◌, ◌≤◌, List, Option, length, OnErr};
+ghost use Rattle.std.specs.Prelude.{◌≡◌, ℕ, ◌<◌, ◌≤◌, List, Option, length, OnErr, OnOk};
 ghost use Rattle.lei_outside.specs.Told.{Reads};
 ghost use Rattle.lei_outside.specs.Count.{Rose};
 
@@ -19,5 +19,6 @@ pub trait Source {
         requires { 0 < length buffer.old }
         ensures bytes { Reads (left self.old) (left self.new) result buffer.new }
         ensures count { faults self.old ≤ faults self.new }
+        ensures kept { OnOk result (faults self.new ≡ faults self.old) }
         ensures failed { OnErr result (Rose (faults self.old) (faults self.new)) };
 }

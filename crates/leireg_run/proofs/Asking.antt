@@ -3,88 +3,90 @@ use Rattle.std.proofs.Common.{◌≡◌, ℕ, ℤ, List, [], ◌∷◌, ◌++◌
 use Rattle.std.proofs.lemmas.List.{append-nil}
 use Rattle.std.specs.Option.{option_and_then, option_map}
 use Rattle.lei_office.specs.declared.request.Request.{Request}
-use Rattle.lei_office.specs.declared.request.Request.TheVariants.{Accredit, Show}
+use Rattle.lei_office.specs.declared.request.Request.TheVariants as requests
 use Rattle.lei_office.specs.declared.request.Asked.{Asked}
 use Rattle.lei_office.specs.declared.request.Asked.TheVariants.{Ask, Refuse}
-use Rattle.lei_office.specs.declared.reply.Refusal.TheVariants.{TooLong, NoRoute, NoMemory}
+use Rattle.lei_office.specs.declared.reply.Refusal.TheVariants.{TooLong, NoMemory}
 use Rattle.lei_office.specs.declared.reply.Reply.{Reply}
 use Rattle.lei_office.specs.declared.reply.Reply.TheVariants.{Words}
 use Rattle.lei_office.specs.State.{OfficeState}
 use Rattle.lei_office.specs.Legal.{AskStep, Session, IsNumbered}
-use Rattle.leireg_run.proofs.Numbers.{number_of-range}
-use Rattle.leireg_run.specs.Requests.{asked, asked_in, asked_by, or_path, cut, code_of, upload_of, accreditation_of, show_of, number_of, IsUpload}
-use Rattle.leireg_run.specs.Replies.{reply_text}
-use Rattle.leireg_run.specs.Outbox.{Puts}
-use Rattle.leireg_run.specs.Runs.{Answers, AnswersLine, AnswersAndPuts}
 use Rattle.leireg_run.proofs.Giving.{Gives-none}
+use Rattle.leireg_run.proofs.Numbers.{number_of-range}
+use Rattle.leireg_run.specs.Lines.{Line}
+use Rattle.leireg_run.specs.Limits.{line_limit}
+use Rattle.leireg_run.specs.Outbox.{Puts}
+use Rattle.leireg_run.specs.Replies.{reply_text}
+use Rattle.leireg_run.specs.Requests.{asked, asked_in, asked_by, or_path, cut, code_of, upload_of, accreditation_of, show_of, number_of, first_word, request_by, MayWantMemory}
+use Rattle.leireg_run.specs.Runs.{Answers, AnswersLine, AnswersAndPuts, Progress}
+use Rattle.leireg_run.specs.declared.requests.FirstWord.{FirstWord}
+use Rattle.leireg_run.specs.declared.requests.FirstWord.TheVariants.{Accredit, Upload, Show}
 
-AskStep-no_memory : (old : OfficeState) (what : Asked) → IsUpload what → AskStep old what [] (Words NoMemory) old
+AskStep-no_memory : (old : OfficeState) (what : Asked) → MayWantMemory what → AskStep old what [] (Words NoMemory) old
 AskStep-no_memory old (Refuse refusal) is = absurd is
-AskStep-no_memory old (Ask request) is = inr (refl, refl, refl)
+AskStep-no_memory old (Ask request) is = inr (is, refl, refl, refl)
 
 -- want of memory for an upload's body leaves the office, and asks for no moment
-pub line_wants : (old : OfficeState) (line : List ℕ) (u : Option (List ℤ)) → IsUpload (asked line) → AnswersLine old line u u (Words NoMemory) old
-line_wants old line u is = ([], Gives-none u, AskStep-no_memory old (asked line) is)
+pub line_wants : (old : OfficeState) (line : Line) (given : Option (List ℤ)) → MayWantMemory (asked line)
+    → AnswersLine old line given given (Words NoMemory) old
+line_wants old line given is = ([], Gives-none given, AskStep-no_memory old (asked line) is)
 
 -- what is asked has a number in its range
 abbrev pub AsksInRange : Asked → Type 0
 AsksInRange (Refuse refusal) = Unit {0}
 AsksInRange (Ask request) = IsNumbered request
 
-bind_range : {A : Type 0} (o : Option A) (f : A → Option Request) → ((x : A) → o ≡ Some x → AsksInRange (or_path (f x))) → AsksInRange (or_path (option_and_then f o))
+bind_range : {A : Type 0} (o : Option A) (f : A → Option Request) → ((x : A) → o ≡ Some x → AsksInRange (or_path (f x)))
+    → AsksInRange (or_path (option_and_then f o))
 bind_range None f each = tt
 bind_range (Some x) f each = each x refl
 
 upload_range : (rest : List ℕ) → AsksInRange (or_path (upload_of rest))
 unfolding upload_of
 upload_range rest =
-    bind_range (cut rest) _ (λ first _. bind_range (cut first.1) _ (λ second _. bind_range (code_of first.0) _ (λ office _. bind_range (number_of second.0) _ (λ number is. number_of-range second.0 number is))))
+    bind_range (cut rest) _ (λ first _. bind_range (cut first.1) _ (λ second _. bind_range (code_of first.0) _ (λ office _.
+    bind_range (number_of second.0) _ (λ number is. number_of-range second.0 number is))))
 
-accreditation_range : (code : Option (List ℕ)) → AsksInRange (or_path (option_map Accredit code))
+accreditation_range : (code : Option (List ℕ)) → AsksInRange (or_path (option_map requests.Accredit code))
 accreditation_range None = tt
 accreditation_range (Some office) = tt
 
-show_range : (code : Option (List ℕ)) → AsksInRange (or_path (option_map Show code))
+show_range : (code : Option (List ℕ)) → AsksInRange (or_path (option_map requests.Show code))
 show_range None = tt
 show_range (Some code) = tt
 
--- where the word is none of the first ones
-other_range : (word : List ℕ) (rest : Option (List ℕ)) → AsksInRange (cond (bytes_eq word (codes "SHOW")) (or_path (option_and_then show_of rest)) (Refuse NoRoute))
-other_range word rest =
-    elim (bytes_eq word (codes "SHOW")) as (λ b. AsksInRange (cond b (or_path (option_and_then show_of rest)) (Refuse NoRoute))) [
-      | true ↦ bind_range rest show_of (λ r _. show_range (code_of r))
-      | false ↦ tt
-    ]
+by_range : (word : Option FirstWord) (rest : Option (List ℕ)) → AsksInRange (asked_by word rest)
+by_range None rest = tt
+by_range (Some Accredit) rest = bind_range rest accreditation_of (λ r _. accreditation_range (code_of r))
+by_range (Some Upload) rest = bind_range rest upload_of (λ r _. upload_range r)
+by_range (Some Show) rest = bind_range rest show_of (λ r _. show_range (code_of r))
 
-by_range : (word : List ℕ) (rest : Option (List ℕ)) → AsksInRange (asked_by word rest)
-unfolding asked_by
-by_range word rest =
-    let other = cond (bytes_eq word (codes "SHOW")) (or_path (option_and_then show_of rest)) (Refuse NoRoute) in
-    elim (bytes_eq word (codes "ACCREDIT")) as (λ b. AsksInRange (cond b (or_path (option_and_then accreditation_of rest)) (cond (bytes_eq word (codes "UPLOAD")) (or_path (option_and_then upload_of rest)) other))) [
-      | true ↦ bind_range rest accreditation_of (λ r _. accreditation_range (code_of r))
-      | false ↦ elim (bytes_eq word (codes "UPLOAD")) as (λ b. AsksInRange (cond b (or_path (option_and_then upload_of rest)) other)) [
-        | true ↦ bind_range rest upload_of (λ r _. upload_range r)
-        | false ↦ other_range word rest
-      ]
-    ]
+cut_range : (line : Line) (parts : Option (List ℕ × List ℕ)) → AsksInRange (asked_in line parts)
+cut_range line None = by_range (first_word line) None
+cut_range line (Some parts) = by_range (first_word parts.0) (Some parts.1)
 
-cut_range : (line : List ℕ) (parts : Option (List ℕ × List ℕ)) → AsksInRange (asked_in line parts)
-cut_range line None = by_range line None
-cut_range line (Some parts) = by_range parts.0 (Some parts.1)
-
-pub in_range : (line : List ℕ) → AsksInRange (asked line)
+pub in_range : (line : Line) → AsksInRange (asked line)
 unfolding asked
 in_range line =
-    elim (ltb 4194340 (length line)) as (λ b. AsksInRange (cond b (Refuse TooLong) (asked_in line (cut line)))) [ true ↦ tt | false ↦ cut_range line (cut line) ]
+    elim (ltb line_limit (length line)) as (λ b. AsksInRange (cond b (Refuse TooLong) (asked_in line (cut line)))) [
+      | true ↦ tt
+      | false ↦ cut_range line (cut line)
+    ]
 
 -- one line's reply is its run
-pub Answers-one : (old new : OfficeState) (line : List ℕ) (moments : List ℤ) (reply : Reply) → eqb (length line) 0 ≡ false → AskStep old (asked line) moments reply new → Answers old (line ∷ []) moments (reply_text reply) new
+pub Answers-one : (old new : OfficeState) (line : Line) (moments : List ℤ) (reply : Reply) → eqb (length line) 0 ≡ false
+    → AskStep old (asked line) moments reply new → Answers old (line ∷ []) moments (reply_text reply) new
 Answers-one old new line moments reply is step =
     let S : Bool → Type 0 = λ b. Session old (cond b [] (asked line ∷ [])) moments (reply ∷ []) new in
-    record { replies = reply ∷ []; session = subst S (sym is) (moments, [], new, sym (append-nil moments), step, (refl, refl)); texts = sym (append-nil (reply_text reply)) }
+    record {
+      replies = reply ∷ [];
+      session = subst S (sym is) (moments, [], new, sym (append-nil moments), step, (refl, refl));
+      texts = sym (append-nil (reply_text reply));
+    }
 
 -- and its text was put
-pub puts_reply : {T E : Type 0} (old new : OfficeState) (line : List ℕ) (reply : Reply) (u v : Option (List ℤ)) (a b : Option (List ℕ)) (waited waits : List ℕ) (result : Result T E) → eqb (length line) 0 ≡ false → AnswersLine old line u v reply new
-    → Puts a b (waited ++ reply_text reply) result waits → AnswersAndPuts old (line ∷ []) new u v a b waited result waits
-puts_reply old new line reply u v a b waited waits result is step puts =
-    record { moments = step.0; texts = reply_text reply; gives = step.1; answers = Answers-one old new line step.0 reply is step.2; puts = puts }
+pub puts_reply : {T E : Type 0} (before after : Progress) (line : Line) (reply : Reply) (result : Result T E) → eqb (length line) 0 ≡ false
+    → AnswersLine before.office line before.given after.given reply after.office
+    → Puts before.written after.written (before.waits ++ reply_text reply) result after.waits → AnswersAndPuts before (line ∷ []) result after
+puts_reply before after line reply result is step puts =
+    record { moments = step.0; texts = reply_text reply; gives = step.1; answers = Answers-one before.office after.office line step.0 reply is step.2; puts = puts }

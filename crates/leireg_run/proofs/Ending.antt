@@ -9,13 +9,15 @@ use Rattle.lei_outside.proofs.Told.{Grows-none, Grows-join, Loses-none, Loses-jo
 use Rattle.lei_office.specs.declared.request.Asked.{Asked}
 use Rattle.lei_office.specs.State.{OfficeState}
 use Rattle.lei_office.specs.Legal.{Session}
-use Rattle.leireg_run.specs.Ends.{RunsLines}
-use Rattle.leireg_run.specs.Lines.{HasNoEnd, IsClosed, whole_part, last_part}
+use Rattle.leireg_run.specs.Ends.{AnswersLines, EndsWith, RunsLines, StopsWriting}
+use Rattle.leireg_run.specs.Limits.{input_limit, line_limit, read_limit}
+use Rattle.leireg_run.specs.Lines.{HasNoEnd, IsClosed, Line, whole_part, last_part}
 use Rattle.leireg_run.specs.Moments.{Gives}
 use Rattle.leireg_run.specs.Outbox.{Sends}
+use Rattle.leireg_run.specs.Outside.{Course, Leads, Outside, outside}
 use Rattle.leireg_run.specs.Reading.{Holds, TakesIn}
 use Rattle.leireg_run.specs.Requests.{asked}
-use Rattle.leireg_run.specs.Runs.{asks_of, first_office, Answers, AnswersFront, AnswersAndPuts}
+use Rattle.leireg_run.specs.Runs.{asks_of, first_office, Answers, AnswersFront, AnswersAndPuts, Progress, progress}
 use Rattle.leireg_run.specs.Window.{Fills, StaysUnread}
 use Rattle.leireg_run.proofs.Giving.{Gives-none}
 use Rattle.leireg_run.proofs.LineLemmas.{IsClosed-append, IsClosed-whole_part, HasNoEnd-last_part, HasNoEnd-nil, parts_of, whole_part-is, lines-end, lines-closed}
@@ -25,11 +27,15 @@ use Rattle.leireg_run.proofs.Sending.{Grows-front}
 
 -- ---- what a reader holds
 
-pub held_unseen : (skips : Bool) (held part : List ℕ) → Holds skips held part → HasNoEnd held
+holds-none : (skips : Bool) (held part : List ℕ) → Holds skips held part → HasNoEnd part
+holds-none true held part holds = holds.0
+holds-none false held part holds = holds.0
+
+held_unseen : (skips : Bool) (held part : List ℕ) → Holds skips held part → HasNoEnd held
 held_unseen true held part holds = let N : List ℕ → Type 0 = λ xs. HasNoEnd xs in subst N (sym holds.1) HasNoEnd-nil
 held_unseen false held part holds = let N : List ℕ → Type 0 = λ xs. HasNoEnd xs in subst N (sym holds.1) holds.0
 
-pub held_room : (skips : Bool) (held part : List ℕ) → Holds skips held part → length held ≤ 4194341
+pub held_room : (skips : Bool) (held part : List ℕ) → Holds skips held part → length held ≤ line_limit + 1
 held_room true held part holds = let none : length held ≡ 0 = ap length holds.1 in omega arith
 held_room false held part holds = let same : length held ≡ length part = ap length holds.1 in omega (arith, holds.2)
 
@@ -39,49 +45,58 @@ asks_of-last : (part : List ℕ) (test : Bool) → eqb (length part) 0 ≡ test 
 asks_of-last part true is = ap (λ b. cond b [] (asked part ∷ [])) is
 asks_of-last part false is = refl
 
-Answers-last : (old new : OfficeState) (part : List ℕ) (moments : List ℤ) (texts : List ℕ) → Answers old (part ∷ []) moments texts new → Answers old (cond (eqb (length part) 0) [] (part ∷ [])) moments texts new
+Answers-last : (old new : OfficeState) (part : List ℕ) (moments : List ℤ) (texts : List ℕ) → Answers old (part ∷ []) moments texts new
+    → Answers old (cond (eqb (length part) 0) [] (part ∷ [])) moments texts new
 Answers-last old new part moments texts run =
     let S : List Asked → Type 0 = λ asks. Session old asks moments run.replies new in
     record { replies = run.replies; session = subst S (asks_of-last part (eqb (length part) 0) refl) run.session; texts = run.texts }
 
 -- ---- between two reads
 
+-- a run that begins with this outside, before its first read
+abbrev at_first : Outside → Progress
+at_first begin = progress first_office [] begin.given begin.written
+
 -- So many bytes were read, of which those in front are whole lines and were answered, and the rest is held.
-pub record Midway (left left_now : Option (List ℕ)) (given given_now : Option (List ℤ)) (taken taken_now : Option (List ℕ)) (count : ℕ) (office : OfficeState) (waits : List ℕ) (skips : Bool) (held : List ℕ) : Type 0 where
+pub record Midway (begin : Outside) (left : Option (List ℕ)) (count : ℕ) (now : Progress) (skips : Bool) (held : List ℕ) : Type 0 where
   pub read : List ℕ
   pub front : List ℕ
   pub part : List ℕ
   pub long : length read ≡ count
-  pub below : count < 4294967296
-  pub loses : Loses left left_now read
+  pub below : count < input_limit
+  pub loses : Loses begin.left left read
   pub parts : read ≡ front ++ part
-  pub answered : Answered first_office front office given given_now taken taken_now [] waits
+  pub answered : Answered (at_first begin) front now
   pub holds : Holds skips held part
 
-pub begins : (left : Option (List ℕ)) (given : Option (List ℤ)) (taken : Option (List ℕ)) (office : OfficeState) (waits : List ℕ) (skips : Bool) (held : List ℕ) → office ≡ first_office → waits ≡ [] → Holds skips held [] → Midway left left given given taken taken 0 office waits skips held
-begins left given taken office waits skips held none empty holds =
-    let A : OfficeState → Type 0 = λ h. Answered first_office [] h given given taken taken [] waits in
-    let B : List ℕ → Type 0 = λ xs. Answered first_office [] first_office given given taken taken [] xs in
+pub begins : (begin : Outside) (office : OfficeState) (waits : List ℕ) (skips : Bool) (held : List ℕ) → office ≡ first_office → waits ≡ [] → Holds skips held []
+    → Midway begin begin.left 0 (progress office waits begin.given begin.written) skips held
+begins begin office waits skips held first empty holds =
+    let at = at_first begin in
+    let A : OfficeState → Type 0 = λ o. Answered at [] (record at { office = o; waits = waits }) in
+    let B : List ℕ → Type 0 = λ xs. Answered at [] (record at { waits = xs }) in
     record {
       read = [];
       front = [];
       part = [];
       long = refl;
       below = omega arith;
-      loses = Loses-none left;
+      loses = Loses-none begin.left;
       parts = refl;
-      answered = subst A (sym none) (subst B (sym empty) (Answered-nothing first_office given taken []));
+      answered = subst A (sym first) (subst B (sym empty) (Answered-nothing at));
       holds = holds;
     }
 
--- what waited was taken
+-- what waited was written
 Sends-all : (a b c : Option (List ℕ)) (all waits : List ℕ) → Sends a b all waits → Grows b c waits → Sends a c all []
 Sends-all a b c all waits sent more = (sent.0 ++ waits, Grows-join a b c sent.0 waits sent.1 more, sent.2 ∙ sym (append-nil (sent.0 ++ waits)))
 
-pub flushed : (left left_now : Option (List ℕ)) (u v : Option (List ℤ)) (a b c : Option (List ℕ)) (count : ℕ) (office : OfficeState) (waits waits_now : List ℕ) (skips : Bool) (held : List ℕ) → waits_now ≡ [] → Midway left left_now u v a b count office waits skips held → Grows b c waits
-    → Midway left left_now u v a c count office waits_now skips held
-flushed left left_now u v a b c count office waits waits_now skips held empty at more =
-    let S : List ℕ → Type 0 = λ xs. Sends a c at.answered.texts xs in
+pub flushed : (begin : Outside) (left : Option (List ℕ)) (count : ℕ) (now : Progress) (waits : List ℕ) (written : Option (List ℕ)) (skips : Bool) (held : List ℕ)
+    → waits ≡ [] → Midway begin left count now skips held → Grows now.written written now.waits
+    → Midway begin left count (record now { waits = waits; written = written }) skips held
+flushed begin left count now waits written skips held empty at more =
+    let done = at.answered.done in
+    let S : List ℕ → Type 0 = λ xs. Sends begin.written written done.texts xs in
     record {
       read = at.read;
       front = at.front;
@@ -92,11 +107,13 @@ flushed left left_now u v a b c count office waits waits_now skips held empty at
       parts = at.parts;
       answered = record {
         closed = at.answered.closed;
-        moments = at.answered.moments;
-        texts = at.answered.texts;
-        gives = at.answered.gives;
-        run = at.answered.run;
-        sent = subst S (sym empty) (Sends-all a b c at.answered.texts waits at.answered.sent more);
+        done = record {
+          moments = done.moments;
+          texts = done.texts;
+          gives = done.gives;
+          answers = done.answers;
+          puts = subst S (sym empty) (Sends-all begin.written now.written written done.texts now.waits done.puts more);
+        };
       };
       holds = at.holds;
     }
@@ -117,52 +134,77 @@ length-none [] is = refl
 length-none (x ∷ xs) is = cc
 
 -- a block was read behind what is held
-record Block (held held_now more : List ℕ) (seen : ℕ) : Type 0 where
-  front : take seen held_now ≡ held
-  back : drop seen held_now ≡ more
+record Block (held window more : List ℕ) (seen : ℕ) : Type 0 where
+  front : take seen window ≡ held
+  back : drop seen window ≡ more
 
-block_of : (held held_now more : List ℕ) (seen : ℕ) → seen ≡ length held → held_now ≡ held ++ more → Block held held_now more seen
-block_of held held_now more seen same is =
+block_of : (held window more : List ℕ) (seen : ℕ) → seen ≡ length held → window ≡ held ++ more → Block held window more seen
+block_of held window more seen same is =
     let B : List ℕ → Type 0 = λ xs. Block held xs more seen in
     let C : ℕ → Type 0 = λ n. Block held (held ++ more) more n in
     subst B (sym is) (subst C (sym same) (record { front = take-front held more; back = drop-front held more }))
 
-pub unseen : (left left_now : Option (List ℕ)) (n most : ℕ) (skips : Bool) (held held_now part : List ℕ) (seen : ℕ) → seen ≡ length held → Holds skips held part → Fills left left_now held held_now n most → HasNoEnd (take seen held_now)
-unseen left left_now n most skips held held_now part seen same holds fills =
+pub unseen : (before after : Option (List ℕ)) (n most : ℕ) (skips : Bool) (held window part : List ℕ) (seen : ℕ) → seen ≡ length held → Holds skips held part
+    → Fills before after held window n most → HasNoEnd (take seen window)
+unseen before after n most skips held window part seen same holds fills =
     let N : List ℕ → Type 0 = λ xs. HasNoEnd xs in
-    let block = block_of held held_now fills.0 seen same fills.4 in
+    let block = block_of held window fills.0 seen same fills.4 in
     subst N (sym block.front) (held_unseen skips held part holds)
 
--- and the lines that end in it were answered, or the sink refused
-abbrev pub Goes : {E : Type 0} → ℕ → Bool → List ℕ → OfficeState → OfficeState → Option (List ℤ) → Option (List ℤ) → Option (List ℕ) → Option (List ℕ) → List ℕ → Result (Unit {0}) E → List ℕ → Bool → List ℕ → Type 0
-Goes seen skips window office new v w b c waited result waits skips_now held_now =
-    (part : List ℕ) → Holds skips (take seen window) part → TakesIn {T = Unit {0}} part (drop seen window) office new v w b c waited result waits skips_now held_now
+-- and the lines that end in it were answered, or the output refused
+abbrev pub Goes : {E : Type 0} → ℕ → Bool → List ℕ → Progress → Result (Unit {0}) E → Progress → Bool → List ℕ → Type 0
+Goes seen skips window before result after skips_now held =
+    (part : List ℕ) → Holds skips (take seen window) part → TakesIn {T = Unit {0}} part (drop seen window) before result after skips_now held
 
-pub takes_in : (left mid left_now : Option (List ℕ)) (u v w : Option (List ℤ)) (a b c : Option (List ℕ)) (count n most seen : ℕ) (office new : OfficeState) (waited waits : List ℕ) (skips skips_now : Bool) (held window held_now : List ℕ) → seen ≡ length held → Midway left mid u v a b count office waited skips held
-    → Fills mid left_now held window n most → count + n < 4294967296 → Goes {E = SinkFault} seen skips window office new v w b c waited (Ok (tt {0})) waits skips_now held_now → Midway left left_now u w a c (count + n) new waits skips_now held_now
-takes_in left mid left_now u v w a b c count n most seen office new waited waits skips skips_now held window held_now same at fills below goes =
+-- what a block more makes of a run, whatever the output did
+record Further {E : Type 0} (begin : Outside) (left : Option (List ℕ)) (count : ℕ) (rest : List ℕ) (result : Result (Unit {0}) E) (now : Progress) : Type 0 where
+  read : List ℕ
+  front : List ℕ
+  long : length read ≡ count
+  loses : Loses begin.left left read
+  parts : read ≡ front ++ rest
+  closed : IsClosed front
+  done : AnswersAndPuts (at_first begin) (lines front) result now
+
+further : {E : Type 0} (begin : Outside) (mid left : Option (List ℕ)) (count n most seen : ℕ) (now then : Progress) (skips : Bool) (held window : List ℕ)
+    (result : Result (Unit {0}) E) (part rest : List ℕ) → seen ≡ length held → (at : Midway begin mid count now skips held) → Fills mid left held window n most
+    → at.part ++ drop seen window ≡ part ++ rest → IsClosed part → AnswersAndPuts now (lines part) result then → Further begin left (count + n) rest result then
+further {E} begin mid left count n most seen now then skips held window result part rest same at fills parts closed done =
     let more = fills.0 in
     let block = block_of held window more seen same fills.4 in
-    let H : List ℕ → Type 0 = λ xs. Holds skips xs at.part in
-    let then = goes at.part (subst H (sym block.front) at.holds) in
-    let next = goes_on {T = Unit {0}} {E = SinkFault} first_office office new at.front then.0 u v w a b c [] waited waits (Ok (tt {0})) at.answered then.4 in
     record {
       read = at.read ++ more;
-      front = at.front ++ then.0;
-      part = then.1;
+      front = at.front ++ part;
       long = length-append at.read more ∙ omega (arith, at.long, fills.1);
+      loses = Loses-join begin.left mid left at.read more at.loses fills.3;
+      parts = whole_parts at.read at.front at.part more part rest at.parts (ap (λ xs. at.part ++ xs) (sym block.back) ∙ parts);
+      closed = IsClosed-append at.front part at.answered.closed closed;
+      done = goes_on {T = Unit {0}} {E = E} (at_first begin) now then at.front part result at.answered done;
+    }
+
+goes_so : {E : Type 0} (begin : Outside) (mid left : Option (List ℕ)) (count n most seen : ℕ) (now then : Progress) (skips skips_now : Bool) (held window held_now : List ℕ)
+    (result : Result (Unit {0}) E) → seen ≡ length held → (at : Midway begin mid count now skips held) → Fills mid left held window n most
+    → Goes seen skips window now result then skips_now held_now → TakesIn {T = Unit {0}} at.part (drop seen window) now result then skips_now held_now
+goes_so begin mid left count n most seen now then skips skips_now held window held_now result same at fills goes =
+    let H : List ℕ → Type 0 = λ xs. Holds skips xs at.part in
+    goes at.part (subst H (sym (block_of held window fills.0 seen same fills.4).front) at.holds)
+
+pub takes_in : (begin : Outside) (mid left : Option (List ℕ)) (count n most seen : ℕ) (now then : Progress) (skips skips_now : Bool) (held window held_now : List ℕ)
+    → seen ≡ length held → Midway begin mid count now skips held → Fills mid left held window n most → count + n < input_limit
+    → Goes {E = SinkFault} seen skips window now (Ok (tt {0})) then skips_now held_now → Midway begin left (count + n) then skips_now held_now
+takes_in begin mid left count n most seen now then skips skips_now held window held_now same at fills below goes =
+    let taken = goes_so begin mid left count n most seen now then skips skips_now held window held_now (Ok (tt {0})) same at fills goes in
+    let all = further begin mid left count n most seen now then skips held window (Ok (tt {0})) taken.0 taken.1 same at fills taken.2 taken.3 taken.4 in
+    record {
+      read = all.read;
+      front = all.front;
+      part = taken.1;
+      long = all.long;
       below = below;
-      loses = Loses-join left mid left_now at.read more at.loses fills.3;
-      parts = whole_parts at.read at.front at.part more then.0 then.1 at.parts (ap (λ xs. at.part ++ xs) (sym block.back) ∙ then.2);
-      answered = record {
-        closed = IsClosed-append at.front then.0 at.answered.closed then.3;
-        moments = next.moments;
-        texts = next.texts;
-        gives = next.gives;
-        run = next.answers;
-        sent = next.puts;
-      };
-      holds = then.5;
+      loses = all.loses;
+      parts = all.parts;
+      answered = record { closed = all.closed; done = all.done };
+      holds = taken.5;
     }
 
 -- what the lines are
@@ -176,41 +218,55 @@ lines-behind : (read front rest : List ℕ) → read ≡ front ++ rest → IsClo
 lines-behind read front rest parts closed =
     ap (λ xs. lines (whole_part xs)) parts ∙ (ap lines (whole_part-behind front rest closed) ∙ lines-closed front (whole_part rest) closed)
 
-holds-none : (skips : Bool) (held part : List ℕ) → Holds skips held part → HasNoEnd part
-holds-none true held part holds = holds.0
-holds-none false held part holds = holds.0
+lines-whole : (read front part : List ℕ) → read ≡ front ++ part → IsClosed front → HasNoEnd part → lines (whole_part read) ≡ lines front
+lines-whole read front part parts closed none = ap (λ xs. lines (whole_part xs)) parts ∙ ap lines (whole_part-is front part closed none)
 
 -- ---- a run that stops
 
--- what a sink that stopped has of the texts of replies
-record Stopped (taken taken_now : Option (List ℕ)) (moments : List ℤ) (all : List (List ℕ)) : Type 0 where
-  written : List ℕ
-  grows : Grows taken taken_now written
-  answers : AnswersFront all moments written
-
-stopped_at : (a c : Option (List ℕ)) (answered left : List (List ℕ)) (moments : List ℤ) (texts : List ℕ) (new : OfficeState) → Answers first_office answered moments texts new → TakesFront a c texts → Stopped a c moments (answered ++ left)
-stopped_at a c answered left moments texts new run front =
-    record { written = take front.0 texts; grows = front.2; answers = AnswersFront-of answered left moments texts new front.0 run }
+-- the outside as a run leaves it
+abbrev pub left_so : Option (List ℕ) → Progress → Option (List ℕ) → Outside
+left_so left now written = outside left now.given written
 
 abbrev pub IsCause : ℕ → Type 0
 IsCause status = (status ≡ 4) ⊎ (status ≡ 6)
 
-ends_whole : (left left_now : Option (List ℕ)) (u v : Option (List ℤ)) (a c : Option (List ℕ)) (read : List ℕ) (moments : List ℤ) (status : ℕ) → IsCause status → length read < 4294967296 → Loses left left_now read → Gives u v moments → Stopped a c moments (lines (whole_part read)) → RunsLines left left_now u v a c status
-ends_whole left left_now u v a c read moments status cause below loses gives stopped =
-    record { read = read; moments = moments; written = stopped.written; loses = loses; gives = gives; grows = stopped.grows; ends = inr (inr (inl (cause, below, inl stopped.answers))) }
+stops_so : (status : ℕ) (course : Course) (after : Outside) → IsCause status → StopsWriting course after → EndsWith status course after
+stops_so status course after (inl is) stops = inr (inr (inl (is, stops)))
+stops_so status course after (inr is) stops = inr (inr (inr (inl (is, stops))))
+
+-- an output that stopped has a front of the texts, of lines that are some of all
+record Stopped (before after : Option (List ℕ)) (moments : List ℤ) (all : List Line) : Type 0 where
+  written : List ℕ
+  grows : Grows before after written
+  answers : AnswersFront all moments written
+
+stopped_at : (before after : Option (List ℕ)) (answered left : List Line) (moments : List ℤ) (texts : List ℕ) (new : OfficeState)
+    → Answers first_office answered moments texts new → TakesFront before after texts → Stopped before after moments (answered ++ left)
+stopped_at before after answered left moments texts new run front =
+    record { written = take front.0 texts; grows = front.2; answers = AnswersFront-of answered left moments texts new front.0 run }
+
+-- what a run that the output stopped has read, and which of the lines that ended were answered
+stops_within : (begin : Outside) (left : Option (List ℕ)) (now : Progress) (written : Option (List ℕ)) (status : ℕ) (read front rest : List ℕ) (moments : List ℤ) (texts : List ℕ)
+    → IsCause status → length read < input_limit → Loses begin.left left read → read ≡ front ++ rest → IsClosed front → Gives begin.given now.given moments
+    → Answers first_office (lines front) moments texts now.office → TakesFront begin.written written texts → RunsLines begin (left_so left now written) status
+stops_within begin left now written status read front rest moments texts cause below loses parts closed gives answers took =
+    let S : List Line → Type 0 = λ ls. Stopped begin.written written moments ls in
+    let stopped = subst S (sym (lines-behind read front rest parts closed)) (stopped_at begin.written written (lines front) (lines (whole_part rest)) moments texts now.office answers took) in
+    let course : Course = record { read = read; moments = moments; written = stopped.written } in
+    record {
+      course = course;
+      leads = record { reads = loses; gives = gives; writes = stopped.grows };
+      ends = stops_so status course (left_so left now written) cause (below, inl stopped.answers);
+    }
 
 -- memory was wanted before anything was read
-pub ends_at_once : (left : Option (List ℕ)) (given : Option (List ℤ)) (taken : Option (List ℕ)) (status : ℕ) → IsCause status → RunsLines left left given given taken taken status
-ends_at_once left given taken status cause =
+pub ends_at_once : (begin : Outside) (status : ℕ) → IsCause status → RunsLines begin begin status
+ends_at_once begin status cause =
+    let course : Course = record { read = []; moments = []; written = [] } in
     record {
-      read = [];
-      moments = [];
-      written = [];
-      loses = Loses-none left;
-      gives = Gives-none given;
-      grows = Grows-none taken;
-      ends = inr (inr (inl (
-        cause,
+      course = course;
+      leads = record { reads = Loses-none begin.left; gives = Gives-none begin.given; writes = Grows-none begin.written };
+      ends = stops_so status course begin cause (
         omega arith,
         inl (record {
           answered = [];
@@ -222,92 +278,91 @@ ends_at_once left given taken status cause =
           front = 0;
           texts = refl;
         }),
-      )));
+      );
     }
 
--- the sink refused what waited
-pub stops_waiting : (left left_now : Option (List ℕ)) (u v : Option (List ℤ)) (a b c : Option (List ℕ)) (count : ℕ) (office : OfficeState) (waits : List ℕ) (skips : Bool) (held : List ℕ) (status : ℕ) → IsCause status → Midway left left_now u v a b count office waits skips held
-    → TakesFront b c waits → RunsLines left left_now u v a c status
-stops_waiting left left_now u v a b c count office waits skips held status cause at front =
-    let answered = at.answered in
-    let T : List ℕ → Type 0 = λ xs. TakesFront a c xs in
-    let S : List (List ℕ) → Type 0 = λ ls. Stopped a c answered.moments ls in
-    let took = subst T (sym answered.sent.2) (Grows-front a b c answered.sent.0 waits answered.sent.1 front) in
-    let below : length at.read < 4294967296 = omega (arith, at.long, at.below) in
-    ends_whole left left_now u v a c at.read answered.moments status cause below at.loses answered.gives
-    (subst S (sym (lines-behind at.read at.front at.part at.parts answered.closed)) (stopped_at a c (lines at.front) (lines (whole_part at.part)) answered.moments answered.texts office answered.run took))
+-- the output refused what waited
+pub stops_waiting : (begin : Outside) (left : Option (List ℕ)) (count : ℕ) (now : Progress) (written : Option (List ℕ)) (skips : Bool) (held : List ℕ) (status : ℕ) → IsCause status
+    → Midway begin left count now skips held → TakesFront now.written written now.waits → RunsLines begin (left_so left now written) status
+stops_waiting begin left count now written skips held status cause at front =
+    let done = at.answered.done in
+    let T : List ℕ → Type 0 = λ xs. TakesFront begin.written written xs in
+    let took = subst T (sym done.puts.2) (Grows-front begin.written now.written written done.puts.0 now.waits done.puts.1 front) in
+    let below : length at.read < input_limit = omega (arith, at.long, at.below) in
+    stops_within begin left now written status at.read at.front at.part done.moments done.texts cause below at.loses at.parts at.answered.closed done.gives done.answers took
 
--- the sink refused in a block
-pub stops_in : (left mid left_now : Option (List ℕ)) (u v w : Option (List ℤ)) (a b c : Option (List ℕ)) (count n most seen : ℕ) (office new : OfficeState) (waited waits : List ℕ) (skips skips_now : Bool) (held window held_now : List ℕ) (fault : SinkFault) (status : ℕ) → IsCause status
-    → seen ≡ length held → Midway left mid u v a b count office waited skips held → Fills mid left_now held window n most → count + n < 4294967296 → Goes seen skips window office new v w b c waited (Err fault) waits skips_now held_now
-    → RunsLines left left_now u w a c status
-stops_in left mid left_now u v w a b c count n most seen office new waited waits skips skips_now held window held_now fault status cause same at fills below goes =
-    let more = fills.0 in
-    let block = block_of held window more seen same fills.4 in
-    let H : List ℕ → Type 0 = λ xs. Holds skips xs at.part in
-    let then = goes at.part (subst H (sym block.front) at.holds) in
-    let next = goes_on {T = Unit {0}} {E = SinkFault} first_office office new at.front then.0 u v w a b c [] waited waits (Err fault) at.answered then.4 in
-    let parts = whole_parts at.read at.front at.part more then.0 then.1 at.parts (ap (λ xs. at.part ++ xs) (sym block.back) ∙ then.2) in
-    let closed = IsClosed-append at.front then.0 at.answered.closed then.3 in
-    let S : List (List ℕ) → Type 0 = λ ls. Stopped a c next.moments ls in
-    let short : length (at.read ++ more) < 4294967296 = omega (arith, length-append at.read more, at.long, fills.1) in
-    ends_whole left left_now u w a c (at.read ++ more) next.moments status cause short (Loses-join left mid left_now at.read more at.loses fills.3) next.gives
-    (subst S (sym (lines-behind (at.read ++ more) (at.front ++ then.0) then.1 parts closed)) (stopped_at a c (lines (at.front ++ then.0)) (lines (whole_part then.1)) next.moments next.texts new next.answers next.puts))
+-- the output refused in a block
+pub stops_in : (begin : Outside) (mid left : Option (List ℕ)) (count n most seen : ℕ) (now then : Progress) (skips skips_now : Bool) (held window held_now : List ℕ)
+    (fault : SinkFault) (status : ℕ) → IsCause status → seen ≡ length held → Midway begin mid count now skips held → Fills mid left held window n most → count + n < input_limit
+    → Goes seen skips window now (Err fault) then skips_now held_now → RunsLines begin (left_so left then then.written) status
+stops_in begin mid left count n most seen now then skips skips_now held window held_now fault status cause same at fills below goes =
+    let taken = goes_so begin mid left count n most seen now then skips skips_now held window held_now (Err fault) same at fills goes in
+    let all = further begin mid left count n most seen now then skips held window (Err fault) taken.0 taken.1 same at fills taken.2 taken.3 taken.4 in
+    let short : length all.read < input_limit = omega (arith, all.long) in
+    stops_within begin left then then.written status all.read all.front taken.1 all.done.moments all.done.texts cause short all.loses all.parts all.closed all.done.gives all.done.answers all.done.puts
 
--- the source failed
-pub fails_reading : (left mid left_now : Option (List ℕ)) (u v : Option (List ℤ)) (a c : Option (List ℕ)) (count : ℕ) (office : OfficeState) (waits : List ℕ) (skips : Bool) (held held_now : List ℕ) → waits ≡ [] → Midway left mid u v a c count office waits skips held → StaysUnread mid left_now held held_now
-    → RunsLines left left_now u v a c 3
-fails_reading left mid left_now u v a c count office waits skips held held_now empty at unread =
-    let answered = at.answered in
-    let L : List ℕ → Type 0 = λ xs. Loses left left_now xs in
-    let A : List (List ℕ) → Type 0 = λ ls. Answers first_office ls answered.moments answered.texts office in
-    let G : List ℕ → Type 0 = λ xs. Grows a c xs in
-    let below : length at.read < 4294967296 = omega (arith, at.long, at.below) in
-    let whole : lines (whole_part at.read) ≡ lines at.front = ap (λ xs. lines (whole_part xs)) at.parts ∙ ap lines (whole_part-is at.front at.part answered.closed (holds-none skips held at.part at.holds)) in
+-- all replies to the lines in front were written
+all_sent : (before after : Option (List ℕ)) (texts waits : List ℕ) → waits ≡ [] → Sends before after texts waits → Grows before after texts
+all_sent before after texts waits empty sent =
+    let G : List ℕ → Type 0 = λ xs. Grows before after xs in
+    subst G (sym (sent.2 ∙ (ap (λ xs. sent.0 ++ xs) empty ∙ append-nil sent.0))) sent.1
+
+-- the input failed
+pub fails_reading : (begin : Outside) (mid left : Option (List ℕ)) (count : ℕ) (now : Progress) (skips : Bool) (held held_now : List ℕ) → now.waits ≡ []
+    → Midway begin mid count now skips held → StaysUnread mid left held held_now → RunsLines begin (left_so left now now.written) 3
+fails_reading begin mid left count now skips held held_now empty at unread =
+    let done = at.answered.done in
+    let L : List ℕ → Type 0 = λ xs. Loses begin.left left xs in
+    let A : List Line → Type 0 = λ ls. Answers first_office ls done.moments done.texts now.office in
+    let below : length at.read < input_limit = omega (arith, at.long, at.below) in
+    let whole = lines-whole at.read at.front at.part at.parts at.answered.closed (holds-none skips held at.part at.holds) in
     record {
-      read = at.read;
-      moments = answered.moments;
-      written = answered.texts;
-      gives = answered.gives;
-      loses = subst L (append-nil at.read) (Loses-join left mid left_now at.read [] at.loses unread.0);
-      grows = subst G (sym (answered.sent.2 ∙ (ap (λ xs. answered.sent.0 ++ xs) empty ∙ append-nil answered.sent.0))) answered.sent.1;
-      ends = inr (inl (refl, below, (office, subst A (sym whole) answered.run)));
+      course = record { read = at.read; moments = done.moments; written = done.texts };
+      leads = record {
+        reads = subst L (append-nil at.read) (Loses-join begin.left mid left at.read [] at.loses unread.0);
+        gives = done.gives;
+        writes = all_sent begin.written now.written done.texts now.waits empty done.puts;
+      };
+      ends = inr (inl (refl, (below, (now.office, subst A (sym whole) done.answers))));
     }
 
 -- so many bytes were read that the run ends
-pub ends_too_long : (left mid left_now : Option (List ℕ)) (u v : Option (List ℤ)) (a c : Option (List ℕ)) (count n most : ℕ) (office : OfficeState) (waits : List ℕ) (skips : Bool) (held held_now : List ℕ) → waits ≡ [] → Midway left mid u v a c count office waits skips held → Fills mid left_now held held_now n most
-    → n ≤ 65536 → 0 < n → count + n ≡ 4294967296 → RunsLines left left_now u v a c 8
-ends_too_long left mid left_now u v a c count n most office waits skips held held_now empty at fills within some is =
+pub ends_too_long : (begin : Outside) (mid left : Option (List ℕ)) (count n most : ℕ) (now : Progress) (skips : Bool) (held held_now : List ℕ) → now.waits ≡ []
+    → Midway begin mid count now skips held → Fills mid left held held_now n most → n ≤ read_limit → 0 < n → count + n ≡ input_limit
+    → RunsLines begin (left_so left now now.written) 8
+ends_too_long begin mid left count n most now skips held held_now empty at fills within some is =
     let more = fills.0 in
-    let answered = at.answered in
-    let A : List (List ℕ) → Type 0 = λ ls. Answers first_office ls answered.moments answered.texts office in
-    let G : List ℕ → Type 0 = λ xs. Grows a c xs in
-    let whole : lines (whole_part at.read) ≡ lines at.front = ap (λ xs. lines (whole_part xs)) at.parts ∙ ap lines (whole_part-is at.front at.part answered.closed (holds-none skips held at.part at.holds)) in
-    let long : length (at.read ++ more) ≡ 4294967296 = length-append at.read more ∙ omega (arith, at.long, fills.1, is) in
+    let done = at.answered.done in
+    let A : List Line → Type 0 = λ ls. Answers first_office ls done.moments done.texts now.office in
+    let whole = lines-whole at.read at.front at.part at.parts at.answered.closed (holds-none skips held at.part at.holds) in
+    let long : length (at.read ++ more) ≡ input_limit = length-append at.read more ∙ omega (arith, at.long, fills.1, is) in
     record {
-      read = at.read ++ more;
-      moments = answered.moments;
-      written = answered.texts;
-      gives = answered.gives;
-      loses = Loses-join left mid left_now at.read more at.loses fills.3;
-      grows = subst G (sym (answered.sent.2 ∙ (ap (λ xs. answered.sent.0 ++ xs) empty ∙ append-nil answered.sent.0))) answered.sent.1;
-      ends = inr (inr (inr (refl, long, at.read, more, refl, omega (arith, fills.1), omega (arith, fills.1), (office, subst A (sym whole) answered.run))));
+      course = record { read = at.read ++ more; moments = done.moments; written = done.texts };
+      leads = record {
+        reads = Loses-join begin.left mid left at.read more at.loses fills.3;
+        gives = done.gives;
+        writes = all_sent begin.written now.written done.texts now.waits empty done.puts;
+      };
+      ends = inr (inr (inr (inr (
+        refl,
+        (at.read, more, refl, long, omega (arith, fills.1), omega (arith, fills.1), (now.office, subst A (sym whole) done.answers)),
+      ))));
     }
 
 -- ---- the input's end
 
 -- the input was read to its end
-pub record AtEnd (left left_now : Option (List ℕ)) (given given_now : Option (List ℤ)) (taken taken_now : Option (List ℕ)) (office : OfficeState) (waits : List ℕ) (skips : Bool) (held : List ℕ) : Type 0 where
+pub record AtEnd (begin : Outside) (left : Option (List ℕ)) (now : Progress) (skips : Bool) (held : List ℕ) : Type 0 where
   pub count : ℕ
-  pub midway : Midway left left_now given given_now taken taken_now count office waits skips held
-  pub ended : IsAtEnd left_now
+  pub midway : Midway begin left count now skips held
+  pub ended : IsAtEnd left
 
-pub reaches_end : (left mid left_now : Option (List ℕ)) (u v : Option (List ℤ)) (a c : Option (List ℕ)) (count n most : ℕ) (office : OfficeState) (waits : List ℕ) (skips : Bool) (held held_now : List ℕ) → n ≡ 0 → Midway left mid u v a c count office waits skips held → Fills mid left_now held held_now n most
-    → AtEnd left left_now u v a c office waits skips held_now
-reaches_end left mid left_now u v a c count n most office waits skips held held_now none_read at fills =
+pub reaches_end : (begin : Outside) (mid left : Option (List ℕ)) (count n most : ℕ) (now : Progress) (skips : Bool) (held held_now : List ℕ) → n ≡ 0
+    → Midway begin mid count now skips held → Fills mid left held held_now n most → AtEnd begin left now skips held_now
+reaches_end begin mid left count n most now skips held held_now none_read at fills =
     let none : fills.0 ≡ [] = length-none fills.0 (fills.1 ∙ none_read) in
     let same : held_now ≡ held = fills.4 ∙ (ap (λ xs. held ++ xs) none ∙ append-nil held) in
-    let L : List ℕ → Type 0 = λ xs. Loses left left_now xs in
+    let L : List ℕ → Type 0 = λ xs. Loses begin.left left xs in
     let H : List ℕ → Type 0 = λ xs. Holds skips xs at.part in
     record {
       count = count;
@@ -317,7 +372,7 @@ reaches_end left mid left_now u v a c count n most office waits skips held held_
         part = at.part;
         long = at.long;
         below = at.below;
-        loses = subst L (ap (λ xs. at.read ++ xs) none ∙ append-nil at.read) (Loses-join left mid left_now at.read fills.0 at.loses fills.3);
+        loses = subst L (ap (λ xs. at.read ++ xs) none ∙ append-nil at.read) (Loses-join begin.left mid left at.read fills.0 at.loses fills.3);
         parts = at.parts;
         answered = at.answered;
         holds = subst H (sym same) at.holds;
@@ -325,56 +380,68 @@ reaches_end left mid left_now u v a c count n most office waits skips held held_
       ended = fills.5 none_read;
     }
 
--- all lines were answered, whatever the sink did
-all_answered : {E : Type 0} (left left_now : Option (List ℕ)) (u v w : Option (List ℤ)) (a b c : Option (List ℕ)) (count : ℕ) (office new : OfficeState) (waits left_waits : List ℕ) (skips : Bool) (held : List ℕ) (result : Result (Unit {0}) E) (at : Midway left left_now u v a b count office waits skips held)
-    → AnswersAndPuts office (at.part ∷ []) new v w b c waits result left_waits → AnswersAndPuts first_office (lines at.read) new u w a c [] result left_waits
-all_answered left left_now u v w a b c count office new waits left_waits skips held result at then =
-    let answered = at.answered in
+-- the last line is answered, whatever the output does
+abbrev pub AnswersLast : {E : Type 0} → Bool → List ℕ → Progress → Result (Unit {0}) E → Progress → Type 0
+AnswersLast skips held now result then = (part : List ℕ) → Holds skips held part → AnswersAndPuts {T = Unit {0}} now (part ∷ []) result then
+
+-- and with it all lines
+all_answered : {E : Type 0} (begin : Outside) (left : Option (List ℕ)) (now then : Progress) (skips : Bool) (held : List ℕ) (result : Result (Unit {0}) E)
+    (end : AtEnd begin left now skips held) → AnswersLast skips held now result then → AnswersAndPuts (at_first begin) (lines end.midway.read) result then
+all_answered begin left now then skips held result end goes =
+    let at = end.midway in
+    let step = goes at.part at.holds in
     let last = cond (eqb (length at.part) 0) [] (at.part ∷ []) in
-    let whole : lines at.read ≡ lines at.front ++ last = ap lines at.parts ∙ lines-end at.front at.part answered.closed (holds-none skips held at.part at.holds) in
-    answers_more first_office office new at.front last (lines at.read) u v w a b c [] waits left_waits result whole answered
-    (record { moments = then.moments; texts = then.texts; gives = then.gives; answers = Answers-last office new at.part then.moments then.texts then.answers; puts = then.puts })
+    let whole : lines at.read ≡ lines at.front ++ last = ap lines at.parts ∙ lines-end at.front at.part at.answered.closed (holds-none skips held at.part at.holds) in
+    answers_more (at_first begin) now then at.front last (lines at.read) result whole at.answered
+    (record { moments = step.moments; texts = step.texts; gives = step.gives; answers = Answers-last now.office then.office at.part step.moments step.texts step.answers; puts = step.puts })
 
-ends_all : (left left_now : Option (List ℕ)) (u v : Option (List ℤ)) (a c : Option (List ℕ)) (read : List ℕ) (moments : List ℤ) (status : ℕ) → IsCause status → length read < 4294967296 → Loses left left_now read → IsAtEnd left_now → Gives u v moments → Stopped a c moments (lines read) → RunsLines left left_now u v a c status
-ends_all left left_now u v a c read moments status cause below loses ended gives stopped =
-    record { read = read; moments = moments; written = stopped.written; loses = loses; gives = gives; grows = stopped.grows; ends = inr (inr (inl (cause, below, inr (ended, stopped.answers)))) }
-
--- the sink refused the last reply
-pub stops_last : (left left_now : Option (List ℕ)) (u v w : Option (List ℤ)) (a b c : Option (List ℕ)) (office new : OfficeState) (waits left_waits : List ℕ) (skips : Bool) (held : List ℕ) (fault : SinkFault) (status : ℕ) → IsCause status → AtEnd left left_now u v a b office waits skips held
-    → ((part : List ℕ) → Holds skips held part → AnswersAndPuts {T = Unit {0}} office (part ∷ []) new v w b c waits (Err fault) left_waits) → RunsLines left left_now u w a c status
-stops_last left left_now u v w a b c office new waits left_waits skips held fault status cause end goes =
+stops_at_end : (begin : Outside) (left : Option (List ℕ)) (now then : Progress) (written : Option (List ℕ)) (skips : Bool) (held : List ℕ) (status : ℕ) (moments : List ℤ) (texts : List ℕ)
+    → IsCause status → (end : AtEnd begin left now skips held) → Gives begin.given then.given moments
+    → Answers first_office (lines end.midway.read) moments texts then.office → TakesFront begin.written written texts → RunsLines begin (left_so left then written) status
+stops_at_end begin left now then written skips held status moments texts cause end gives answers took =
     let at = end.midway in
-    let all = all_answered {E = SinkFault} left left_now u v w a b c end.count office new waits left_waits skips held (Err fault) at (goes at.part at.holds) in
-    let S : List (List ℕ) → Type 0 = λ ls. Stopped a c all.moments ls in
-    let below : length at.read < 4294967296 = omega (arith, at.long, at.below) in
-    ends_all left left_now u w a c at.read all.moments status cause below at.loses end.ended all.gives (subst S (append-nil (lines at.read)) (stopped_at a c (lines at.read) [] all.moments all.texts new all.answers all.puts))
+    let S : List Line → Type 0 = λ ls. Stopped begin.written written moments ls in
+    let stopped = subst S (append-nil (lines at.read)) (stopped_at begin.written written (lines at.read) [] moments texts then.office answers took) in
+    let below : length at.read < input_limit = omega (arith, at.long, at.below) in
+    let course : Course = record { read = at.read; moments = moments; written = stopped.written } in
+    record {
+      course = course;
+      leads = record { reads = at.loses; gives = gives; writes = stopped.grows };
+      ends = stops_so status course (left_so left then written) cause (below, inr (end.ended, stopped.answers));
+    }
 
--- the sink refused what waited at the end
-pub stops_sending : (left left_now : Option (List ℕ)) (u v w : Option (List ℤ)) (a b c d : Option (List ℕ)) (office new : OfficeState) (waits left_waits : List ℕ) (skips : Bool) (held : List ℕ) (status : ℕ) → IsCause status → AtEnd left left_now u v a b office waits skips held
-    → ((part : List ℕ) → Holds skips held part → AnswersAndPuts {T = Unit {0}} {E = SinkFault} office (part ∷ []) new v w b c waits (Ok (tt {0})) left_waits) → TakesFront c d left_waits → RunsLines left left_now u w a d status
-stops_sending left left_now u v w a b c d office new waits left_waits skips held status cause end goes front =
-    let at = end.midway in
-    let all = all_answered {E = SinkFault} left left_now u v w a b c end.count office new waits left_waits skips held (Ok (tt {0})) at (goes at.part at.holds) in
-    let S : List (List ℕ) → Type 0 = λ ls. Stopped a d all.moments ls in
-    let T : List ℕ → Type 0 = λ xs. TakesFront a d xs in
-    let took = subst T (sym all.puts.2) (Grows-front a c d all.puts.0 left_waits all.puts.1 front) in
-    let below : length at.read < 4294967296 = omega (arith, at.long, at.below) in
-    ends_all left left_now u w a d at.read all.moments status cause below at.loses end.ended all.gives (subst S (append-nil (lines at.read)) (stopped_at a d (lines at.read) [] all.moments all.texts new all.answers took))
+-- the output refused the last reply
+pub stops_last : (begin : Outside) (left : Option (List ℕ)) (now then : Progress) (skips : Bool) (held : List ℕ) (fault : SinkFault) (status : ℕ) → IsCause status
+    → AtEnd begin left now skips held → AnswersLast skips held now (Err fault) then → RunsLines begin (left_so left then then.written) status
+stops_last begin left now then skips held fault status cause end goes =
+    let all = all_answered begin left now then skips held (Err fault) end goes in
+    stops_at_end begin left now then then.written skips held status all.moments all.texts cause end all.gives all.answers all.puts
+
+-- the output refused what waited at the end
+pub stops_sending : (begin : Outside) (left : Option (List ℕ)) (now then : Progress) (written : Option (List ℕ)) (skips : Bool) (held : List ℕ) (status : ℕ) → IsCause status
+    → AtEnd begin left now skips held → AnswersLast {E = SinkFault} skips held now (Ok (tt {0})) then → TakesFront then.written written then.waits
+    → RunsLines begin (left_so left then written) status
+stops_sending begin left now then written skips held status cause end goes front =
+    let all = all_answered {E = SinkFault} begin left now then skips held (Ok (tt {0})) end goes in
+    let T : List ℕ → Type 0 = λ xs. TakesFront begin.written written xs in
+    let took = subst T (sym all.puts.2) (Grows-front begin.written then.written written all.puts.0 then.waits all.puts.1 front) in
+    stops_at_end begin left now then written skips held status all.moments all.texts cause end all.gives all.answers took
 
 -- all was written
-pub ends_well : (left left_now : Option (List ℕ)) (u v w : Option (List ℤ)) (a b c d : Option (List ℕ)) (office new : OfficeState) (waits left_waits : List ℕ) (skips : Bool) (held : List ℕ) → AtEnd left left_now u v a b office waits skips held
-    → ((part : List ℕ) → Holds skips held part → AnswersAndPuts {T = Unit {0}} {E = SinkFault} office (part ∷ []) new v w b c waits (Ok (tt {0})) left_waits) → Grows c d left_waits → RunsLines left left_now u w a d 0
-ends_well left left_now u v w a b c d office new waits left_waits skips held end goes more =
+pub ends_well : (begin : Outside) (left : Option (List ℕ)) (now then : Progress) (written : Option (List ℕ)) (skips : Bool) (held : List ℕ)
+    → AtEnd begin left now skips held → AnswersLast {E = SinkFault} skips held now (Ok (tt {0})) then → Grows then.written written then.waits
+    → RunsLines begin (left_so left then written) 0
+ends_well begin left now then written skips held end goes more =
     let at = end.midway in
-    let all = all_answered {E = SinkFault} left left_now u v w a b c end.count office new waits left_waits skips held (Ok (tt {0})) at (goes at.part at.holds) in
-    let G : List ℕ → Type 0 = λ xs. Grows a d xs in
-    let below : length at.read < 4294967296 = omega (arith, at.long, at.below) in
+    let all = all_answered {E = SinkFault} begin left now then skips held (Ok (tt {0})) end goes in
+    let G : List ℕ → Type 0 = λ xs. Grows begin.written written xs in
+    let below : length at.read < input_limit = omega (arith, at.long, at.below) in
     record {
-      read = at.read;
-      moments = all.moments;
-      written = all.texts;
-      loses = at.loses;
-      gives = all.gives;
-      grows = subst G (sym all.puts.2) (Grows-join a c d all.puts.0 left_waits all.puts.1 more);
-      ends = inl (refl, below, end.ended, (new, all.answers));
+      course = record { read = at.read; moments = all.moments; written = all.texts };
+      leads = record {
+        reads = at.loses;
+        gives = all.gives;
+        writes = subst G (sym all.puts.2) (Grows-join begin.written then.written written all.puts.0 then.waits all.puts.1 more);
+      };
+      ends = inl (refl, (below, end.ended, (then.office, all.answers)));
     }

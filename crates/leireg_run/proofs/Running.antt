@@ -1,5 +1,5 @@
 -- Runs over lines: how they are joined, and what a sink has of one that it stopped.
-use Rattle.std.proofs.Common.{◌≡◌, ℕ, ℤ, ◌+◌, ◌-◌, ◌≤◌, List, [], ◌∷◌, ◌++◌, length, take, drop, Bool, true, false, cond, eqb, inl, inr, Option, Some, None, Result, Ok, Err, IsErr, refl, sym, ap, ◌∙◌, subst, append_assoc, arith, length-append}
+use Rattle.std.proofs.Common.{◌≡◌, ℕ, ℤ, ◌+◌, ◌-◌, ◌≤◌, List, [], ◌∷◌, ◌++◌, length, take, drop, Bool, true, false, cond, eqb, inl, inr, Some, None, Result, Ok, Err, IsErr, refl, sym, ap, ◌∙◌, subst, append_assoc, arith, length-append}
 use Rattle.std.proofs.lemmas.List.{append-nil, take-append-drop, drop-drop}
 use Rattle.std.proofs.lemmas.List.Concat.{flat_map-append}
 use Rattle.std.proofs.Math.Seq.{take-add}
@@ -12,16 +12,15 @@ use Rattle.lei_office.specs.State.{OfficeState}
 use Rattle.lei_office.specs.Legal.{Session}
 use Rattle.leireg_run.specs.Requests.{asked}
 use Rattle.leireg_run.specs.Replies.{reply_text, reply_texts}
-use Rattle.leireg_run.specs.Moments.{Gives}
-use Rattle.leireg_run.specs.Runs.{asks_of, first_office, Answers, AnswersFront, AnswersAndPuts, AnswersWhole}
+use Rattle.leireg_run.specs.Runs.{asks_of, first_office, Answers, AnswersFront, AnswersAndPuts, AnswersWhole, Progress}
 use Rattle.leireg_run.proofs.Giving.{Gives-none, Gives-join}
-use Rattle.leireg_run.specs.Lines.{IsClosed, HasNoEnd, Ends, line_of}
+use Rattle.leireg_run.specs.Lines.{IsClosed, HasNoEnd, Ends, Line, line_of}
 use Rattle.leireg_run.specs.Outbox.{Sends, Puts}
 use Rattle.leireg_run.proofs.LineLemmas.{lines-more, HasNoEnd-nil, HasNoEnd-append, HasNoEnd-before, HasNoEnd-unfound, cut_at_end}
 use Rattle.leireg_run.proofs.Sending.{Sends-nothing, Puts-then}
 
-pub Session-join : (old mid new : OfficeState) (asks more : List Asked) (xs ys : List ℤ) (replies others : List Reply) → Session old asks xs replies mid → Session mid more ys others new
-    → Session old (asks ++ more) (xs ++ ys) (replies ++ others) new
+pub Session-join : (old mid new : OfficeState) (asks more : List Asked) (xs ys : List ℤ) (replies others : List Reply)
+    → Session old asks xs replies mid → Session mid more ys others new → Session old (asks ++ more) (xs ++ ys) (replies ++ others) new
 Session-join old mid new [] more xs ys [] others first second =
     let P : List ℤ → Type 0 = λ ms. Session old more (ms ++ ys) others new in
     let Q : OfficeState → Type 0 = λ h. Session h more ys others new in
@@ -51,76 +50,86 @@ Answers-join old mid new xs ys ms ns first second a b =
 pub Answers-nothing : (old : OfficeState) → Answers old [] [] [] old
 Answers-nothing old = record { replies = []; session = (refl, refl); texts = refl }
 
--- what a sink took of a run's texts before it stopped
-pub AnswersFront-of : (all more : List (List ℕ)) (moments : List ℤ) (texts : List ℕ) (new : OfficeState) (n : ℕ) → Answers first_office all moments texts new → AnswersFront (all ++ more) moments (take n texts)
+-- what an output took of a run's texts before it stopped
+pub AnswersFront-of : (all more : List Line) (moments : List ℤ) (texts : List ℕ) (new : OfficeState) (n : ℕ)
+    → Answers first_office all moments texts new → AnswersFront (all ++ more) moments (take n texts)
 AnswersFront-of all more moments texts new n run =
     record { answered = all; left = more; parts = refl; replies = run.replies; office = new; session = run.session; front = n; texts = ap (take n) run.texts }
 
 -- ---- lines that were answered in a call
 
 -- a line that asks nothing
-pub puts_nothing : {E : Type 0} (old : OfficeState) (line : List ℕ) (u : Option (List ℤ)) (a : Option (List ℕ)) (waits : List ℕ) → eqb (length line) 0 ≡ true → AnswersAndPuts {T = Unit {0}} {E = E} old (line ∷ []) old u u a a waits (Ok (tt {0})) waits
-puts_nothing old line u a waits is =
-    let S : Bool → Type 0 = λ b. Session old (cond b [] (asked line ∷ [])) [] [] old in
-    let P : List ℕ → Type 0 = λ all. Sends a a all waits in
+pub puts_nothing : {E : Type 0} (at : Progress) (line : Line) → eqb (length line) 0 ≡ true
+    → AnswersAndPuts {T = Unit {0}} {E = E} at (line ∷ []) (Ok (tt {0})) at
+puts_nothing at line is =
+    let S : Bool → Type 0 = λ b. Session at.office (cond b [] (asked line ∷ [])) [] [] at.office in
+    let P : List ℕ → Type 0 = λ all. Sends at.written at.written all at.waits in
     record {
       moments = [];
       texts = [];
-      gives = Gives-none u;
+      gives = Gives-none at.given;
       answers = record { replies = []; session = subst S (sym is) (refl, refl); texts = refl };
-      puts = subst P (sym (append-nil waits)) (Sends-nothing a waits);
+      puts = subst P (sym (append-nil at.waits)) (Sends-nothing at.written at.waits);
     }
 
 -- ---- whole lines that were answered, with nothing refused
 
-pub record Answered (old : OfficeState) (bytes : List ℕ) (new : OfficeState) (given given_now : Option (List ℤ)) (taken taken_now : Option (List ℕ)) (waited waits : List ℕ) : Type 0 where
+pub record Answered (before : Progress) (bytes : List ℕ) (after : Progress) : Type 0 where
   pub closed : IsClosed bytes
-  pub moments : List ℤ
-  pub texts : List ℕ
-  pub gives : Gives given given_now moments
-  pub run : Answers old (lines bytes) moments texts new
-  pub sent : Sends taken taken_now (waited ++ texts) waits
+  pub done : AnswersAndPuts {T = Unit {0}} {E = SinkFault} before (lines bytes) (Ok (tt {0})) after
 
-pub Answered-nothing : (old : OfficeState) (given : Option (List ℤ)) (taken : Option (List ℕ)) (waits : List ℕ) → Answered old [] old given given taken taken waits waits
-Answered-nothing old given taken waits =
-    let S : List ℕ → Type 0 = λ all. Sends taken taken all waits in
-    record { closed = inl refl; moments = []; texts = []; gives = Gives-none given; run = Answers-nothing old; sent = subst S (sym (append-nil waits)) (Sends-nothing taken waits) }
-
--- lines more, whatever the sink did with their replies
-pub answers_more : {T E : Type 0} (old mid new : OfficeState) (front : List ℕ) (more all : List (List ℕ)) (u v w : Option (List ℤ)) (a b c : Option (List ℕ)) (waited waits left : List ℕ) (result : Result T E) → all ≡ lines front ++ more
-    → Answered old front mid u v a b waited waits → AnswersAndPuts mid more new v w b c waits result left → AnswersAndPuts old all new u w a c waited result left
-answers_more old mid new front more all u v w a b c waited waits left result is before then =
-    let A : List (List ℕ) → Type 0 = λ ls. Answers old ls (before.moments ++ then.moments) (before.texts ++ then.texts) new in
-    let P : List ℕ → Type 0 = λ sent. Puts a c sent result left in
+pub Answered-nothing : (at : Progress) → Answered at [] at
+Answered-nothing at =
+    let S : List ℕ → Type 0 = λ all. Sends at.written at.written all at.waits in
     record {
-      moments = before.moments ++ then.moments;
-      texts = before.texts ++ then.texts;
-      gives = Gives-join u v w before.moments then.moments before.gives then.gives;
-      answers = subst A (sym is) (Answers-join old mid new (lines front) more before.moments then.moments before.texts then.texts before.run then.answers);
-      puts = subst P (append_assoc waited before.texts then.texts) (Puts-then a b c (waited ++ before.texts) waits then.texts left result before.sent then.puts);
+      closed = inl refl;
+      done = record {
+        moments = [];
+        texts = [];
+        gives = Gives-none at.given;
+        answers = Answers-nothing at.office;
+        puts = subst S (sym (append-nil at.waits)) (Sends-nothing at.written at.waits);
+      };
     }
 
--- what the sink refused is the same under any fault
-pub refused_as : {T S E D : Type 0} (old : OfficeState) (asked_lines : List (List ℕ)) (new : OfficeState) (u v : Option (List ℤ)) (a b : Option (List ℕ)) (waited waits : List ℕ) (fault : E) (other : D)
-    → AnswersAndPuts {T = T} old asked_lines new u v a b waited (Err fault) waits → AnswersAndPuts {T = S} old asked_lines new u v a b waited (Err other) waits
-refused_as old asked_lines new u v a b waited waits fault other run =
+-- lines more, whatever the output did with their replies
+pub answers_more : {T E : Type 0} (before mid after : Progress) (front : List ℕ) (more all : List Line) (result : Result T E)
+    → all ≡ lines front ++ more → Answered before front mid → AnswersAndPuts mid more result after → AnswersAndPuts before all result after
+answers_more before mid after front more all result is answered then =
+    let first = answered.done in
+    let A : List Line → Type 0 = λ ls. Answers before.office ls (first.moments ++ then.moments) (first.texts ++ then.texts) after.office in
+    let P : List ℕ → Type 0 = λ sent. Puts before.written after.written sent result after.waits in
+    record {
+      moments = first.moments ++ then.moments;
+      texts = first.texts ++ then.texts;
+      gives = Gives-join before.given mid.given after.given first.moments then.moments first.gives then.gives;
+      answers = subst A (sym is) (Answers-join before.office mid.office after.office (lines front) more first.moments then.moments first.texts then.texts first.answers then.answers);
+      puts = subst P (append_assoc before.waits first.texts then.texts)
+          (Puts-then before.written mid.written after.written (before.waits ++ first.texts) mid.waits then.texts after.waits result first.puts then.puts);
+    }
+
+-- what the output refused is the same under any fault
+pub refused_as : {T S E D : Type 0} (before after : Progress) (asked_lines : List Line) (fault : E) (other : D)
+    → AnswersAndPuts {T = T} before asked_lines (Err fault) after → AnswersAndPuts {T = S} before asked_lines (Err other) after
+refused_as before after asked_lines fault other run =
     record { moments = run.moments; texts = run.texts; gives = run.gives; answers = run.answers; puts = run.puts }
 
 -- a line more that ended
-regrouped : (front part after : List ℕ) → front ++ ((part ++ 10 ∷ []) ++ after) ≡ ((front ++ part) ++ 10 ∷ []) ++ after
-regrouped front part after =
-    sym (append_assoc front (part ++ 10 ∷ []) after) ∙ ap (λ xs. xs ++ after) (sym (append_assoc front part (10 ∷ [])))
+regrouped : (front part behind : List ℕ) → front ++ ((part ++ 10 ∷ []) ++ behind) ≡ ((front ++ part) ++ 10 ∷ []) ++ behind
+regrouped front part behind =
+    sym (append_assoc front (part ++ 10 ∷ []) behind) ∙ ap (λ xs. xs ++ behind) (sym (append_assoc front part (10 ∷ [])))
 
-pub line_more : {T E : Type 0} (old mid new : OfficeState) (front part : List ℕ) (u v w : Option (List ℤ)) (a b c : Option (List ℕ)) (waited waits more : List ℕ) (result : Result T E) → Answered old front mid u v a b waited waits
-    → HasNoEnd part → AnswersAndPuts mid (line_of part ∷ []) new v w b c waits result more → AnswersAndPuts old (lines ((front ++ part) ++ 10 ∷ [])) new u w a c waited result more
-line_more old mid new front part u v w a b c waited waits more result before none line =
-    answers_more old mid new front (line_of part ∷ []) (lines ((front ++ part) ++ 10 ∷ [])) u v w a b c waited waits more result (lines-more front part before.closed none) before line
+pub line_more : {T E : Type 0} (before mid after : Progress) (front part : List ℕ) (result : Result T E)
+    → Answered before front mid → HasNoEnd part → AnswersAndPuts mid (line_of part ∷ []) result after
+    → AnswersAndPuts before (lines ((front ++ part) ++ 10 ∷ [])) result after
+line_more before mid after front part result answered none line =
+    answers_more before mid after front (line_of part ∷ []) (lines ((front ++ part) ++ 10 ∷ [])) result (lines-more front part answered.closed none) answered line
 
 -- the state of a walk over a block: the lines in front were answered, and the rest has no end up to where it was seen
-pub record Walked (block : List ℕ) (old : OfficeState) (rest : List ℕ) (seen : ℕ) (new : OfficeState) (given given_now : Option (List ℤ)) (taken taken_now : Option (List ℕ)) (waited waits : List ℕ) : Type 0 where
+pub record Walked (block : List ℕ) (before : Progress) (rest : List ℕ) (seen : ℕ) (after : Progress) : Type 0 where
   pub front : List ℕ
   pub parts : block ≡ front ++ rest
-  pub answered : Answered old front new given given_now taken taken_now waited waits
+  pub answered : Answered before front after
   pub within : seen ≤ length rest
   pub unseen : HasNoEnd (take seen rest)
 
@@ -143,43 +152,45 @@ no_end rest seen unseen nowhere =
     let N : List ℕ → Type 0 = λ xs. HasNoEnd xs in
     subst N (take-append-drop seen rest) (HasNoEnd-append (take seen rest) (drop seen rest) unseen (HasNoEnd-unfound (drop seen rest) nowhere))
 
--- a step of the walk that the sink let go on
-pub walk_on : (block : List ℕ) (old mid new : OfficeState) (rest part after : List ℕ) (seen : ℕ) (u v w : Option (List ℤ)) (a b c : Option (List ℕ)) (waited waits more : List ℕ) → Walked block old rest seen mid u v a b waited waits → Ends rest part after
-    → AnswersAndPuts {T = Unit {0}} {E = SinkFault} mid (line_of part ∷ []) new v w b c waits (Ok (tt {0})) more → Walked block old after 0 new u w a c waited more
-walk_on block old mid new rest part after seen u v w a b c waited waits more walked ends line =
-    let next = line_more {T = Unit {0}} {E = SinkFault} old mid new walked.front part u v w a b c waited waits more (Ok (tt {0})) walked.answered ends.none line in
+-- a step of the walk that the output let go on
+pub walk_on : (block : List ℕ) (before mid after : Progress) (rest part behind : List ℕ) (seen : ℕ) → Walked block before rest seen mid → Ends rest part behind
+    → AnswersAndPuts {T = Unit {0}} {E = SinkFault} mid (line_of part ∷ []) (Ok (tt {0})) after → Walked block before behind 0 after
+walk_on block before mid after rest part behind seen walked ends line =
     record {
       front = (walked.front ++ part) ++ 10 ∷ [];
-      parts = walked.parts ∙ (ap (λ xs. walked.front ++ xs) ends.parts ∙ regrouped walked.front part after);
-      answered = record { closed = inr (walked.front ++ part, refl); moments = next.moments; texts = next.texts; gives = next.gives; run = next.answers; sent = next.puts };
+      parts = walked.parts ∙ (ap (λ xs. walked.front ++ xs) ends.parts ∙ regrouped walked.front part behind);
+      answered = record {
+        closed = inr (walked.front ++ part, refl);
+        done = line_more {T = Unit {0}} {E = SinkFault} before mid after walked.front part (Ok (tt {0})) walked.answered ends.none line;
+      };
       within = omega arith;
       unseen = HasNoEnd-nil;
     }
 
--- a step that the sink stopped
-pub walk_stops : (block : List ℕ) (old mid new : OfficeState) (rest part after : List ℕ) (seen : ℕ) (u v w : Option (List ℤ)) (a b c : Option (List ℕ)) (waited waits more : List ℕ) (fault : SinkFault) (result : Result ℕ SinkFault)
-    → IsErr result → Walked block old rest seen mid u v a b waited waits → Ends rest part after → AnswersAndPuts {T = Unit {0}} mid (line_of part ∷ []) new v w b c waits (Err fault) more
-    → AnswersWhole old block new u w a c waited result more
-walk_stops block old mid new rest part after seen u v w a b c waited waits more fault (Ok used) failed walked ends line = cc
-walk_stops block old mid new rest part after seen u v w a b c waited waits more fault (Err other) failed walked ends line = (
+-- a step that the output stopped
+pub walk_stops : (block : List ℕ) (before mid after : Progress) (rest part behind : List ℕ) (seen : ℕ) (fault : SinkFault) (result : Result ℕ SinkFault) → IsErr result
+    → Walked block before rest seen mid → Ends rest part behind → AnswersAndPuts {T = Unit {0}} mid (line_of part ∷ []) (Err fault) after
+    → AnswersWhole before block result after
+walk_stops block before mid after rest part behind seen fault (Ok used) failed walked ends line = cc
+walk_stops block before mid after rest part behind seen fault (Err other) failed walked ends line = (
   (walked.front ++ part) ++ 10 ∷ [],
-  after,
-  walked.parts ∙ (ap (λ xs. walked.front ++ xs) ends.parts ∙ regrouped walked.front part after),
+  behind,
+  walked.parts ∙ (ap (λ xs. walked.front ++ xs) ends.parts ∙ regrouped walked.front part behind),
   inr (walked.front ++ part, refl),
-  refused_as {T = Unit {0}} {S = ℕ} old (lines ((walked.front ++ part) ++ 10 ∷ [])) new u w a c waited more fault other
-      (line_more {T = Unit {0}} {E = SinkFault} old mid new walked.front part u v w a b c waited waits more (Err fault) walked.answered ends.none line),
+  refused_as {T = Unit {0}} {S = ℕ} before after (lines ((walked.front ++ part) ++ 10 ∷ [])) fault other
+      (line_more {T = Unit {0}} {E = SinkFault} before mid after walked.front part (Err fault) walked.answered ends.none line),
   tt,
 )
 
 -- the walk's end
-pub walk_ends : (block : List ℕ) (old new : OfficeState) (rest : List ℕ) (seen : ℕ) (u v : Option (List ℤ)) (a b : Option (List ℕ)) (waited waits : List ℕ) → Walked block old rest seen new u v a b waited waits
-    → HasNoEnd rest → AnswersWhole {E = SinkFault} old block new u v a b waited (Ok (length block - length rest)) waits
-walk_ends block old new rest seen u v a b waited waits walked none =
-    let answered = walked.answered in (
+pub walk_ends : (block : List ℕ) (before after : Progress) (rest : List ℕ) (seen : ℕ) → Walked block before rest seen after → HasNoEnd rest
+    → AnswersWhole {E = SinkFault} before block (Ok (length block - length rest)) after
+walk_ends block before after rest seen walked none =
+    let done = walked.answered.done in (
       walked.front,
       rest,
       walked.parts,
-      answered.closed,
-      record { moments = answered.moments; texts = answered.texts; gives = answered.gives; answers = answered.run; puts = answered.sent },
+      walked.answered.closed,
+      record { moments = done.moments; texts = done.texts; gives = done.gives; answers = done.answers; puts = done.puts },
       (omega (arith, ap length walked.parts, length-append walked.front rest), none),
     )

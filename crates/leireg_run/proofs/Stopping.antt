@@ -1,5 +1,5 @@
 -- What stopped a run over lines.
-use Rattle.std.proofs.Common.{◌≡◌, ◌≤◌, Result, Ok, Err, ◌<◌, IsErrAnd, inl, inr, refl, sym, ap, subst, arith, List, [], ◌∷◌, map, String, Global, string_bytes, length, slice_index_or}
+use Rattle.std.proofs.Common.{◌≡◌, Result, Ok, Err, IsErrAnd, IsErrOf, inl, inr, refl, sym, ap, subst}
 use Rattle.lei_outside.specs.declared.faults.SinkFault.{SinkFault}
 use Rattle.lei_outside.specs.declared.faults.SinkFault.TheVariants.{Failed, NoMemory}
 use Rattle.leireg_run.specs.declared.status.Stop.{Stop}
@@ -26,8 +26,8 @@ pub read_status : (result : Result (Unit {0}) Stop) → IsErrAnd result (λ e. e
 read_status (Ok done) is = absurd is
 read_status (Err e) is = ap stop_status is
 
--- words that are one word
-pub one_word : (words : List (String Global)) (word : String Global) → 1 ≤ length words → length words < 2 → word ≡ slice_index_or words 0 word → map string_bytes words ≡ string_bytes word ∷ []
-one_word [] word some few is = absurd (omega arith)
-one_word (first ∷ []) word some few is = ap (λ w. string_bytes w ∷ []) (sym is)
-one_word (first ∷ next ∷ more) word some few is = absurd (omega arith)
+-- a write fault comes only where the output failed
+pub sink_failed : (fault : SinkFault) (result : Result (Unit {0}) Stop) → IsErrAnd result (IsOf fault) → IsErrOf result stop.WriteFault → fault ≡ Failed
+sink_failed Failed result of is = refl
+sink_failed NoMemory (Ok done) of is = absurd of
+sink_failed NoMemory (Err e) of is = cc

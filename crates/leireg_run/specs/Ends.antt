@@ -1,7 +1,7 @@
 -- How a run ends, by its command and its status.
-use Rattle.std.specs.Prelude.{◌≡◌, ◌<◌, ◌≤◌, ℕ, ℤ, List, [], ◌++◌, ◌⊎◌, length, Contains, Option, Some}
+use Rattle.std.specs.Prelude.{◌≡◌, ◌<◌, ◌≤◌, ℕ, ℤ, List, ◌++◌, ◌⊎◌, length, Contains, Some}
 use Rattle.std.specs.Str.Lines.{lines}
-use Rattle.lei_outside.specs.Told.{Grows, Loses, IsAtEnd}
+use Rattle.lei_outside.specs.Told.{Grows, IsAtEnd}
 use Rattle.lei_code.specs.Fault.{fault_of}
 use Rattle.lei_office.specs.declared.reply.Refusal.TheVariants.{NoMemory}
 use Rattle.lei_office.specs.declared.reply.Reply.{Reply}
@@ -9,71 +9,94 @@ use Rattle.lei_office.specs.declared.reply.Reply.TheVariants.{Words}
 use Rattle.lei_office.specs.State.{OfficeState}
 use Rattle.lei_office.specs.Legal.{Session, replies_to}
 use Rattle.leireg_run.specs.Codes.{check_line, digits_fault, digits_line, told_status, TellsLine}
-use Rattle.leireg_run.specs.Lines.{whole_part}
+use Rattle.leireg_run.specs.Limits.{input_limit, read_limit}
+use Rattle.leireg_run.specs.Lines.{Line, whole_part}
 use Rattle.leireg_run.specs.Moments.{Gives}
+use Rattle.leireg_run.specs.Outside.{Course, Leads, Outside}
 use Rattle.leireg_run.specs.Replies.{reply_texts}
 use Rattle.leireg_run.specs.Runs.{asks_of, first_office, Answers, AnswersFront}
 use Rattle.leireg_run.specs.Words.{Meant, to_answer_lines, to_check, to_make_digits}
 
--- The lines were answered at these moments, from an office without entries, and these bytes are the texts of the
--- replies.
-abbrev pub AreAnswered : List (List ℕ) → List ℤ → List ℕ → Type 0
-AreAnswered asked_lines moments written = (office : OfficeState) × Answers first_office asked_lines moments written office
+-- ---- a run over lines, status by status
 
--- Status 0: the input was read to its end, and all its lines were answered.
-abbrev pub IsDone : ℕ → Option (List ℕ) → List ℕ → List ℤ → List ℕ → Type 0
-IsDone status left read moments written = (status ≡ 0) × (length read < 4294967296) × IsAtEnd left × AreAnswered (lines read) moments written
+-- the lines were answered at the moments of the run, from an office without entries, and what was written are the texts
+-- of the replies in order
+abbrev pub AnswersLines : List Line → Course → Type 0
+AnswersLines asked_lines course =
+    (office : OfficeState) × Answers first_office asked_lines course.moments course.written office
 
--- Status 3: the source failed, and the lines that ended in the bytes read were answered.
-abbrev pub IsReadFault : ℕ → List ℕ → List ℤ → List ℕ → Type 0
-IsReadFault status read moments written = (status ≡ 3) × (length read < 4294967296) × AreAnswered (lines (whole_part read)) moments written
+-- a front of the lines was answered so, and what was written is a front of the texts of the replies
+abbrev pub AnswersSome : List Line → Course → Type 0
+AnswersSome some_lines course = AnswersFront some_lines course.moments course.written
 
--- Status 4 or 6: the sink failed, or memory was wanted. A front of the lines that ended was answered; where the input
--- was read to its end, all its lines ended.
-abbrev pub IsStopped : ℕ → Option (List ℕ) → List ℕ → List ℤ → List ℕ → Type 0
-IsStopped status left read moments written =
-    ((status ≡ 4) ⊎ (status ≡ 6)) × (length read < 4294967296) × (AnswersFront (lines (whole_part read)) moments written ⊎ (IsAtEnd left × AnswersFront (lines read) moments written))
+-- fewer bytes were read than end a run
+abbrev pub IsShort : Course → Type 0
+IsShort course = length course.read < input_limit
 
--- Status 8: so many bytes were read, and the lines were answered that had ended before the last read.
-abbrev pub IsTooLong : ℕ → List ℕ → List ℤ → List ℕ → Type 0
-IsTooLong status read moments written =
-    (status ≡ 8) × (length read ≡ 4294967296) × (before : List ℕ) × (last : List ℕ) × (read ≡ before ++ last) × (0 < length last) × (length last ≤ 65536) × AreAnswered (lines (whole_part before)) moments written
+-- Status 0: the input was read to its end, which came before the limit, and all its lines were answered.
+abbrev pub ReadsAll : Course → Outside → Type 0
+ReadsAll course after = IsShort course × IsAtEnd after.left × AnswersLines (lines course.read) course
 
--- A run over lines took bytes from its source, moments from its clock, and gave bytes to its sink, and ended in one of
--- these ways.
-pub record RunsLines (left left_now : Option (List ℕ)) (given given_now : Option (List ℤ)) (taken taken_now : Option (List ℕ)) (status : ℕ) : Type 0 where
-  pub read : List ℕ
-  pub moments : List ℤ
-  pub written : List ℕ
-  pub loses : Loses left left_now read
-  pub gives : Gives given given_now moments
-  pub grows : Grows taken taken_now written
-  pub ends : IsDone status left_now read moments written
-      ⊎ (IsReadFault status read moments written ⊎ (IsStopped status left_now read moments written ⊎ IsTooLong status read moments written))
+-- Status 3, a read failed: the lines that had ended were answered.
+abbrev pub StopsReading : Course → Type 0
+StopsReading course = IsShort course × AnswersLines (lines (whole_part course.read)) course
 
--- What was meant was done, with this status. The source, the clock and the sink are seen by what they tell.
-abbrev pub Does : Meant → Option (List ℕ) → Option (List ℕ) → Option (List ℤ) → Option (List ℤ) → Option (List ℕ) → Option (List ℕ) → ℕ → Type 0
-Does to_answer_lines left left_now given given_now taken taken_now status = RunsLines left left_now given given_now taken taken_now status
-Does (to_check text) left left_now given given_now taken taken_now status = TellsLine (fault_of text) (check_line text) taken taken_now status
-Does (to_make_digits text) left left_now given given_now taken taken_now status = TellsLine (digits_fault text) (digits_line text) taken taken_now status
+-- Status 4, a write failed, and status 6, memory was wanted: a front of the lines that had ended was answered, and a
+-- front of the texts of the replies is written. Where the input was read to its end, its last line had ended too.
+abbrev pub StopsWriting : Course → Outside → Type 0
+StopsWriting course after =
+    IsShort course × (AnswersSome (lines (whole_part course.read)) course
+    ⊎ (IsAtEnd after.left × AnswersSome (lines course.read) course))
+
+-- Status 8, the input is too long: as many bytes were read as end a run, and the lines that had ended before the last
+-- read were answered.
+abbrev pub StopsAtLimit : Course → Type 0
+StopsAtLimit course =
+    (before : List ℕ) × (last : List ℕ) × (course.read ≡ before ++ last) × (length course.read ≡ input_limit)
+    × (0 < length last) × (length last ≤ read_limit) × AnswersLines (lines (whole_part before)) course
+
+-- how a run over lines ends, by its status
+abbrev pub EndsWith : ℕ → Course → Outside → Type 0
+EndsWith status course after =
+    ((status ≡ 0) × ReadsAll course after)
+    ⊎ ((status ≡ 3) × StopsReading course)
+    ⊎ ((status ≡ 4) × StopsWriting course after)
+    ⊎ ((status ≡ 6) × StopsWriting course after)
+    ⊎ ((status ≡ 8) × StopsAtLimit course)
+
+-- what a run over lines does to the outside, and how it ends
+pub record RunsLines (before after : Outside) (status : ℕ) : Type 0 where
+  pub course : Course
+  pub leads : Leads before course after
+  pub ends : EndsWith status course after
+
+-- ---- any command
+
+-- What was meant was done, with this status: the lines of the input were answered, or the line of a text was written.
+abbrev pub Does : Meant → Outside → Outside → ℕ → Type 0
+Does to_answer_lines before after status = RunsLines before after status
+Does (to_check text) before after status =
+    TellsLine (fault_of text) (check_line text) before.written after.written status
+Does (to_make_digits text) before after status =
+    TellsLine (digits_fault text) (digits_line text) before.written after.written status
 
 -- All of these bytes were read, their lines answered at moments of the clock, and the replies written, with status 0.
 -- Where memory is never wanting, the replies are those that the lines and the moments determine.
-pub record IsComplete (bytes : List ℕ) (left_now : Option (List ℕ)) (given given_now : Option (List ℤ)) (taken taken_now : Option (List ℕ)) (status : ℕ) : Type 0 where
+pub record IsComplete (bytes : List ℕ) (before after : Outside) (status : ℕ) : Type 0 where
   pub ok : status ≡ 0
-  pub ended : IsAtEnd left_now
+  pub ended : IsAtEnd after.left
   pub moments : List ℤ
-  pub gives : Gives given given_now moments
+  pub gives : Gives before.given after.given moments
   pub replies : List Reply
   pub office : OfficeState
   pub session : Session first_office (asks_of (lines bytes)) moments replies office
-  pub grows : Grows taken taken_now (reply_texts replies)
+  pub writes : Grows before.written after.written (reply_texts replies)
   pub exact : ¬ (Contains replies (Words NoMemory)) → replies ≡ replies_to first_office (asks_of (lines bytes)) moments
 
 -- Where nothing fails and no memory is wanting, all is done: an input that is told and short enough is answered whole,
 -- and a text is told, with status 0 or 2.
-abbrev pub Completes : Meant → Option (List ℕ) → Option (List ℕ) → Option (List ℤ) → Option (List ℤ) → Option (List ℕ) → Option (List ℕ) → ℕ → Type 0
-Completes to_answer_lines left left_now given given_now taken taken_now status =
-    (bytes : List ℕ) → left ≡ Some bytes → length bytes < 4294967296 → IsComplete bytes left_now given given_now taken taken_now status
-Completes (to_check text) left left_now given given_now taken taken_now status = status ≡ told_status (fault_of text)
-Completes (to_make_digits text) left left_now given given_now taken taken_now status = status ≡ told_status (digits_fault text)
+abbrev pub Completes : Meant → Outside → Outside → ℕ → Type 0
+Completes to_answer_lines before after status =
+    (bytes : List ℕ) → before.left ≡ Some bytes → length bytes < input_limit → IsComplete bytes before after status
+Completes (to_check text) before after status = status ≡ told_status (fault_of text)
+Completes (to_make_digits text) before after status = status ≡ told_status (digits_fault text)

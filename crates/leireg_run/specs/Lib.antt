@@ -1,5 +1,7 @@
+pub mod Limits
 pub mod Requests
 pub mod Replies
+pub mod Outside
 pub mod Outbox
 pub mod Runs
 pub mod Window

@@ -4,6 +4,18 @@ use Rattle.std.specs.Prelude.{◌≡◌, ◌≢◌, ℕ, ◌⊎◌, ◌==◌, Bo
 use Rattle.std.specs.List.{All, list_any}
 use Rattle.std.specs.Str.Lines.{strip_carriage_return}
 
+-- a line without its end, byte by byte
+abbrev pub Line : Type 0
+Line = List ℕ
+
+-- LF, the end of a line
+abbrev pub line_feed : List ℕ
+line_feed = 10 ∷ []
+
+-- CR, which may stand before an LF
+abbrev pub carriage_return : List ℕ
+carriage_return = 13 ∷ []
+
 -- no byte ends a line
 abbrev pub HasNoEnd : List ℕ → Type 0
 HasNoEnd bytes = All (λ byte. byte ≢ 10) bytes
@@ -13,7 +25,7 @@ abbrev pub IsClosed : List ℕ → Type 0
 IsClosed bytes = (bytes ≡ []) ⊎ ((before : List ℕ) × (bytes ≡ before ++ 10 ∷ []))
 
 -- the line that has these bytes before its LF
-abbrev pub line_of : List ℕ → List ℕ
+abbrev pub line_of : List ℕ → Line
 line_of part = strip_carriage_return part
 
 -- the bytes are a part before the first LF, the LF, and what comes after it
@@ -21,6 +33,7 @@ pub record Ends (bytes part after : List ℕ) : Type 0 where
   pub parts : bytes ≡ (part ++ 10 ∷ []) ++ after
   pub none : HasNoEnd part
 
+-- a byte ends a line
 abbrev pub has_end : List ℕ → Bool
 has_end bytes = list_any (λ byte. byte == 10) bytes
 

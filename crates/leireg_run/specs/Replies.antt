@@ -1,10 +1,11 @@
--- The bytes of a reply: its code, a space, its text, and the end of the line.
+-- The bytes of replies.
 use Rattle.std.specs.Prelude.{List, [], ◌∷◌, ◌++◌, ℕ, decimal, flat_map}
-use Rattle.lei_office.specs.Words.{reply_code, reply_words}
+use Rattle.lei_office.specs.Words.{reply_status_code, reply_words}
 use Rattle.lei_office.specs.declared.reply.Reply.{Reply}
 
+-- the bytes of a reply: its status code, a space, its text, and the end of the line
 unfoldable pub reply_text : Reply → List ℕ
-reply_text reply = decimal (reply_code reply) ++ 32 ∷ (reply_words reply ++ 10 ∷ [])
+reply_text reply = decimal (reply_status_code reply) ++ 32 ∷ (reply_words reply ++ 10 ∷ [])
 
 -- the bytes of replies in order
 abbrev pub reply_texts : List Reply → List ℕ

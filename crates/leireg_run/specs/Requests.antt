@@ -3,71 +3,97 @@ use Rattle.std.specs.Prelude.{ℕ, ◌+◌, ◌==◌, List, take, drop, length, 
 use Rattle.std.specs.Str.{bytes_eq}
 use Rattle.std.specs.Str.Parse.{digits_value}
 use Rattle.lei_code.specs.Fault.{fault_of}
+use Rattle.lei_code.specs.Texts.{Lei, Text}
+use Rattle.lei_office.specs.Legal.{TakesMemoryToRead}
+use Rattle.lei_office.specs.Limits.{number_limit}
 use Rattle.lei_office.specs.declared.request.Request.{Request}
-use Rattle.lei_office.specs.declared.request.Request.TheVariants.{Accredit, Upload, Show}
+use Rattle.lei_office.specs.declared.request.Request.TheVariants as requests
 use Rattle.lei_office.specs.declared.request.Asked.{Asked}
 use Rattle.lei_office.specs.declared.request.Asked.TheVariants.{Ask, Refuse}
 use Rattle.lei_office.specs.declared.reply.Refusal.TheVariants.{TooLong, NoRoute, Path}
+use Rattle.leireg_run.specs.Limits.{line_limit}
+use Rattle.leireg_run.specs.Lines.{Line}
+use Rattle.leireg_run.specs.declared.requests.FirstWord.{FirstWord}
+use Rattle.leireg_run.specs.declared.requests.FirstWord.TheVariants.{Accredit, Upload, Show}
 
+-- the value that comes of the first, where there is one, and of what is made of it
 infixl 10 ◌>>=◌
 abbrev pub ◌>>=◌ : {A B : Type 0} → Option A → (A → Option B) → Option B
 o >>= f = option_and_then f o
+
+-- ---- words
 
 -- the bytes before the first space and those behind it, where there is a space
 abbrev pub cut : List ℕ → Option (List ℕ × List ℕ)
 cut bytes = option_map (λ n. (take n bytes, drop (n + 1) bytes)) (position (λ b. b == 32) bytes)
 
--- the bytes, where they are a code
-abbrev pub code_of : List ℕ → Option (List ℕ)
+-- the bytes, where they are an LEI
+abbrev pub code_of : List ℕ → Option Lei
 code_of bytes = if is_none (fault_of bytes) then Some bytes else None
 
--- the number, where it lies from 1 to 1,000,000 and the bytes are just its decimal text
+-- the number, where it lies from 1 to its limit and the bytes are just its decimal text
 abbrev pub plain_number : List ℕ → ℕ → Option ℕ
-plain_number bytes n = if nat_le 1 n && nat_le n 1000000 && bytes_eq (decimal n) bytes then Some n else None
+plain_number bytes n = if nat_le 1 n && nat_le n number_limit && bytes_eq (decimal n) bytes then Some n else None
 
--- the number from 1 to 1,000,000 that is written so in decimal, without sign or leading zero
+-- the number from 1 to its limit that is written so in decimal, without sign or leading zero
 unfoldable pub number_of : List ℕ → Option ℕ
 number_of bytes = plain_number bytes (digits_value 10 bytes)
 
--- ACCREDIT: the rest is a code
+-- ---- requests, by what stands behind the first word and its space
+
+-- ACCREDIT: the rest is an LEI
 abbrev pub accreditation_of : List ℕ → Option Request
-accreditation_of rest = option_map Accredit (code_of rest)
+accreditation_of rest = option_map requests.Accredit (code_of rest)
 
--- SHOW: the rest is a code
+-- SHOW: the rest is an LEI
 abbrev pub show_of : List ℕ → Option Request
-show_of rest = option_map Show (code_of rest)
+show_of rest = option_map requests.Show (code_of rest)
 
--- UPLOAD: a code, a number, and all that follows the space behind it as the body
+-- UPLOAD: an LEI, a number, and all that follows the space behind it as the body
 unfoldable pub upload_of : List ℕ → Option Request
 upload_of rest = do
   first ← cut rest
   second ← cut first.1
   office ← code_of first.0
   number ← number_of second.0
-  Some (Upload (record { office = office; number = number; body = second.1 }))
+  Some (requests.Upload (record { office = office; number = number; body = second.1 }))
 
+-- The first words of lines that ask something, each as it is written. Another word is none.
+abbrev pub first_word : List ℕ → Option FirstWord
+first_word word =
+    if bytes_eq word (codes "ACCREDIT") then Some Accredit
+    else (if bytes_eq word (codes "UPLOAD") then Some Upload
+    else (if bytes_eq word (codes "SHOW") then Some Show else None))
+
+-- the request that a first word makes with what stands behind its space, where there is a space
+abbrev pub request_by : FirstWord → Option (List ℕ) → Option Request
+request_by Accredit rest = rest >>= accreditation_of
+request_by Upload rest = rest >>= upload_of
+request_by Show rest = rest >>= show_of
+
+-- ---- lines
+
+-- a request is asked, or the words behind the first one are not those of a request
 abbrev pub or_path : Option Request → Asked
 or_path None = Refuse Path
 or_path (Some request) = Ask request
 
--- what is asked by a first word, and the rest of the line behind its space if there is one
-unfoldable pub asked_by : List ℕ → Option (List ℕ) → Asked
-asked_by word rest = if bytes_eq word (codes "ACCREDIT") then or_path (rest >>= accreditation_of)
-    else (if bytes_eq word (codes "UPLOAD") then or_path (rest >>= upload_of)
-    else (if bytes_eq word (codes "SHOW") then or_path (rest >>= show_of) else Refuse NoRoute))
+-- what is asked by a first word and what stands behind its space
+abbrev pub asked_by : Option FirstWord → Option (List ℕ) → Asked
+asked_by None rest = Refuse NoRoute
+asked_by (Some word) rest = or_path (request_by word rest)
 
-abbrev pub asked_in : List ℕ → Option (List ℕ × List ℕ) → Asked
-asked_in line None = asked_by line None
-asked_in line (Some parts) = asked_by parts.0 (Some parts.1)
+-- the same, of a line that was cut at its first space if it has one
+abbrev pub asked_in : Line → Option (List ℕ × List ℕ) → Asked
+asked_in line None = asked_by (first_word line) None
+asked_in line (Some parts) = asked_by (first_word parts.0) (Some parts.1)
 
--- The first of these: the line has more than 4,194,340 bytes; its first word is unknown; its other words are not those of a request;
--- or what it asks.
-unfoldable pub asked : List ℕ → Asked
-asked line = if nat_lt 4194340 (length line) then Refuse TooLong else asked_in line (cut line)
+-- The first of these: the line is too long; its first word is unknown; its other words are not those of a request; or
+-- what it asks.
+unfoldable pub asked : Line → Asked
+asked line = if nat_lt line_limit (length line) then Refuse TooLong else asked_in line (cut line)
 
--- an upload, whose body takes memory to be read
-abbrev pub IsUpload : Asked → Type 0
-IsUpload (Refuse refusal) = ⊥
-IsUpload (Ask (Accredit office)) = ⊥
-IsUpload (Ask (Upload call)) = Unit {0}
-IsUpload (Ask (Show lei)) = ⊥
+-- a request is asked whose reading takes memory
+abbrev pub MayWantMemory : Asked → Type 0
+MayWantMemory (Refuse refusal) = ⊥
+MayWantMemory (Ask request) = TakesMemoryToRead request

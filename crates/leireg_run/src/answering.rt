@@ -1,9 +1,9 @@
 //! Lines that are answered.
 ghost use Rattle.std.specs.Prelude.{◌≡◌, ◌≤◌, ◌<◌, ◌+◌, [], ◌∷◌, length, take, drop, IfSome, IfNone, IsErrOf};
-ghost use Rattle.lei_outside.specs.Count.{Rose};
+ghost use Rattle.lei_outside.specs.Faults.{FailsLast};
 ghost use Rattle.lei_outside.specs.Clock.{Gave, IsClockMoment};
 ghost use Rattle.leireg_run.specs.Lines.{HasNoEnd, Ends, line_of};
-ghost use Rattle.leireg_run.specs.Runs.{AnswersLine, AnswersAndPuts, AnswersWhole};
+ghost use Rattle.leireg_run.specs.Runs.{progress, AnswersLine, AnswersAndPuts, AnswersWhole};
 
 use crate::outbox::Outbox;
 use crate::requests::line_request;
@@ -53,9 +53,11 @@ pub fn answer_line<R: Threads + Sync, W: Sink, C: Clock>(
     outbox: &mut Outbox,
     out: &mut W,
 ) -> Result<(), SinkFault>
-    ensures answered { AnswersAndPuts office.old (line.now ∷ []) office.new (C.given clock.old) (C.given clock.new) (W.taken out.old) (W.taken out.new) outbox.old result outbox.new }
-    ensures count { W.faults out.old ≤ W.faults out.new }
-    ensures failed { IsErrOf result SinkFault.Failed → Rose (W.faults out.old) (W.faults out.new) }
+    ensures answered { AnswersAndPuts
+        (progress office.old outbox.old (C.given clock.old) (W.taken out.old)) (line.now ∷ []) result
+        (progress office.new outbox.new (C.given clock.new) (W.taken out.new)) }
+    ensures kept { ¬ (IsErrOf result SinkFault.Failed) → W.faults out.new ≡ W.faults out.old }
+    ensures failed { IsErrOf result SinkFault.Failed → FailsLast W.taken W.faults out.old out.new }
 {
     if line.is_empty() {
         return Ok(());
@@ -103,9 +105,11 @@ pub fn answer_lines<R: Threads + Sync, W: Sink, C: Clock>(
 ) -> Result<usize, SinkFault>
     requires within { seen ≤ length block.now }
     requires seen { HasNoEnd (take seen block.now) }
-    ensures answered { AnswersWhole office.old block.now office.new (C.given clock.old) (C.given clock.new) (W.taken out.old) (W.taken out.new) outbox.old result outbox.new }
-    ensures count { W.faults out.old ≤ W.faults out.new }
-    ensures failed { IsErrOf result SinkFault.Failed → Rose (W.faults out.old) (W.faults out.new) }
+    ensures answered { AnswersWhole
+        (progress office.old outbox.old (C.given clock.old) (W.taken out.old)) block.now result
+        (progress office.new outbox.new (C.given clock.new) (W.taken out.new)) }
+    ensures kept { ¬ (IsErrOf result SinkFault.Failed) → W.faults out.new ≡ W.faults out.old }
+    ensures failed { IsErrOf result SinkFault.Failed → FailsLast W.taken W.faults out.old out.new }
 {
     let mut rest = block;
     while let Some(end) = next_end(rest, seen) {

@@ -1,8 +1,8 @@
-//! The commands over a single code. They take no memory.
-ghost use Rattle.std.specs.Prelude.{◌≡◌, ◌≤◌, [], Some, flat_map, IfOk, IsErrOf};
+//! The commands over a single text. They take no memory.
+ghost use Rattle.std.specs.Prelude.{◌≡◌, [], Some, flat_map, IfOk, IsErrOf};
 ghost use Rattle.std.specs.Result.{result_err};
 ghost use Rattle.lei_code.specs.Digits.{digits};
-ghost use Rattle.lei_outside.specs.Count.{Rose};
+ghost use Rattle.lei_outside.specs.Faults.{FailsLast};
 ghost use Rattle.lei_code.specs.Fault.{fault_of};
 ghost use Rattle.leireg_run.specs.Codes.{check_line, digits_fault, digits_line, line_or, IsWritten, TellsLine};
 ghost use Rattle.leireg_run.specs.Status.{end_status};
@@ -11,11 +11,12 @@ use crate::status::Stop;
 use lei_code::{Lei, LeiFault, check_digits};
 use lei_outside::{Sink, SinkFault, write_all};
 
-/// Writes whether the text is a code, or why it is none.
+/// Writes whether the text is an LEI, or why it is none.
 pub fn check<W: Sink>(text: &str, out: &mut W) -> Result<(), Stop>
-    ensures tells { TellsLine (fault_of text.now) (check_line text.now) (W.taken out.old) (W.taken out.new) (end_status result) }
-    ensures count { W.faults out.old ≤ W.faults out.new }
-    ensures failed { IsErrOf result Stop.WriteFault → Rose (W.faults out.old) (W.faults out.new) }
+    ensures tells { TellsLine (fault_of text.now) (check_line text.now)
+        (W.taken out.old) (W.taken out.new) (end_status result) }
+    ensures kept { ¬ (IsErrOf result Stop.WriteFault) → W.faults out.new ≡ W.faults out.old }
+    ensures failed { IsErrOf result Stop.WriteFault → FailsLast W.taken W.faults out.old out.new }
 {
     match Lei::read(text.as_bytes()) {
         Ok(_) => Ok(write_pieces(out, &[b"valid", b"\n"])?),
@@ -23,11 +24,12 @@ pub fn check<W: Sink>(text: &str, out: &mut W) -> Result<(), Stop>
     }
 }
 
-/// Writes the check digits that make the text a code, or why there are none.
+/// Writes the check digits that make the text an LEI, or why there are none.
 pub fn digits<W: Sink>(text: &str, out: &mut W) -> Result<(), Stop>
-    ensures tells { TellsLine (digits_fault text.now) (digits_line text.now) (W.taken out.old) (W.taken out.new) (end_status result) }
-    ensures count { W.faults out.old ≤ W.faults out.new }
-    ensures failed { IsErrOf result Stop.WriteFault → Rose (W.faults out.old) (W.faults out.new) }
+    ensures tells { TellsLine (digits_fault text.now) (digits_line text.now)
+        (W.taken out.old) (W.taken out.new) (end_status result) }
+    ensures kept { ¬ (IsErrOf result Stop.WriteFault) → W.faults out.new ≡ W.faults out.old }
+    ensures failed { IsErrOf result Stop.WriteFault → FailsLast W.taken W.faults out.old out.new }
 {
     match digits_of(text.as_bytes()) {
         Ok(digits) => Ok(write_pieces(out, &[&digits, b"\n"])?),
@@ -47,9 +49,10 @@ fn digits_of(text: &[u8]) -> Result<[u8; 2], LeiFault>
 
 // Writes the refusal of a text.
 fn refuse<W: Sink>(fault: LeiFault, out: &mut W) -> Result<(), Stop>
-    ensures tells { TellsLine (Some fault) (line_or [] (Some fault)) (W.taken out.old) (W.taken out.new) (end_status result) }
-    ensures count { W.faults out.old ≤ W.faults out.new }
-    ensures failed { IsErrOf result Stop.WriteFault → Rose (W.faults out.old) (W.faults out.new) }
+    ensures tells { TellsLine (Some fault) (line_or [] (Some fault))
+        (W.taken out.old) (W.taken out.new) (end_status result) }
+    ensures kept { ¬ (IsErrOf result Stop.WriteFault) → W.faults out.new ≡ W.faults out.old }
+    ensures failed { IsErrOf result Stop.WriteFault → FailsLast W.taken W.faults out.old out.new }
 {
     write_refusal(fault, out)?;
     Err(Stop::Refused)
@@ -57,14 +60,14 @@ fn refuse<W: Sink>(fault: LeiFault, out: &mut W) -> Result<(), Stop>
 
 fn write_refusal<W: Sink>(fault: LeiFault, out: &mut W) -> Result<(), SinkFault>
     ensures written { IsWritten (W.taken out.old) (W.taken out.new) (line_or [] (Some fault)) result }
-    ensures count { W.faults out.old ≤ W.faults out.new }
-    ensures failed { IsErrOf result SinkFault.Failed → Rose (W.faults out.old) (W.faults out.new) }
+    ensures kept { ¬ (IsErrOf result SinkFault.Failed) → W.faults out.new ≡ W.faults out.old }
+    ensures failed { IsErrOf result SinkFault.Failed → FailsLast W.taken W.faults out.old out.new }
 {
     match fault {
         LeiFault::Length => write_pieces(out, &[b"refused LENGTH", b"\n"]),
-        LeiFault::Character(place) => {
+        LeiFault::Character(position) => {
             let mut number = itoa::Buffer::new();
-            let number = number.format(place).as_bytes();
+            let number = number.format(position).as_bytes();
             write_pieces(out, &[b"refused CHARACTER ", number, b"\n"])
         }
         LeiFault::CheckDigits => write_pieces(out, &[b"refused CHECK_DIGITS", b"\n"]),
@@ -73,8 +76,8 @@ fn write_refusal<W: Sink>(fault: LeiFault, out: &mut W) -> Result<(), SinkFault>
 
 fn write_pieces<W: Sink>(out: &mut W, pieces: &[&[u8]]) -> Result<(), SinkFault>
     ensures written { IsWritten (W.taken out.old) (W.taken out.new) (flat_map (λ piece. piece.now) pieces.now) result }
-    ensures count { W.faults out.old ≤ W.faults out.new }
-    ensures failed { IsErrOf result SinkFault.Failed → Rose (W.faults out.old) (W.faults out.new) }
+    ensures kept { ¬ (IsErrOf result SinkFault.Failed) → W.faults out.new ≡ W.faults out.old }
+    ensures failed { IsErrOf result SinkFault.Failed → FailsLast W.taken W.faults out.old out.new }
 {
     for piece in pieces {
         write_all(out, piece)?;

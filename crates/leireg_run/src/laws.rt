@@ -1,9 +1,30 @@
 //! Laws of the definitions. Each is the contract of a function that does nothing.
-ghost use Rattle.std.specs.Prelude.{ℕ, ℤ, List};
+ghost use Rattle.std.specs.Prelude.{◌≡◌, [], ◌∷◌, ◌++◌, codes, ℕ, ℤ, List};
+ghost use Rattle.std.specs.Str.Lines.{lines};
+ghost use Rattle.leireg_run.specs.Lines.{carriage_return, line_feed};
 ghost use Rattle.leireg_run.specs.Runs.{AnswersFront, IsWrittenFront};
 
-/// What is written of a run that the sink stopped belongs to a front of the lines: their replies are written whole,
+/// What is written of a run that the output stopped belongs to a front of the lines: their replies are written whole,
 /// but for the last, of which perhaps only a front is.
 pub fn stopped_runs_are_runs()
-    ensures { (all : List (List ℕ)) (moments : List ℤ) (written : List ℕ) → AnswersFront all moments written → IsWrittenFront all moments written }
+    ensures { (all : List (List ℕ)) (moments : List ℤ) (written : List ℕ) →
+        AnswersFront all moments written → IsWrittenFront all moments written }
+{}
+
+/// What std's `lines` makes of the ends of lines, by worked inputs: LF ends a line, and one CR before it belongs to the
+/// end. Behind the last LF a line stands only where there is a byte, and a CR there stays in it.
+pub fn lines_end_at_line_feeds()
+    ensures each { lines (codes "one" ++ line_feed ++ codes "two" ++ line_feed)
+        ≡ codes "one" ∷ codes "two" ∷ [] }
+    ensures with_cr { lines (codes "one" ++ carriage_return ++ line_feed ++ codes "two")
+        ≡ codes "one" ∷ codes "two" ∷ [] }
+    ensures two_crs { lines (codes "one" ++ carriage_return ++ carriage_return ++ line_feed)
+        ≡ (codes "one" ++ carriage_return) ∷ [] }
+    ensures cr_alone { lines (codes "one" ++ carriage_return ++ codes "two")
+        ≡ (codes "one" ++ carriage_return ++ codes "two") ∷ [] }
+    ensures last_cr { lines (codes "one" ++ carriage_return) ≡ (codes "one" ++ carriage_return) ∷ [] }
+    ensures no_end { lines (codes "one") ≡ codes "one" ∷ [] }
+    ensures empty_lines { lines (line_feed ++ carriage_return ++ line_feed ++ codes "one")
+        ≡ [] ∷ [] ∷ codes "one" ∷ [] }
+    ensures nothing { lines [] ≡ [] }
 {}

@@ -1,7 +1,7 @@
 //! Replies that wait to be written, so that writing goes by blocks.
 ghost use Rattle.std.specs.Prelude.{◌≡◌, ◌≤◌, ◌+◌, ◌++◌, [], length, vec_len, vec_capacity, IfOk, OnOk, OnErr, IsErrOf};
 ghost use Rattle.lei_outside.specs.Told.{Grows, TakesFront};
-ghost use Rattle.lei_outside.specs.Count.{Rose};
+ghost use Rattle.lei_outside.specs.Faults.{FailsLast};
 ghost use Rattle.leireg_run.specs.Outbox.{Sends};
 
 use lei_outside::{NoMemory, Sink, SinkFault, write_all};
@@ -42,8 +42,8 @@ impl Outbox {
     pub fn put<W: Sink>(&mut self, out: &mut W, piece: &[u8]) -> Result<(), SinkFault>
         ensures ok { OnOk result (Sends (W.taken out.old) (W.taken out.new) (self.old ++ piece.now) self.new) }
         ensures err { OnErr result (TakesFront (W.taken out.old) (W.taken out.new) (self.old ++ piece.now)) }
-        ensures count { W.faults out.old ≤ W.faults out.new }
-        ensures failed { IsErrOf result SinkFault.Failed → Rose (W.faults out.old) (W.faults out.new) }
+        ensures kept { ¬ (IsErrOf result SinkFault.Failed) → W.faults out.new ≡ W.faults out.old }
+        ensures failed { IsErrOf result SinkFault.Failed → FailsLast W.taken W.faults out.old out.new }
     {
         if piece.len() <= BLOCK - self.held.len() {
             append(&mut self.held, piece);
@@ -62,8 +62,8 @@ impl Outbox {
         ensures ok { OnOk result (Grows (W.taken out.old) (W.taken out.new) self.old) }
         ensures empty { OnOk result (self.new ≡ []) }
         ensures err { OnErr result (TakesFront (W.taken out.old) (W.taken out.new) self.old) }
-        ensures count { W.faults out.old ≤ W.faults out.new }
-        ensures failed { IsErrOf result SinkFault.Failed → Rose (W.faults out.old) (W.faults out.new) }
+        ensures kept { ¬ (IsErrOf result SinkFault.Failed) → W.faults out.new ≡ W.faults out.old }
+        ensures failed { IsErrOf result SinkFault.Failed → FailsLast W.taken W.faults out.old out.new }
     {
         write_all(out, &self.held)?;
         self.held.clear();

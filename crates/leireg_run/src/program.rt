@@ -1,7 +1,9 @@
 //! The program's run, from its words, its input, its output and its clock to its status.
-ghost use Rattle.std.specs.Prelude.{◌≡◌, ◌≢◌, ◌≤◌, ◌↔◌, None, map, string_bytes, IsErrOf};
+ghost use Rattle.std.specs.Prelude.{◌≡◌, ◌≢◌, ◌↔◌, None, map, string_bytes, IsErrOf};
 ghost use Rattle.lei_outside.specs.Count.{Rose};
+ghost use Rattle.lei_outside.specs.Faults.{FailsLast};
 ghost use Rattle.leireg_run.specs.Ends.{RunsLines, Does, Completes};
+ghost use Rattle.leireg_run.specs.Outside.{outside};
 ghost use Rattle.leireg_run.specs.Status.{end_status};
 ghost use Rattle.leireg_run.specs.Words.{Meant, to_answer_lines, meant, meaning, Mean};
 
@@ -32,13 +34,18 @@ pub fn run<R: Threads + Sync, S: Source, W: Sink, C: Clock>(
     ensures untouched { result ≡ 1 → out.new ≡ out.old }
     ensures unread { ¬ (Mean words.now to_answer_lines) → input.new ≡ input.old }
     ensures unasked { ¬ (Mean words.now to_answer_lines) → clock.new ≡ clock.old }
-    ensures does { (what : Meant) → Mean words.now what → Does what (S.left input.old) (S.left input.new) (C.given clock.old) (C.given clock.new) (W.taken out.old) (W.taken out.new) result }
-    ensures input_count { S.faults input.old ≤ S.faults input.new }
-    ensures out_count { W.faults out.old ≤ W.faults out.new }
-    ensures read_fault { result ≡ 3 → Rose (S.faults input.old) (S.faults input.new) }
-    ensures write_fault { result ≡ 4 → Rose (W.faults out.old) (W.faults out.new) }
-    ensures complete { (what : Meant) → Mean words.now what → ¬ (Rose (S.faults input.old) (S.faults input.new)) → ¬ (Rose (W.faults out.old) (W.faults out.new)) → result ≢ 6
-        → Completes what (S.left input.old) (S.left input.new) (C.given clock.old) (C.given clock.new) (W.taken out.old) (W.taken out.new) result }
+    ensures does { (what : Meant) → Mean words.now what → Does what
+        (outside (S.left input.old) (C.given clock.old) (W.taken out.old))
+        (outside (S.left input.new) (C.given clock.new) (W.taken out.new)) result }
+    ensures read_fault { result ≡ 3 → FailsLast S.left S.faults input.old input.new }
+    ensures no_read_fault { result ≢ 3 → S.faults input.new ≡ S.faults input.old }
+    ensures write_fault { result ≡ 4 → FailsLast W.taken W.faults out.old out.new }
+    ensures no_write_fault { result ≢ 4 → W.faults out.new ≡ W.faults out.old }
+    ensures complete { (what : Meant) → Mean words.now what → result ≢ 6
+        → ¬ (Rose (S.faults input.old) (S.faults input.new)) → ¬ (Rose (W.faults out.old) (W.faults out.new))
+        → Completes what
+        (outside (S.left input.old) (C.given clock.old) (W.taken out.old))
+        (outside (S.left input.new) (C.given clock.new) (W.taken out.new)) result }
 {
     let Some(command) = command_of(words) else {
         return USAGE;
@@ -59,11 +66,13 @@ fn run_command<R: Threads + Sync, S: Source, W: Sink, C: Clock>(
 ) -> Result<(), Stop>
     ensures unread { ¬ (meaning command.now ≡ to_answer_lines) → input.new ≡ input.old }
     ensures unasked { ¬ (meaning command.now ≡ to_answer_lines) → clock.new ≡ clock.old }
-    ensures does { Does (meaning command.now) (S.left input.old) (S.left input.new) (C.given clock.old) (C.given clock.new) (W.taken out.old) (W.taken out.new) (end_status result) }
-    ensures input_count { S.faults input.old ≤ S.faults input.new }
-    ensures out_count { W.faults out.old ≤ W.faults out.new }
-    ensures read_fault { IsErrOf result Stop.ReadFault → Rose (S.faults input.old) (S.faults input.new) }
-    ensures write_fault { IsErrOf result Stop.WriteFault → Rose (W.faults out.old) (W.faults out.new) }
+    ensures does { Does (meaning command.now)
+        (outside (S.left input.old) (C.given clock.old) (W.taken out.old))
+        (outside (S.left input.new) (C.given clock.new) (W.taken out.new)) (end_status result) }
+    ensures read_fault { IsErrOf result Stop.ReadFault → FailsLast S.left S.faults input.old input.new }
+    ensures no_read_fault { ¬ (IsErrOf result Stop.ReadFault) → S.faults input.new ≡ S.faults input.old }
+    ensures write_fault { IsErrOf result Stop.WriteFault → FailsLast W.taken W.faults out.old out.new }
+    ensures no_write_fault { ¬ (IsErrOf result Stop.WriteFault) → W.faults out.new ≡ W.faults out.old }
 {
     match command {
         Command::Lines => run_lines(rt, alloc, input, out, clock),
@@ -79,11 +88,13 @@ fn run_lines<R: Threads + Sync, S: Source, W: Sink, C: Clock>(
     out: &mut W,
     clock: &mut C,
 ) -> Result<(), Stop>
-    ensures runs { RunsLines (S.left input.old) (S.left input.new) (C.given clock.old) (C.given clock.new) (W.taken out.old) (W.taken out.new) (end_status result) }
-    ensures input_count { S.faults input.old ≤ S.faults input.new }
-    ensures out_count { W.faults out.old ≤ W.faults out.new }
-    ensures read_fault { IsErrOf result Stop.ReadFault → Rose (S.faults input.old) (S.faults input.new) }
-    ensures write_fault { IsErrOf result Stop.WriteFault → Rose (W.faults out.old) (W.faults out.new) }
+    ensures runs { RunsLines
+        (outside (S.left input.old) (C.given clock.old) (W.taken out.old))
+        (outside (S.left input.new) (C.given clock.new) (W.taken out.new)) (end_status result) }
+    ensures read_fault { IsErrOf result Stop.ReadFault → FailsLast S.left S.faults input.old input.new }
+    ensures no_read_fault { ¬ (IsErrOf result Stop.ReadFault) → S.faults input.new ≡ S.faults input.old }
+    ensures write_fault { IsErrOf result Stop.WriteFault → FailsLast W.taken W.faults out.old out.new }
+    ensures no_write_fault { ¬ (IsErrOf result Stop.WriteFault) → W.faults out.new ≡ W.faults out.old }
 {
     let mut reader = Reader::new(alloc)?;
     let mut read = 0;

@@ -1,11 +1,11 @@
 //! The reader of lines: it answers those that are whole, and holds the one that has no end yet.
 ghost use Rattle.std.specs.Prelude.{◌≤◌, [], ◌∷◌, ◌++◌, ◌≡◌, List, ℕ, length, take, drop, IfOk, IsErrOf};
-ghost use Rattle.lei_outside.specs.Count.{Rose};
+ghost use Rattle.lei_outside.specs.Faults.{FailsLast};
 ghost use Rattle.leireg_run.specs.Lines.{HasNoEnd};
 ghost use Rattle.leireg_run.specs.Outbox.{Puts};
 ghost use Rattle.leireg_run.specs.Reading.{Holds, TakesIn};
 ghost use Rattle.leireg_run.specs.Replies.{reply_text};
-ghost use Rattle.leireg_run.specs.Runs.{first_office, AnswersAndPuts};
+ghost use Rattle.leireg_run.specs.Runs.{first_office, progress, AnswersAndPuts};
 
 use crate::answering::{answer_line, answer_lines};
 use crate::outbox::Outbox;
@@ -55,9 +55,13 @@ impl Reader {
     ) -> Result<(), SinkFault>
         requires within { seen ≤ length self.old.window }
         requires seen { HasNoEnd (take seen self.old.window) }
-        ensures answered { (part : List ℕ) → Holds self.old.skips (take seen self.old.window) part → TakesIn part (drop seen self.old.window) self.old.office self.new.office (C.given clock.old) (C.given clock.new) (W.taken out.old) (W.taken out.new) self.old.outbox result self.new.outbox self.new.skips self.new.window }
-        ensures count { W.faults out.old ≤ W.faults out.new }
-        ensures failed { IsErrOf result SinkFault.Failed → Rose (W.faults out.old) (W.faults out.new) }
+        ensures answered { (part : List ℕ) → Holds self.old.skips (take seen self.old.window) part
+            → TakesIn part (drop seen self.old.window)
+            (progress self.old.office self.old.outbox (C.given clock.old) (W.taken out.old)) result
+            (progress self.new.office self.new.outbox (C.given clock.new) (W.taken out.new))
+            self.new.skips self.new.window }
+        ensures kept { ¬ (IsErrOf result SinkFault.Failed) → W.faults out.new ≡ W.faults out.old }
+        ensures failed { IsErrOf result SinkFault.Failed → FailsLast W.taken W.faults out.old out.new }
     {
         if self.skips {
             if !self.window.skip_line() {
@@ -79,9 +83,12 @@ impl Reader {
     ) -> Result<(), SinkFault>
         requires within { seen ≤ length self.old.window }
         requires seen { HasNoEnd (take seen self.old.window) }
-        ensures answered { TakesIn [] self.old.window self.old.office self.new.office (C.given clock.old) (C.given clock.new) (W.taken out.old) (W.taken out.new) self.old.outbox result self.new.outbox self.new.skips self.new.window }
-        ensures count { W.faults out.old ≤ W.faults out.new }
-        ensures failed { IsErrOf result SinkFault.Failed → Rose (W.faults out.old) (W.faults out.new) }
+        ensures answered { TakesIn [] self.old.window
+            (progress self.old.office self.old.outbox (C.given clock.old) (W.taken out.old)) result
+            (progress self.new.office self.new.outbox (C.given clock.new) (W.taken out.new))
+            self.new.skips self.new.window }
+        ensures kept { ¬ (IsErrOf result SinkFault.Failed) → W.faults out.new ≡ W.faults out.old }
+        ensures failed { IsErrOf result SinkFault.Failed → FailsLast W.taken W.faults out.old out.new }
     {
         let block = self.window.bytes();
         let used = answer_lines(
@@ -109,9 +116,11 @@ impl Reader {
         clock: &mut C,
         out: &mut W,
     ) -> Result<(), SinkFault>
-        ensures answered { (part : List ℕ) → Holds self.old.skips self.old.window part → AnswersAndPuts self.old.office (part ∷ []) self.new.office (C.given clock.old) (C.given clock.new) (W.taken out.old) (W.taken out.new) self.old.outbox result self.new.outbox }
-        ensures count { W.faults out.old ≤ W.faults out.new }
-        ensures failed { IsErrOf result SinkFault.Failed → Rose (W.faults out.old) (W.faults out.new) }
+        ensures answered { (part : List ℕ) → Holds self.old.skips self.old.window part → AnswersAndPuts
+            (progress self.old.office self.old.outbox (C.given clock.old) (W.taken out.old)) (part ∷ []) result
+            (progress self.new.office self.new.outbox (C.given clock.new) (W.taken out.new)) }
+        ensures kept { ¬ (IsErrOf result SinkFault.Failed) → W.faults out.new ≡ W.faults out.old }
+        ensures failed { IsErrOf result SinkFault.Failed → FailsLast W.taken W.faults out.old out.new }
     {
         if self.skips {
             return put_too_long(&mut self.outbox, out);
@@ -131,9 +140,10 @@ impl Reader {
 
 // Puts the reply to a line that is too long.
 fn put_too_long<W: Sink>(outbox: &mut Outbox, out: &mut W) -> Result<(), SinkFault>
-    ensures puts { Puts (W.taken out.old) (W.taken out.new) (outbox.old ++ reply_text (Reply.Words Refusal.TooLong)) result outbox.new }
-    ensures count { W.faults out.old ≤ W.faults out.new }
-    ensures failed { IsErrOf result SinkFault.Failed → Rose (W.faults out.old) (W.faults out.new) }
+    ensures puts { Puts (W.taken out.old) (W.taken out.new)
+        (outbox.old ++ reply_text (Reply.Words Refusal.TooLong)) result outbox.new }
+    ensures kept { ¬ (IsErrOf result SinkFault.Failed) → W.faults out.new ≡ W.faults out.old }
+    ensures failed { IsErrOf result SinkFault.Failed → FailsLast W.taken W.faults out.old out.new }
 {
     put_reply(outbox, out, &Reply::Words(Refusal::TooLong))
 }

@@ -1,7 +1,7 @@
 //! What a line asks.
 ghost use Rattle.std.specs.Prelude.{◌≡◌, None, Some, option_map, option_and_then, position, decimal, length, ◌==◌, ◌<◌, ◌↔◌, IfOk, IfSome, OnErr, IsTrue};
 ghost use Rattle.std.specs.Option.{option_copied};
-ghost use Rattle.leireg_run.specs.Requests.{cut, code_of, number_of, accreditation_of, show_of, upload_of, asked_by, asked, or_path, IsUpload};
+ghost use Rattle.leireg_run.specs.Requests.{cut, code_of, number_of, accreditation_of, show_of, upload_of, first_word, request_by, asked_by, asked, or_path, MayWantMemory};
 
 use lei_code::Lei;
 use lei_office::{Asked, Call, MAX_NUMBER, Refusal, Request};
@@ -10,6 +10,14 @@ use std::alloc::Global;
 
 /// The greatest length of a line, without its end, in bytes. This project's profile.
 pub const MAX_LINE: usize = 4_194_340;
+
+// The first words of lines that ask something.
+#[derive(Clone, Copy)]
+enum FirstWord {
+    Accredit,
+    Upload,
+    Show,
+}
 
 fn first_space(bytes: &[u8]) -> Option<usize>
     ensures first { result ≡ position (λ byte. byte == 32) bytes.now }
@@ -28,6 +36,7 @@ fn cut(bytes: &[u8]) -> Option<(&[u8], &[u8])>
     }
 }
 
+// The LEI that the bytes are.
 fn code_of(bytes: &[u8]) -> Option<Lei>
     ensures { result ≡ code_of bytes.now }
 {
@@ -66,7 +75,7 @@ fn is_decimal(text: &str, number: u32) -> bool
 #[tactic(auto, unfolding(crate::specs::Requests::upload_of))]
 fn upload_of(alloc: Global, rest: &[u8]) -> Result<Option<Request>, NoMemory>
     ensures ok { IfOk result (λ request. request ≡ upload_of rest.now) }
-    ensures err { OnErr result (IsUpload (or_path (upload_of rest.now))) }
+    ensures err { OnErr result (MayWantMemory (or_path (upload_of rest.now))) }
 {
     let Some((office, rest)) = cut(rest) else {
         return Ok(None);
@@ -102,13 +111,35 @@ fn show_of(rest: &[u8]) -> Option<Request>
     }
 }
 
-// What is asked where there is such a request, and the refusal where there is none.
-fn or_path(request: Option<Request>) -> Asked
-    ensures { result ≡ or_path request }
+fn first_word(word: &[u8]) -> Option<FirstWord>
+    ensures { result ≡ first_word word.now }
 {
-    match request {
-        Some(request) => Asked::Ask(request),
-        None => Asked::Refuse(Refusal::Path),
+    if word == b"ACCREDIT".as_slice() {
+        return Some(FirstWord::Accredit);
+    }
+    if word == b"UPLOAD".as_slice() {
+        return Some(FirstWord::Upload);
+    }
+    if word == b"SHOW".as_slice() {
+        return Some(FirstWord::Show);
+    }
+    None
+}
+
+// The request that a first word makes with what stands behind its space, if there is one.
+fn request_by(
+    alloc: Global,
+    word: FirstWord,
+    rest: Option<&[u8]>,
+) -> Result<Option<Request>, NoMemory>
+    ensures ok { IfOk result (λ found. found ≡ request_by word (option_copied rest.entry)) }
+    ensures err { OnErr result (MayWantMemory (or_path (request_by word (option_copied rest.entry)))) }
+{
+    match (word, rest) {
+        (FirstWord::Accredit, Some(rest)) => Ok(accreditation_of(rest)),
+        (FirstWord::Upload, Some(rest)) => upload_of(alloc, rest),
+        (FirstWord::Show, Some(rest)) => Ok(show_of(rest)),
+        (_, None) => Ok(None),
     }
 }
 
@@ -117,60 +148,26 @@ fn or_path(request: Option<Request>) -> Asked
 #[tactic(auto, unfolding(crate::specs::Requests::asked))]
 pub fn line_request(alloc: Global, line: &[u8]) -> Result<Asked, NoMemory>
     ensures ok { IfOk result (λ found. found ≡ asked line.now) }
-    ensures err { OnErr result (IsUpload (asked line.now)) }
+    ensures err { OnErr result (MayWantMemory (asked line.now)) }
 {
     if line.len() > MAX_LINE {
         return Ok(Asked::Refuse(Refusal::TooLong));
     }
     match cut(line) {
-        Some((word, rest)) => asked_by(alloc, word, Some(rest)),
-        None => asked_by(alloc, line, None),
+        Some((word, rest)) => asked_by(alloc, first_word(word), Some(rest)),
+        None => asked_by(alloc, first_word(line), None),
     }
 }
 
-#[tactic(auto, unfolding(crate::specs::Requests::asked_by))]
-fn asked_by(alloc: Global, word: &[u8], rest: Option<&[u8]>) -> Result<Asked, NoMemory>
-    ensures ok { IfOk result (λ found. found ≡ asked_by word.now (option_copied rest.entry)) }
-    ensures err { OnErr result (IsUpload (asked_by word.now (option_copied rest.entry))) }
+fn asked_by(alloc: Global, word: Option<FirstWord>, rest: Option<&[u8]>) -> Result<Asked, NoMemory>
+    ensures ok { IfOk result (λ found. found ≡ asked_by word (option_copied rest.entry)) }
+    ensures err { OnErr result (MayWantMemory (asked_by word (option_copied rest.entry))) }
 {
-    if word == b"ACCREDIT".as_slice() {
-        return Ok(accreditation_asked(rest));
-    }
-    if word == b"UPLOAD".as_slice() {
-        return upload_asked(alloc, rest);
-    }
-    if word == b"SHOW".as_slice() {
-        return Ok(show_asked(rest));
-    }
-    Ok(Asked::Refuse(Refusal::NoRoute))
-}
-
-fn accreditation_asked(rest: Option<&[u8]>) -> Asked
-    ensures { result ≡ or_path (option_and_then accreditation_of (option_copied rest.entry)) }
-{
-    match rest {
-        Some(rest) => or_path(accreditation_of(rest)),
-        None => Asked::Refuse(Refusal::Path),
-    }
-}
-
-fn show_asked(rest: Option<&[u8]>) -> Asked
-    ensures { result ≡ or_path (option_and_then show_of (option_copied rest.entry)) }
-{
-    match rest {
-        Some(rest) => or_path(show_of(rest)),
-        None => Asked::Refuse(Refusal::Path),
-    }
-}
-
-fn upload_asked(alloc: Global, rest: Option<&[u8]>) -> Result<Asked, NoMemory>
-    ensures ok { IfOk result
-        (λ found. found ≡ or_path (option_and_then upload_of (option_copied rest.entry))) }
-    ensures err { OnErr result
-        (IsUpload (or_path (option_and_then upload_of (option_copied rest.entry)))) }
-{
-    match rest {
-        Some(rest) => Ok(or_path(upload_of(alloc, rest)?)),
+    let Some(word) = word else {
+        return Ok(Asked::Refuse(Refusal::NoRoute));
+    };
+    match request_by(alloc, word, rest)? {
+        Some(request) => Ok(Asked::Ask(request)),
         None => Ok(Asked::Refuse(Refusal::Path)),
     }
 }

@@ -1,6 +1,6 @@
 //! The bytes of the input that were read and not used up yet.
-ghost use Rattle.std.specs.Prelude.{◌≡◌, ◌≤◌, ◌<◌, ◌+◌, [], length, drop, vec_len, IfOk, OnErr};
-ghost use Rattle.lei_outside.specs.Count.{Rose};
+ghost use Rattle.std.specs.Prelude.{◌≡◌, ◌≤◌, ◌<◌, ◌+◌, [], length, drop, take, vec_len, IfOk, OnOk, OnErr};
+ghost use Rattle.lei_outside.specs.Faults.{FailsLast};
 ghost use Rattle.leireg_run.specs.Window.{Fills, Skips, StaysUnread};
 
 use crate::answering::next_end;
@@ -55,11 +55,10 @@ impl Window {
         ensures ok { IfOk result (λ count. Fills (S.left input.old) (S.left input.new) self.old self.new count most) }
         ensures block { IfOk result (λ count. count ≤ BLOCK) }
         ensures err { OnErr result (StaysUnread (S.left input.old) (S.left input.new) self.old self.new) }
-        ensures count { S.faults input.old ≤ S.faults input.new }
-        ensures failed { OnErr result (Rose (S.faults input.old) (S.faults input.new)) }
+        ensures kept { OnOk result (S.faults input.new ≡ S.faults input.old) }
+        ensures failed { OnErr result (FailsLast S.left S.faults input.old input.new) }
     {
-        let end = self.held + most.min(BLOCK);
-        let count = input.read(&mut self.buffer[self.held..end])?;
+        let count = read_behind(input, &mut self.buffer, self.held, most)?;
         self.held += count;
         Ok(count)
     }
@@ -99,6 +98,28 @@ impl Window {
     {
         self.held = 0;
     }
+}
+
+// Reads once, at most a block and at most this many bytes, behind the first bytes of a buffer.
+fn read_behind<S: Source>(
+    input: &mut S,
+    buffer: &mut Vec<u8>,
+    held: usize,
+    most: usize,
+) -> Result<usize, Failed>
+    requires room { held + BLOCK ≤ vec_len buffer.old }
+    requires some { 0 < most }
+    ensures ok { IfOk result (λ count. Fills (S.left input.old) (S.left input.new)
+        (take held buffer.old.items) (take (held + count) buffer.new.items) count most) }
+    ensures block { IfOk result (λ count. count ≤ BLOCK) }
+    ensures err { OnErr result (StaysUnread (S.left input.old) (S.left input.new)
+        (take held buffer.old.items) (take held buffer.new.items)) }
+    ensures len { vec_len buffer.new ≡ vec_len buffer.old }
+    ensures kept { OnOk result (S.faults input.new ≡ S.faults input.old) }
+    ensures failed { OnErr result (FailsLast S.left S.faults input.old input.new) }
+{
+    let end = held + most.min(BLOCK);
+    input.read(&mut buffer[held..end])
 }
 
 // The memory of a window.

@@ -1,6 +1,6 @@
 //! Replies as they are written.
-ghost use Rattle.std.specs.Prelude.{◌≤◌, ◌++◌, flat_map, IsErrOf};
-ghost use Rattle.lei_outside.specs.Count.{Rose};
+ghost use Rattle.std.specs.Prelude.{◌≡◌, ◌++◌, flat_map, IsErrOf};
+ghost use Rattle.lei_outside.specs.Faults.{FailsLast};
 ghost use Rattle.leireg_run.specs.Outbox.{Puts};
 ghost use Rattle.leireg_run.specs.Replies.{reply_text};
 
@@ -8,15 +8,15 @@ use crate::outbox::Outbox;
 use lei_office::Reply;
 use lei_outside::{Sink, SinkFault};
 
-/// Puts a reply: its code, a space, its text and the end of the line.
+/// Puts a reply: its status code, a space, its text and the end of the line.
 #[tactic(auto, unfolding(crate::specs::Replies::reply_text))]
 pub fn put_reply<W: Sink>(outbox: &mut Outbox, out: &mut W, reply: &Reply) -> Result<(), SinkFault>
     ensures puts { Puts (W.taken out.old) (W.taken out.new) (outbox.old ++ reply_text reply.now) result outbox.new }
-    ensures count { W.faults out.old ≤ W.faults out.new }
-    ensures failed { IsErrOf result SinkFault.Failed → Rose (W.faults out.old) (W.faults out.new) }
+    ensures kept { ¬ (IsErrOf result SinkFault.Failed) → W.faults out.new ≡ W.faults out.old }
+    ensures failed { IsErrOf result SinkFault.Failed → FailsLast W.taken W.faults out.old out.new }
 {
     let mut code = itoa::Buffer::new();
-    let code = code.format(reply.code()).as_bytes();
+    let code = code.format(reply.status_code()).as_bytes();
     match reply {
         Reply::Text { text, .. } => { put_all(outbox, out, &[code, b" ", text.as_slice(), b"\n"]) }
         Reply::Words(refusal) => match refusal.number() {
@@ -32,9 +32,10 @@ pub fn put_reply<W: Sink>(outbox: &mut Outbox, out: &mut W, reply: &Reply) -> Re
 }
 
 fn put_all<W: Sink>(outbox: &mut Outbox, out: &mut W, pieces: &[&[u8]]) -> Result<(), SinkFault>
-    ensures puts { Puts (W.taken out.old) (W.taken out.new) (outbox.old ++ flat_map (λ piece. piece.now) pieces.now) result outbox.new }
-    ensures count { W.faults out.old ≤ W.faults out.new }
-    ensures failed { IsErrOf result SinkFault.Failed → Rose (W.faults out.old) (W.faults out.new) }
+    ensures puts { Puts (W.taken out.old) (W.taken out.new)
+        (outbox.old ++ flat_map (λ piece. piece.now) pieces.now) result outbox.new }
+    ensures kept { ¬ (IsErrOf result SinkFault.Failed) → W.faults out.new ≡ W.faults out.old }
+    ensures failed { IsErrOf result SinkFault.Failed → FailsLast W.taken W.faults out.old out.new }
 {
     for piece in pieces {
         outbox.put(out, piece)?;

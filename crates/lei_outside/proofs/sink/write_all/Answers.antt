@@ -1,4 +1,4 @@
-use Rattle.std.proofs.Common.{arith}
+use Rattle.std.proofs.Common.{◌∙◌, arith}
 use Rattle.std.proofs.lemmas.Result.{MatchResult-from_err}
 use Rattle.std.proofs.lemmas.Bool.Decides.{nat_tests}
 use Rattle.lei_outside.proofs.Handing.{handed_more, handed_front}
@@ -12,5 +12,5 @@ returns-in_err-taken-clause-front g c =
 pub loop-rest-preserved : goal.loop-rest-preserved
 loop-rest-preserved g c = record {
   handed = handed_more _ _ _ _ _ _ c.loop-rest.invariant.handed c.in_ok-taken.ensures.bytes.2;
-  count = omega (arith, c.in_ok-taken.ensures.count);
+  kept = c.in_ok-taken.ensures.kept (λ is. cc) ∙ c.loop-rest.invariant.kept;
 }

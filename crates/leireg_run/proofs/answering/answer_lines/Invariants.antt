@@ -1,6 +1,7 @@
-use Rattle.std.proofs.Common.{◌≤◌, length}
+use Rattle.std.proofs.Common.{◌≡◌, length}
 use Rattle.leireg_run.proofs.Running.{Walked}
 use Rattle.leireg_run.proofs.answering.answer_lines.Given as goal
+use Rattle.leireg_run.specs.Runs.{progress}
 
 abbrev pub invariant-loop-end : goal.invariant-loop-end
 invariant-loop-end g l =
@@ -8,8 +9,9 @@ invariant-loop-end g l =
     let taken = g.W.Sink.taken in
     let faults = g.W.Sink.faults in
     record {
-      walked : Walked l.block l.fn.office l.rest l.seen l.office (given l.fn.clock) (given l.clock) (taken l.fn.out) (taken l.out) l.fn.outbox l.outbox;
-      count : faults l.fn.out ≤ faults l.out;
+      walked : Walked l.block (progress l.fn.office l.fn.outbox (given l.fn.clock) (taken l.fn.out)) l.rest l.seen
+          (progress l.office l.outbox (given l.clock) (taken l.out));
+      kept : faults l.out ≡ faults l.fn.out;
     }
 
 abbrev pub decreases-loop-end : goal.decreases-loop-end

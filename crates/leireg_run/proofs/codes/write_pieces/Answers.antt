@@ -1,11 +1,11 @@
-use Rattle.std.proofs.Common.{ℕ, [], List, take, flat_map, sym, subst, arith}
+use Rattle.std.proofs.Common.{◌∙◌, ℕ, [], List, take, flat_map, sym, subst, refl}
 use Rattle.std.proofs.lemmas.Result.{MatchResult-from_err}
 use Rattle.leireg_run.specs.Outbox.{Sends}
 use Rattle.leireg_run.proofs.Sending.{Sends-nothing, pieces_more, refused, sent_then}
 use Rattle.leireg_run.proofs.codes.write_pieces.Goals as goal
 
 pub loop-piece-init : goal.loop-piece-init
-loop-piece-init g c = record { sent = Sends-nothing (g.W.Sink.taken c.args.out.now) []; count = omega arith }
+loop-piece-init g c = record { sent = Sends-nothing (g.W.Sink.taken c.args.out.now) []; kept = refl }
 
 pub loop-piece-preserved : goal.loop-piece-preserved
 loop-piece-preserved g c =
@@ -14,7 +14,7 @@ loop-piece-preserved g c =
     let S : List ℕ → Type 0 = λ all. Sends (taken c.args.out.now) (taken c.write_all.new.out) all [] in
     record {
       sent = subst S (sym (pieces_more c.args.pieces.now c.loop-piece.piece-index _ c.loop-piece-test.true)) (sent_then (taken c.args.out.now) (taken c.loop-piece.out) (taken c.write_all.new.out) done _ c.loop-piece.invariant.sent c.in_ok-write_all.ensures.written);
-      count = omega (arith, c.loop-piece.invariant.count, c.write_all.ensures.count);
+      kept = c.in_ok-write_all.ensures.kept (λ is. cc) ∙ c.loop-piece.invariant.kept;
     }
 
 pub returns-in_err-write_all-clause-written : goal.returns-in_err-write_all-clause-written

@@ -1,4 +1,4 @@
-use Rattle.std.proofs.Common.{◌≤◌, [], take, flat_map}
+use Rattle.std.proofs.Common.{◌≡◌, [], take, flat_map}
 use Rattle.leireg_run.specs.Outbox.{Sends}
 use Rattle.leireg_run.proofs.codes.write_pieces.Given as goal
 
@@ -8,5 +8,5 @@ invariant-loop-piece g l =
     let faults = g.W.Sink.faults in
     record {
       sent : Sends (taken l.fn.out) (taken l.out) (flat_map (λ piece. piece.now) (take l.piece-index l.pieces)) [];
-      count : faults l.fn.out ≤ faults l.out;
+      kept : faults l.out ≡ faults l.fn.out;
     }

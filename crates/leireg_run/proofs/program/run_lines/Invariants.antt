@@ -1,6 +1,9 @@
-use Rattle.std.proofs.Common.{◌≤◌, ◌-◌}
+use Rattle.std.proofs.Common.{◌≡◌, ◌-◌}
 use Rattle.leireg_run.proofs.Ending.{Midway}
 use Rattle.leireg_run.proofs.program.run_lines.Given as goal
+use Rattle.leireg_run.specs.Limits.{input_limit}
+use Rattle.leireg_run.specs.Outside.{outside}
+use Rattle.leireg_run.specs.Runs.{progress}
 
 abbrev pub invariant-loop-reader : goal.invariant-loop-reader
 invariant-loop-reader g l =
@@ -10,10 +13,11 @@ invariant-loop-reader g l =
     let input_faults = g.S.Source.faults in
     let out_faults = g.W.Sink.faults in
     record {
-      midway : Midway (left l.fn.input) (left l.input) (given l.fn.clock) (given l.clock) (taken l.fn.out) (taken l.out) l.read l.reader.office l.reader.outbox l.reader.skips l.reader.window;
-      input_count : input_faults l.fn.input ≤ input_faults l.input;
-      out_count : out_faults l.fn.out ≤ out_faults l.out;
+      midway : Midway (outside (left l.fn.input) (given l.fn.clock) (taken l.fn.out)) (left l.input) l.read
+          (progress l.reader.office l.reader.outbox (given l.clock) (taken l.out)) l.reader.skips l.reader.window;
+      input_kept : input_faults l.input ≡ input_faults l.fn.input;
+      out_kept : out_faults l.out ≡ out_faults l.fn.out;
     }
 
 abbrev pub decreases-loop-reader : goal.decreases-loop-reader
-decreases-loop-reader g l = 4294967296 - l.read
+decreases-loop-reader g l = input_limit - l.read

@@ -1,4 +1,4 @@
-use Rattle.std.proofs.Common.{ℕ, ◌++◌, List, take, flat_map, sym, ap, ◌∙◌, arith, append_assoc, subst}
+use Rattle.std.proofs.Common.{ℕ, ◌++◌, List, take, flat_map, sym, ap, ◌∙◌, refl, append_assoc, subst}
 use Rattle.std.proofs.lemmas.List.{append-nil}
 use Rattle.std.proofs.lemmas.Result.{MatchResult-from_err}
 use Rattle.leireg_run.specs.Outbox.{Sends}
@@ -9,7 +9,7 @@ pub loop-piece-init : goal.loop-piece-init
 loop-piece-init g c =
     let a = g.W.Sink.taken c.args.out.now in
     let S : List ℕ → Type 0 = λ all. Sends a a all c.args.outbox.now in
-    record { sent = subst S (sym (append-nil c.args.outbox.now)) (Sends-nothing a c.args.outbox.now); count = omega arith }
+    record { sent = subst S (sym (append-nil c.args.outbox.now)) (Sends-nothing a c.args.outbox.now); kept = refl }
 
 pub loop-piece-preserved : goal.loop-piece-preserved
 loop-piece-preserved g c =
@@ -19,7 +19,7 @@ loop-piece-preserved g c =
     let S : List ℕ → Type 0 = λ all. Sends (taken c.args.out.now) (taken c.put.new.out) all c.put.new.self in
     record {
       sent = subst S (append_assoc held done _ ∙ ap (λ xs. held ++ xs) (sym (pieces_more c.args.pieces.now c.loop-piece.piece-index _ c.loop-piece-test.true))) (Sends-then (taken c.args.out.now) (taken c.loop-piece.out) (taken c.put.new.out) (held ++ done) c.loop-piece.outbox _ c.put.new.self c.loop-piece.invariant.sent c.in_ok-put.ensures.ok);
-      count = omega (arith, c.loop-piece.invariant.count, c.put.ensures.count);
+      kept = c.in_ok-put.ensures.kept (λ is. cc) ∙ c.loop-piece.invariant.kept;
     }
 
 pub returns-in_err-put-clause-puts : goal.returns-in_err-put-clause-puts
