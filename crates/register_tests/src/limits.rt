@@ -1,9 +1,7 @@
 // What an office answers, where no session of the program shows it: under other limits than the standard ones.
-use super::Office;
-use crate::limits::Limits;
-use crate::reply::Reply;
-use crate::request::{Call, Request, is_upload_number};
+
 use lei_code::Lei;
+use lei_office::{Call, Limits, Office, Reply, Request, is_upload_number};
 use lei_outside::Bytes;
 use lei_shapes::Moment;
 use std::alloc::Global;
