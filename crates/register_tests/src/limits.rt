@@ -5,12 +5,11 @@ use lei_office::{Call, Limits, Office, Reply, Request, is_upload_number};
 use lei_outside::Bytes;
 use lei_shapes::Moment;
 use std::alloc::Global;
+use std::process::Abort;
 use std::test::Fail;
 use std::thread::Threads;
 
 const ISSUER: &str = "506700GE1G29325QX363";
-
-const LEI: &str = "00000000000000000195";
 
 // 2025-01-11T00:00:00Z.
 const MOMENT: i64 = 1_736_553_600;
@@ -41,13 +40,14 @@ const TWO_RECORDS: &str = concat!(
     r#""Registration.ValidationSources":"FULLY_CORROBORATED"}]}"#
 );
 
-// The reply to a request: its status code, a space, and its text or the refusal in words.
-fn told<R: Threads + Sync>(
+// The office answers the request with this status code, a space, and this text or refusal in words.
+fn answers<R: Abort + Threads + Sync>(
     rt: &R,
     alloc: Global,
     office: &mut Office,
     request: &Request,
-) -> Result<String, Fail> {
+    want: &str,
+) -> Result<(), Fail> {
     if let Request::Upload(call) = request {
         if !is_upload_number(call.number) {
             return Err(Fail::from("a number that uploads may have"));
@@ -55,8 +55,14 @@ fn told<R: Threads + Sync>(
     }
     let moment = Moment::of(MOMENT).ok_or("a moment")?;
     let reply = office.answer(rt, request, moment);
+    let told = told(alloc, &reply)?;
+    assert_eq!(rt; told.as_str(), want);
+    Ok(())
+}
+
+fn told(alloc: Global, reply: &Reply) -> Result<String, Fail> {
     let code = reply.status_code();
-    match &reply {
+    match reply {
         Reply::Text { text, .. } => {
             let text = str::from_utf8(text.as_slice())?;
             Ok(format!(in alloc; "{code} {text}")?)
@@ -65,51 +71,63 @@ fn told<R: Threads + Sync>(
     }
 }
 
+fn accredits<R: Abort + Threads + Sync>(
+    rt: &R,
+    alloc: Global,
+    office: &mut Office,
+    want: &str,
+) -> Result<(), Fail> {
+    let request = Request::Accredit(Lei::read(ISSUER.as_bytes())?);
+    answers(rt, alloc, office, &request, want)
+}
+
+fn uploads<R: Abort + Threads + Sync>(
+    rt: &R,
+    alloc: Global,
+    office: &mut Office,
+    number: u32,
+    body: &[u8],
+    want: &str,
+) -> Result<(), Fail> {
+    let request = Request::Upload(Call {
+        office: Lei::read(ISSUER.as_bytes())?,
+        number,
+        body: Bytes::copy_of(alloc, body)?,
+    });
+    answers(rt, alloc, office, &request, want)
+}
+
+const LIMITS: Limits = Limits {
+    body: 2_000,
+    kept: 100_000,
+    entries: 3,
+    records: 1,
+};
+
 #[test]
 fn an_office_keeps_to_its_limits(rt: HostRuntime) -> Result<(), Fail> {
-    let alloc = rt.alloc();
-    let limits = Limits {
-        body: 2_000,
-        kept: 100_000,
-        entries: 3,
-        records: 1,
-    };
-    let mut office = Office::new(alloc, limits)?;
-    assert_eq!(rt; office.limits(), limits);
-    let issuer = Lei::read(ISSUER.as_bytes())?;
-    let reply = told(&rt, alloc, &mut office, &Request::Accredit(issuer))?;
-    assert_eq!(rt;
-        reply.as_str(),
-        r#"200 {"entry":1,"issuer":"506700GE1G29325QX363"}"#
-    );
-    let body = Bytes::copy_of(alloc, TWO_RECORDS.as_bytes())?;
-    let call = Call {
-        office: issuer,
-        number: 1,
-        body,
-    };
-    let reply = told(&rt, alloc, &mut office, &Request::Upload(call))?;
-    let want =
-        r#"200 {"entry":2,"issuer":"506700GE1G29325QX363","items":["ACCEPTED","C20 REGISTER_FULL"],"number":1}"#;
-    assert_eq!(rt; reply.as_str(), want);
-    let body = Bytes::copy_of(alloc, &[b' '; 2_001])?;
-    let call = Call {
-        office: issuer,
-        number: 2,
-        body,
-    };
-    let reply = told(&rt, alloc, &mut office, &Request::Upload(call))?;
-    assert_eq!(rt; reply.as_str(), "413 TOO_LONG");
-    let shown = told(
+    let mut office = Office::new(rt.alloc(), LIMITS)?;
+    assert_eq!(rt; office.limits(), LIMITS);
+    accredits(
         &rt,
-        alloc,
+        rt.alloc(),
         &mut office,
-        &Request::Show(Lei::read(LEI.as_bytes())?),
+        r#"200 {"entry":1,"issuer":"506700GE1G29325QX363"}"#,
     )?;
-    assert!(rt;
-        shown
-            .as_str()
-            .starts_with(r#"200 {"Entity.EntityCategory":"GENERAL","#)
-    );
-    Ok(())
+    uploads(
+        &rt,
+        rt.alloc(),
+        &mut office,
+        1,
+        TWO_RECORDS.as_bytes(),
+        r#"200 {"entry":2,"issuer":"506700GE1G29325QX363","items":["ACCEPTED","C20 REGISTER_FULL"],"number":1}"#,
+    )?;
+    uploads(
+        &rt,
+        rt.alloc(),
+        &mut office,
+        2,
+        &[b' '; 2_001],
+        "413 TOO_LONG",
+    )
 }
