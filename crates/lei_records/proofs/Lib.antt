@@ -3,3 +3,5 @@ pub mod SheetLemmas
 pub mod Codes
 pub mod RowLemmas
 pub mod NameLemmas
+pub mod PassLemmas
+pub mod OptionLemmas

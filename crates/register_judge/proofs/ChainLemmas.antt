@@ -4,6 +4,7 @@ use Rattle.std.specs.List.{Contains}
 use Rattle.std.specs.Option.{option_to_list}
 use Rattle.std.specs.Str.{bytes_eq}
 use Rattle.std.proofs.Common.{refl, sym, ap, subst, rules, ◌∙◌}
+use Rattle.std.proofs.lemmas.Bool.{false_from_ne_true}
 use Rattle.lei_records.specs.declared.check.Check.{Check}
 use Rattle.lei_records.specs.declared.check.Detail.{Detail}
 use Rattle.lei_records.specs.declared.item.Item.{Item}
@@ -75,10 +76,6 @@ all_held table row chains passes lei other next at names =
 
 -- ---- each chain ends
 
-another : (a b : List ℕ) → a ≢ b → bytes_eq a b ≡ false
-another a b differ =
-    elim (bytes_eq a b) as (λ t. bytes_eq a b ≡ t → t ≡ false) [ true ↦ λ same. absurd (differ (bytes_same a b same)) | false ↦ λ same. refl ] refl
-
 -- a record that is put names its successor, and each other one the one that it named
 turned : (table : Table) (row : Row) (successor : Option (List ℕ)) → successor_in row ≡ successor
     → IsTurned (successors_of table) (successors_of (put table (Item.Record row))) (lei_in row) (option_to_list successor)
@@ -89,7 +86,7 @@ turned table row successor names =
     (row_at-put table row lei ∙ ap (λ b. cond b (Some row) (row_at table lei)) is) in
     record {
       here = at (lei_in row) true (bytes_itself (lei_in row)) ∙ ap option_to_list names;
-      elsewhere = λ lei differ. at lei false (another lei (lei_in row) differ);
+      elsewhere = λ lei differ. at lei false (false_from_ne_true _ (λ same. differ (bytes_same lei (lei_in row) same)));
     }
 
 none_of : (lei : List ℕ) → Contains [] lei → ⊥

@@ -1,7 +1,6 @@
 pub mod MapLemmas
 pub mod OverlayLemmas
 pub mod JudgingLemmas
-pub mod CheckLemmas
 pub mod RelationLemmas
 pub mod TakingLemmas
 pub mod RisingLemmas

@@ -16,10 +16,11 @@ use Rattle.lei_records.specs.declared.view.RowKey.{RowKey}
 use Rattle.lei_records.specs.declared.view.Seen.{Seen}
 use Rattle.lei_records.specs.Cells.{Cells, lei_in, rec_cell, holds}
 use Rattle.lei_records.specs.Exceptions.{exception_category_in, is_same_category, subject_in}
-use Rattle.lei_records.specs.Relations.{end_in, is_active, is_same_type, kind_in, rel_cell, start_in}
+use Rattle.lei_records.specs.Relations.{end_in, is_active, kind_in, rel_cell, start_in}
 use Rattle.lei_records.specs.Rows.{Row}
 use Rattle.lei_records.specs.Tables.{seen_fact}
 use Rattle.authority_rules.specs.Taken.{unless_own}
+use Rattle.relation_rules.specs.Checks.{is_from}
 
 -- ---- the cells after one write
 
@@ -31,11 +32,7 @@ put_record cells row = record cells {
   holder = λ authority id. if holds authority id row then Seen.Held (lei_in row) else unless_own (lei_in row) (cells.holder authority id);
 }
 
--- the relationship has this start and this type
-abbrev pub is_from : List ℕ → RelationType → Row → Bool
-is_from start kind row = bytes_eq (start_in row) start && is_same_type (kind_in row) kind
-
--- and this end
+-- the relationship has this start, this type and this end
 abbrev pub is_between : List ℕ → RelationType → List ℕ → Row → Bool
 is_between start kind end row = is_from start kind row && bytes_eq (end_in row) end
 

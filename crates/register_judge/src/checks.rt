@@ -2,7 +2,6 @@
 ghost use Rattle.std.specs.Prelude.{◌≡◌, ℕ, List, [], ◌∷◌, false, Some, None};
 ghost use Rattle.std.specs.Option.{option_map_or};
 ghost use Rattle.std.specs.Str.{bytes_eq};
-ghost use Rattle.lei_records.specs.declared.check.Detail.{Detail};
 ghost use Rattle.lei_records.specs.Cells.{entity_status_in, renewal_in};
 ghost use Rattle.lei_records.specs.Lines.{first_failing};
 ghost use Rattle.status_rules.specs.Statuses;
@@ -11,6 +10,7 @@ ghost use Rattle.register_judge.specs.Checks;
 use lei_code::Lei;
 use lei_records::{Check, Detail, RecCell, Record};
 use lei_shapes::{EntityStatus, Moment, RecordStatus};
+use relation_rules::plain;
 use status_rules::{Party, entity_fits, renewal_fits, transition};
 
 /// C05: record and entity status are no allowed pair.
@@ -60,16 +60,6 @@ pub const AUTHORITY_KEY_TAKEN: u8 = 19;
 
 /// C20: there is no room for a further record.
 pub const REGISTER_FULL: u8 = 20;
-
-/// A check that tells nothing but its number.
-pub fn plain(code: u8) -> Check
-    ensures { result ≡ record { code = code; detail = Detail.None } }
-{
-    Check {
-        code,
-        detail: Detail::None,
-    }
-}
 
 /// C05 to C09: the item alone, and the uploader.
 pub fn own_check(office: &Lei, today: i32, item: &Record) -> Option<Check>
@@ -235,16 +225,6 @@ fn has_wrong_renewal(today: i32, item: &Record) -> bool
     ensures { result ≡ (Checks.c15 today item.now).fails }
 {
     !renewal_fits(item.cell().status, renewal(item).day(), today)
-}
-
-/// C19 where another live record has a live item's authority key.
-pub fn key_check(other: Lei) -> Check
-    ensures { result ≡ record { code = 19; detail = Detail.Code other } }
-{
-    Check {
-        code: AUTHORITY_KEY_TAKEN,
-        detail: Detail::Code(other),
-    }
 }
 
 /// C20: whether a record is held under the item's code, and whether the table is full.

@@ -10,6 +10,7 @@ mod keys;
 mod laws;
 mod outcome;
 mod overlay;
+mod records;
 
 pub use checks::{
     AUTHORITY_KEY_TAKEN, DATE_FUTURE, DATES_ORDER, INITIAL_DATE_CHANGED, MANAGER_NOT_UPLOADER,

@@ -10,6 +10,7 @@ ghost use Rattle.lei_records.specs.Exceptions.{exception_category_in, is_same_ca
 ghost use Rattle.lei_records.specs.Relations.{end_in, kind_in, start_in};
 ghost use Rattle.lei_records.specs.Relations as Spelled;
 ghost use Rattle.lei_records.specs.Tables.{row_key};
+ghost use Rattle.relation_rules.specs.Checks.{is_from};
 ghost use Rattle.register_judge.specs.Overlays;
 ghost use Rattle.register_judge.specs.Progress.{cells_in};
 ghost use Rattle.register_judge.specs.Taking.{written};
@@ -288,7 +289,7 @@ fn insert_record<'a>(
 // Notes the end of an active relationship.
 fn put_end(ends: &mut Ends, item: &Relation) -> Result<(), NoMemory>
     ensures { OnOk result ((start : List ℕ) (kind : RelationType) → Overlays.end_at ends.new start kind
-        ≡ (if Spelled.is_active item.now && Overlays.is_from start kind item.now then Some (end_in item.now)
+        ≡ (if Spelled.is_active item.now && is_from start kind item.now then Some (end_in item.now)
         else Overlays.end_at ends.old start kind)) }
 {
     if !is_active(item) {

@@ -3,8 +3,8 @@ use Rattle.std.specs.Prelude.{◌≡◌, ℕ, List, [], ◌∷◌, Bool, true, f
 use Rattle.std.specs.FinMap.{get, get-insert, get-remove}
 use Rattle.std.specs.Option.{option_map_or}
 use Rattle.std.specs.Ordering.{eq_by_cmp}
-use mathlib.Core.Bool.{true≢false}
-use Rattle.std.proofs.Common.{refl, sym, ap, ◌∙◌}
+use Rattle.std.proofs.Common.{refl, sym, ap, ◌∙◌, get_or}
+use Rattle.std.proofs.lemmas.Bool.{and_from, both_ways}
 use Rattle.lei_shapes.specs.declared.lists.ExceptionCategory.{ExceptionCategory}
 use Rattle.lei_shapes.specs.Lists.{exception_category_of, exception_category_text}
 use Rattle.lei_shapes.proofs.ListLemmas.{texts_apart}
@@ -15,12 +15,12 @@ use Rattle.lei_records.specs.Lines.{first_failing}
 use Rattle.lei_records.specs.Relations.{end_in, is_active, is_active_of, kind_in, start_in}
 use Rattle.lei_records.specs.Rows.{Row}
 use Rattle.lei_records.specs.Tables.{IsSound, KeyTexts, Table, active_of, exception_key, exception_key_in, has_exception, key_cmp, put}
-use Rattle.authority_rules.proofs.HolderLemmas.{both_true, keys_total, same_key}
+use Rattle.authority_rules.proofs.HolderLemmas.{keys_total, same_key}
 use Rattle.relation_rules.specs.Checks.{exception_checks, has_own_exception, relation_checks}
 use Rattle.relation_rules.specs.Parents.{AreApart, parent_category, parent_type}
 use Rattle.relation_rules.proofs.ActiveLemmas.{active_of-put, either_way, left_of, opened}
 use Rattle.relation_rules.proofs.ChainLemmas.{types_apart}
-use Rattle.relation_rules.proofs.PassLemmas.{AllPass, all_pass}
+use Rattle.lei_records.proofs.PassLemmas.{AllPass, all_pass}
 use Rattle.relation_rules.proofs.PutLemmas.{fitting}
 
 category_of_type : (category : ExceptionCategory) → parent_category (parent_type category) ≡ Some category
@@ -42,20 +42,11 @@ relations_keep_apart table office row sound apart passes lei category stands =
           let asked : has_own_exception table row ≡ has_exception table (start_in row) category =
           ap (λ c. option_map_or (has_exception table (start_in row)) c false) (ap parent_category kind_is ∙ category_of_type category) in
           let own : has_own_exception table row ≡ true = asked ∙ (ap (λ l. has_exception table l category) a.starts ∙ stands) in
-          absurd (true≢false (sym (both_true (is_active row) _ a.active own) ∙ from_37.others.others.others.first))
+          absurd (both_ways _ from_37.others.others.others.first (and_from (is_active row) _ a.active own))
       | false ↦ λ f. ap (left_of lei kind row) none ∙ sym (either_way _ None)
     ] refl
 
 -- ---- exceptions
-
-abbrev second_text : KeyTexts → List ℕ
-second_text [] = []
-second_text (a ∷ []) = []
-second_text (a ∷ b ∷ texts) = b
-
-abbrev first_text : KeyTexts → List ℕ
-first_text [] = []
-first_text (a ∷ texts) = a
 
 categories_apart : (a b : ExceptionCategory) → exception_category_text a ≡ exception_category_text b → a ≡ b
 categories_apart = texts_apart exception_category_text exception_category_of exception_category_of-text
@@ -82,8 +73,8 @@ exceptions_keep_apart table office row false apart passes lei category stands =
     → is_some (cond b (Some row) (get table.exceptions key)) ≡ true → active_of table lei (parent_type category) ≡ None) [
       | true ↦ λ t _.
           let own : key ≡ exception_key_in row = same_key key (exception_key_in row) t in
-          let lei_is : lei ≡ subject_in row = ap first_text own in
-          let category_is : category ≡ exception_category_in row = categories_apart category (exception_category_in row) (ap second_text own) in
+          let lei_is : lei ≡ subject_in row = ap (λ k. get_or k 0 []) own in
+          let category_is : category ≡ exception_category_in row = categories_apart category (exception_category_in row) (ap (λ k. get_or k 1 []) own) in
           (λ i. active_of table (lei_is i) (parent_type (category_is i))) ∙ no_parent _ all.others.others.first
       | false ↦ λ _ was. apart lei category was
     ] refl there

@@ -1,8 +1,10 @@
 -- A cell that is told missing is one that the item needs and the view lacks.
 use Rattle.std.specs.Prelude.{◌≡◌, ℕ, List, [], ◌∷◌, Bool, true, false, cond, find, Option, Some, None, IsTrue}
 use Rattle.std.specs.List.{Contains}
+use Rattle.std.specs.Str.{bytes_eq}
 use mathlib.Core.Logic.{inl, inr}
 use Rattle.std.proofs.Common.{refl, sym, ap, subst, ◌∙◌, arith}
+use Rattle.std.proofs.lemmas.Bool.{and_from}
 use Rattle.std.proofs.lemmas.List.Elements.{Contains-append_left, Contains-append_right}
 use Rattle.lei_shapes.specs.declared.lists.ExceptionCategory.{ExceptionCategory}
 use Rattle.lei_shapes.specs.declared.lists.RelationType.{RelationType}
@@ -14,11 +16,11 @@ use Rattle.lei_records.specs.Cells.{Cells}
 use Rattle.lei_records.specs.Exceptions.{exception_category_in, subject_in}
 use Rattle.lei_records.specs.Relations.{end_in, is_active, kind_in, start_in}
 use Rattle.lei_records.specs.Rows.{Row}
-use Rattle.authority_rules.proofs.HolderLemmas.{both_true}
+use Rattle.authority_rules.specs.Taken.{unless_own}
 use Rattle.successor_rules.specs.declared.walks.Walked.{Walked}
 use Rattle.successor_rules.specs.Walks.{Asked, is_long, is_met, is_missing, known, lacking, members, unless_lacking}
 use Rattle.relation_rules.specs.declared.checked.Checked.{Checked}
-use Rattle.relation_rules.specs.Checking.{check_active, check_category, check_end, check_end_taken, check_exception, check_held, check_managed, check_parents, check_put, check_relation, check_start, check_subject, check_walked, check_withdrawal, checked_of, on_seen, unless_failed, walk_parents}
+use Rattle.relation_rules.specs.Checking.{check_active, check_category, check_end, check_exception, check_held, check_managed, check_other_end, check_parents, check_put, check_relation, check_start, check_subject, check_walked, check_withdrawal, checked_of, on_seen, unless_failed, walk_parents}
 use Rattle.relation_rules.specs.Needs.{IsNeeded, exception_keys, exception_names, is_lacking, lacks, relation_names}
 use Rattle.relation_rules.specs.Parents.{is_direct, parent_category, parent_type}
 
@@ -65,12 +67,19 @@ lacked own false None true key is = cc
 lacked own false None false key is = cc
 lacked own false (Some lei) long key is = (lei, refl, cc)
 
+-- the own one may be there or not, but no cell is missing for it
+own_lacking : (own : List ℕ) (seen : Seen (List ℕ)) → is_lacking (unless_own own seen) ≡ is_lacking seen
+own_lacking own Seen.Empty = refl
+own_lacking own Seen.Missing = refl
+own_lacking own (Seen.Held lei) =
+    elim (bytes_eq lei own) as (λ b. is_lacking (cond b Seen.Empty (Seen.Held lei)) ≡ false) [ true ↦ refl | false ↦ refl ]
+
 missing_is : (seen : Seen (List ℕ)) → is_missing seen ≡ is_lacking seen
 missing_is (Seen.Held lei) = refl
 missing_is Seen.Empty = refl
 missing_is Seen.Missing = refl
 
-walk_told : (walked : Walked) (next : Checked) (key : CellKey) (G : Type 0) → check_walked walked next ≡ Checked.Missing key
+walk_told : (walked : Walked) (next : Checked) (key : CellKey) (G : Type 0) → check_walked 38 39 walked next ≡ Checked.Missing key
     → (walked ≡ Walked.Missing key → G) → (next ≡ Checked.Missing key → G) → G
 walk_told Walked.Meets next key G is here there = cc
 walk_told Walked.Long next key G is here there = cc
@@ -115,13 +124,13 @@ module _ (cells : Cells) (item : Row) (key : CellKey) where
       let member = member_found (λ lei. is_missing (asked lei)) (members 200 (known asked) (end_in item)) found.0 found.1 in
       let lacking : lacks cells (own found.0) ≡ true = sym (missing_is (asked found.0)) ∙ member.1 in (
         ap (lacks cells) (sym found.2) ∙ lacking,
-        inr (record { direct = both_true _ _ active direct; member = found.0; stands = member.0; is = sym found.2 }),
+        inr (record { direct = and_from _ _ active direct; member = found.0; stands = member.0; is = sym found.2 }),
       )
 
   parents_told : is_active item ≡ true → check_parents cells item ≡ Checked.Missing key → Told
   parents_told active is =
       elim (is_direct (kind_in item)) as (λ b. is_direct (kind_in item) ≡ b
-      → cond b (check_walked (walk_parents cells (start_in item) (end_in item)) (check_category cells item (parent_category (kind_in item))))
+      → cond b (check_walked 38 39 (walk_parents cells (start_in item) (end_in item)) (check_category cells item (parent_category (kind_in item))))
       (check_category cells item (parent_category (kind_in item))) ≡ Checked.Missing key → Told) [
         | true ↦ λ direct told. walk_told (walk_parents cells (start_in item) (end_in item)) _ key Told told
             (of_walk_told active direct) (category_told (parent_category (kind_in item)) refl)
@@ -131,10 +140,12 @@ module _ (cells : Cells) (item : Row) (key : CellKey) where
   active_told : check_active cells item ≡ Checked.Missing key → Told
   active_told is =
       elim (is_active item) as (λ b. is_active item ≡ b
-      → cond b (on_seen (cells.active (start_in item) (kind_in item)) (CellKey.Act (start_in item) (kind_in item)) (check_end_taken cells item)) Checked.Passes
+      → cond b (on_seen (unless_own (end_in item) (cells.active (start_in item) (kind_in item))) (CellKey.Act (start_in item) (kind_in item))
+      (check_other_end cells item)) Checked.Passes
       ≡ Checked.Missing key → Told) [
-        | true ↦ λ active told. seen_told (cells.active (start_in item) (kind_in item)) (CellKey.Act (start_in item) (kind_in item)) _ key Told told
-            (named_told (CellKey.Act (start_in item) (kind_in item)) (each_names (CellKey.Act (start_in item) (kind_in item)) (3, omega arith, refl)))
+        | true ↦ λ active told. let own = CellKey.Act (start_in item) (kind_in item) in
+            seen_told (unless_own (end_in item) (cells.active (start_in item) (kind_in item))) own (check_other_end cells item) key Told told
+            (λ lacking same. named_told own (each_names own (3, omega arith, refl)) (sym (own_lacking (end_in item) (cells.active (start_in item) (kind_in item))) ∙ lacking) same)
             (λ end rest. parents_told active (unless_told _ (check_parents cells item) key rest))
         | false ↦ λ _ told. cc
       ] refl is

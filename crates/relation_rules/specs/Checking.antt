@@ -1,7 +1,6 @@
 -- The same over any view: what a view's cells make of a relationship and of an exception, or the first cell that its
 -- checks ask for and the view lacks.
 use Rattle.std.specs.Prelude.{ℕ, List, [], ◌∷◌, Bool, if◌then◌else◌, Option, Some, None, is_some}
-use Rattle.std.specs.Str.{bytes_eq}
 use Rattle.lei_shapes.specs.declared.lists.ExceptionCategory.{ExceptionCategory}
 use Rattle.lei_shapes.specs.declared.lists.RelationType.{RelationType}
 use Rattle.lei_records.specs.declared.check.Check.{Check}
@@ -15,6 +14,7 @@ use Rattle.lei_records.specs.Exceptions.{exception_category_in, subject_in}
 use Rattle.lei_records.specs.Lines.{first_failing}
 use Rattle.lei_records.specs.Relations.{end_in, is_active, kind_in, start_in}
 use Rattle.lei_records.specs.Rows.{Row}
+use Rattle.authority_rules.specs.Taken.{unless_own}
 use Rattle.successor_rules.specs.declared.walks.Walked.{Walked}
 use Rattle.successor_rules.specs.Walks.{walk_over}
 use Rattle.relation_rules.specs.declared.checked.Checked.{Checked}
@@ -50,12 +50,12 @@ check_category cells item (Some category) =
 abbrev pub failed : ℕ → Checked
 failed code = Checked.Fails (record { code = code; detail = Detail.None })
 
--- C38 and C39, by what became of the walk
-abbrev pub check_walked : Walked → Checked → Checked
-check_walked Walked.Meets next = failed 38
-check_walked Walked.Long next = failed 39
-check_walked Walked.Ends next = next
-check_walked (Walked.Missing key) next = Checked.Missing key
+-- the check of this number fails where the walk comes back to its start, and that of the other where it is too long
+abbrev pub check_walked : ℕ → ℕ → Walked → Checked → Checked
+check_walked cycle long Walked.Meets next = failed cycle
+check_walked cycle long Walked.Long next = failed long
+check_walked cycle long Walked.Ends next = next
+check_walked cycle long (Walked.Missing key) next = Checked.Missing key
 
 -- the walk of direct parents from the code `first`, for an entity whose own code is `start`
 abbrev pub walk_parents : Cells → List ℕ → List ℕ → Walked
@@ -67,24 +67,19 @@ walk_parents cells start first =
 abbrev pub check_parents : Cells → Row → Checked
 check_parents cells item =
     if is_direct (kind_in item)
-    then check_walked (walk_parents cells (start_in item) (end_in item)) (check_category cells item (parent_category (kind_in item)))
+    then check_walked 38 39 (walk_parents cells (start_in item) (end_in item)) (check_category cells item (parent_category (kind_in item)))
     else check_category cells item (parent_category (kind_in item))
 
--- an end that isn't the item's own
-abbrev pub unless_own : List ℕ → Option (List ℕ) → Option (List ℕ)
-unless_own own None = None
-unless_own own (Some end) = if bytes_eq end own then None else Some end
+-- from C37 on, with the other end of the active relationship of the item's start and type
+abbrev pub check_other_end : Cells → Row → Option (List ℕ) → Checked
+check_other_end cells item other = unless_failed (first_failing (c37 other item ∷ [])) (check_parents cells item)
 
--- from C37 on, with the end of the active relationship of the item's start and type
-abbrev pub check_end_taken : Cells → Row → Option (List ℕ) → Checked
-check_end_taken cells item end =
-    unless_failed (first_failing (c37 (unless_own (end_in item) end) item ∷ [])) (check_parents cells item)
-
--- the same: a relationship that isn't active asks for no further cell
+-- the same: a relationship that isn't active asks for no further cell, and its own end isn't another one
 abbrev pub check_active : Cells → Row → Checked
 check_active cells item =
     if is_active item
-    then on_seen (cells.active (start_in item) (kind_in item)) (CellKey.Act (start_in item) (kind_in item)) (check_end_taken cells item)
+    then on_seen (unless_own (end_in item) (cells.active (start_in item) (kind_in item))) (CellKey.Act (start_in item) (kind_in item))
+        (check_other_end cells item)
     else Checked.Passes
 
 -- from C36 on, with the relationship that is held under the item's key

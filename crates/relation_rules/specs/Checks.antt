@@ -10,7 +10,7 @@ use Rattle.lei_records.specs.declared.view.RecCell.{RecCell}
 use Rattle.lei_records.specs.declared.view.RelCell.{RelCell}
 use Rattle.lei_records.specs.Exceptions.{exception_category_in, subject_in}
 use Rattle.lei_records.specs.Lines.{Line, code_detail, fails_if}
-use Rattle.lei_records.specs.Relations.{end_in, ended_in, is_active, is_active_of, kind_in, registration_in, relation_initial_in, relation_manager_in, relation_updated_in, start_in, started_in}
+use Rattle.lei_records.specs.Relations.{end_in, ended_in, is_active, is_active_of, is_same_type, kind_in, registration_in, relation_initial_in, relation_manager_in, relation_updated_in, start_in, started_in}
 use Rattle.lei_records.specs.Rows.{Row}
 use Rattle.lei_records.specs.Tables.{Table, active_of, has_exception, record_of, relation_of, relations_of}
 use Rattle.successor_rules.specs.Walks.{Next, is_long, is_met}
@@ -79,6 +79,10 @@ abbrev pub c36 : Option RelCell → Row → Line
 c36 held item =
     fails_if (not (may_follow (option_map (λ cell. cell.registration) held) (registration_in item))
     || is_active item && is_over (registration_in item)) 36 Detail.None
+
+-- the relationship has this start and this type
+abbrev pub is_from : List ℕ → RelationType → Row → Bool
+is_from start kind row = bytes_eq (start_in row) start && is_same_type (kind_in row) kind
 
 -- an active relationship of the item's start and type with another end
 abbrev pub is_in_the_way : Row → Row → Bool

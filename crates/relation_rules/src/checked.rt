@@ -17,7 +17,7 @@ pub enum Checked {
     Missing(CellKey),
 }
 
-// A check that tells nothing but its number.
+/// A check that tells nothing but its number.
 pub fn plain(code: u8) -> Check
     ensures { result ≡ record { code = code; detail = Detail.None } }
 {
@@ -27,7 +27,7 @@ pub fn plain(code: u8) -> Check
     }
 }
 
-// A check that tells the code that stands in the way.
+/// A check that tells the code that stands in the way.
 pub fn telling(code: u8, lei: Lei) -> Check
     ensures { result ≡ record { code = code; detail = Detail.Code lei } }
 {
@@ -37,7 +37,7 @@ pub fn telling(code: u8, lei: Lei) -> Check
     }
 }
 
-// A check that fails and tells nothing but its number.
+/// A check that fails and tells nothing but its number.
 pub fn failed(code: u8) -> Checked
     ensures { result ≡ Checking.failed code }
 {

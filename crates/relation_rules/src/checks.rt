@@ -4,10 +4,9 @@ ghost use Rattle.std.specs.Option.{option_map_or};
 ghost use Rattle.lei_records.specs.Exceptions.{exception_category_in};
 ghost use Rattle.lei_records.specs.Lines.{first_failing};
 ghost use Rattle.lei_records.specs.Relations;
-ghost use Rattle.relation_rules.specs.Checking;
 ghost use Rattle.relation_rules.specs.Checks;
 
-use crate::checked::{plain, telling};
+use crate::checked::plain;
 use crate::statuses::{is_over, may_follow};
 use lei_code::Lei;
 use lei_records::{Check, ExceptionItem, RecCell, RelCell, Relation};
@@ -164,17 +163,6 @@ pub fn held_check(held: Option<RelCell>, item: &Relation) -> Option<Check>
         return Some(plain(RELATION_TRANSITION));
     }
     None
-}
-
-// C37 of an active item: the end of the active relationship of its start and type.
-pub fn end_check(end: Lei, item: &Relation) -> Option<Check>
-    ensures { Relations.is_active item.now ≡ true
-        → result ≡ first_failing (Checks.c37 (Checking.unless_own (Relations.end_in item.now) (Some end)) item.now ∷ []) }
-{
-    if end == item.end() {
-        return None;
-    }
-    Some(telling(ACTIVE_TAKEN, end))
 }
 
 // ---- an exception

@@ -10,7 +10,7 @@ mod parents;
 mod relations;
 mod statuses;
 
-pub use checked::Checked;
+pub use checked::{Checked, failed, plain, telling};
 pub use checks::{
     ACTIVE_TAKEN, END_UNKNOWN, EXCEPTION_STANDS, LEI_UNKNOWN, NOT_MANAGED, NOTHING_TO_WITHDRAW,
     PARENT_CHAIN_LONG, PARENT_CYCLE, PARENT_STANDS, PERIOD_ORDER, RELATION_TRANSITION, SAME_NODE,

@@ -2,18 +2,20 @@
 ghost use Rattle.std.specs.Prelude.{◌≡◌, IsTrue, Some, true};
 ghost use Rattle.lei_shapes.specs.declared.lists.ExceptionCategory.{ExceptionCategory};
 ghost use Rattle.lei_records.specs.declared.view.CellKey.{CellKey};
+ghost use Rattle.lei_records.specs.declared.view.Seen.{Seen};
 ghost use Rattle.lei_records.specs.Lines.{first_failing};
 ghost use Rattle.lei_records.specs.Relations;
 ghost use Rattle.lei_records.specs.Tables.{IsSound, Table, cells_of};
+ghost use Rattle.authority_rules.specs.Taken.{unless_own};
 ghost use Rattle.relation_rules.specs.Checking;
 ghost use Rattle.relation_rules.specs.Checks.{relation_checks};
 ghost use Rattle.relation_rules.specs.Needs.{IsNeeded, lacks};
 ghost use Rattle.relation_rules.specs.Parents;
 ghost use Rattle.relation_rules.specs.declared.checked.Checked.{Checked};
 
-use crate::checked::{Checked, failed};
+use crate::checked::{Checked, failed, telling};
 use crate::checks::{
-    END_UNKNOWN, EXCEPTION_STANDS, PARENT_CHAIN_LONG, PARENT_CYCLE, START_UNKNOWN, end_check,
+    ACTIVE_TAKEN, END_UNKNOWN, EXCEPTION_STANDS, PARENT_CHAIN_LONG, PARENT_CYCLE, START_UNKNOWN,
     held_check, is_active, kind_of, own_check, start_check,
 };
 use crate::parents::{is_direct, parent_category, walk};
@@ -98,19 +100,20 @@ fn check_active<V: View>(view: &V, item: &Relation) -> Checked
         return Checked::Passes;
     }
     match view.active(&item.start(), kind_of(item)) {
-        Seen::Held(end) => check_end_taken(view, item, end),
+        Seen::Held(end) => check_end(view, item, end),
         Seen::Empty => check_parents(view, item),
         Seen::Missing => Checked::Missing(CellKey::Act(item.start(), kind_of(item))),
     }
 }
 
 // C37 of an active item, with the end of the active relationship of its start and type, and the checks behind it.
-fn check_end_taken<V: View>(view: &V, item: &Relation, end: Lei) -> Checked
+fn check_end<V: View>(view: &V, item: &Relation, end: Lei) -> Checked
     ensures { Relations.is_active item.now ≡ true
-        → result ≡ Checking.check_end_taken (V.cells view.now) item.now (Some end) }
+        → (key : CellKey) → result ≡ Checking.on_seen (unless_own (Relations.end_in item.now) (Seen.Held end)) key
+            (Checking.check_other_end (V.cells view.now) item.now) }
 {
-    if let Some(check) = end_check(end, item) {
-        return Checked::Fails(check);
+    if end != item.end() {
+        return Checked::Fails(telling(ACTIVE_TAKEN, end));
     }
     check_parents(view, item)
 }

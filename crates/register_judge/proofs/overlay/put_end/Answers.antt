@@ -2,7 +2,8 @@ use Rattle.std.specs.Prelude.{◌≡◌, Some, true, ◌&&◌, cond}
 use Rattle.std.proofs.Common.{ap, sym, rules, ◌∙◌}
 use Rattle.lei_shapes.specs.Lists.{relation_type_text}
 use Rattle.lei_records.specs.Relations.{end_in, is_active, kind_in, start_in}
-use Rattle.register_judge.specs.Overlays.{end_at, is_from}
+use Rattle.relation_rules.specs.Checks.{is_from}
+use Rattle.register_judge.specs.Overlays.{end_at}
 use Rattle.register_judge.proofs.MapLemmas.{pair_at-insert}
 use Rattle.register_judge.proofs.overlay.put_end.Goals as goal
 

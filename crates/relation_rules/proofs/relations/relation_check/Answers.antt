@@ -15,4 +15,4 @@ returns-clause-needed g c = λ key is.
 pub returns-clause-over_tables : goal.returns-clause-over_tables
 returns-clause-over_tables g c = λ table sound same.
     c.check_relation.ensures ∙ (ap (λ cells. Checking.check_relation cells c.args.office.now c.args.item.now) same
-    ∙ check_relation-cells table c.args.office.now c.args.item.now sound)
+    ∙ check_relation-cells table c.args.office.now c.args.item.now sound.actives)
