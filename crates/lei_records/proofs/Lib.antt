@@ -1,4 +1,3 @@
-pub mod CellLemmas
 pub mod SheetLemmas
 pub mod Codes
 pub mod RowLemmas

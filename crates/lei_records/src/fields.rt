@@ -1,8 +1,9 @@
 ghost use Rattle.std.specs.Prelude.{◌≡◌, map};
 ghost use Rattle.lei_records.specs.Fields;
-ghost use Rattle.lei_records.specs.Fields.{field_count, is_needed, may_stand, read_field};
+ghost use Rattle.lei_records.specs.Fields.{is_needed, may_stand, read_field};
 
 use crate::fields::Content::{Action, Shaped};
+use crate::places::{ACTION, EXCEPTION_PLACES, RECORD_PLACES, RELATION_PLACES};
 use lei_shapes::{Shape, fits};
 
 /// The kinds of items. Each has fields of its own.
@@ -51,9 +52,9 @@ pub struct Facts {
 /// A field's name, what it holds, and where it is needed.
 pub type Field = (&'static str, Content, Need);
 
-/// The fields of a record in order of place. The names are those of the columns of a golden copy of
-/// level 1 data, but for the last one; shapes and needs are this project's profile.
-pub const RECORD_FIELDS: [Field; 28] = [
+// The fields of a record in order of place. The names are those of the columns of a golden copy of
+// level 1 data, but for the last one; shapes and needs are this project's profile.
+const RECORD_FIELDS: [Field; RECORD_PLACES] = [
     ("LEI", Shaped(Shape::Code), Need::Always),
     ("Entity.LegalName", Shaped(Shape::Free), Need::Always),
     (
@@ -188,9 +189,9 @@ pub const RECORD_FIELDS: [Field; 28] = [
     ),
 ];
 
-/// The fields of a relationship in order of place. The names are those of the columns of a golden copy of level 2
-/// data; shapes and needs are this project's profile.
-pub const RELATION_FIELDS: [Field; 11] = [
+// The fields of a relationship in order of place. The names are those of the columns of a golden copy of level 2
+// data; shapes and needs are this project's profile.
+const RELATION_FIELDS: [Field; RELATION_PLACES] = [
     ("Relationship.StartNode", Shaped(Shape::Code), Need::Always),
     (
         "Relationship.RelationshipType",
@@ -240,10 +241,10 @@ pub const RELATION_FIELDS: [Field; 11] = [
     ),
 ];
 
-/// The fields of an exception in order of place: the four of its row, and what is to be done with it. The names are
-/// those of the columns of a golden copy of reporting exceptions, but for the last one; shapes and needs are this
-/// project's profile.
-pub const EXCEPTION_FIELDS: [Field; 5] = [
+// The fields of an exception in order of place: the four of its row, and what is to be done with it. The names are
+// those of the columns of a golden copy of reporting exceptions, but for the last one; shapes and needs are this
+// project's profile.
+const EXCEPTION_FIELDS: [Field; ACTION] = [
     ("LEI", Shaped(Shape::Code), Need::Always),
     (
         "ExceptionCategory",
@@ -259,27 +260,28 @@ pub const EXCEPTION_FIELDS: [Field; 5] = [
     ("Action", Action, Need::Optional),
 ];
 
-// The fields of a kind of item, lent.
-#[tactic(auto, unfolding(crate::specs::Fields::fields, crate::specs::Fields::relation_fields, crate::specs::Fields::exception_fields))]
-pub fn fields_of(kind: Kind) -> &'static [Field]
-    ensures { map read_field result.now ≡ Fields.fields_of kind }
-{
-    match kind {
-        Kind::Record => &RECORD_FIELDS,
-        Kind::Relation => &RELATION_FIELDS,
-        Kind::Exception => &EXCEPTION_FIELDS,
-    }
-}
-
 impl Kind {
-    /// How many fields an item of this kind may have.
-    pub fn field_count(self) -> usize
-        ensures { result ≡ field_count self }
+    /// The fields that an item of this kind may have, in order of place.
+    #[tactic(auto, unfolding(crate::specs::Fields::fields, crate::specs::Fields::relation_fields, crate::specs::Fields::exception_fields))]
+    pub fn fields(self) -> &'static [Field]
+        ensures table { map read_field result.now ≡ Fields.fields_of self }
+        ensures names { map (λ field. field.0.now) result.now ≡ Fields.names_of self }
     {
         match self {
-            Kind::Record => 28,
-            Kind::Relation => 11,
-            Kind::Exception => 5,
+            Kind::Record => &RECORD_FIELDS,
+            Kind::Relation => &RELATION_FIELDS,
+            Kind::Exception => &EXCEPTION_FIELDS,
+        }
+    }
+
+    /// How many they are.
+    pub fn field_count(self) -> usize
+        ensures { result ≡ Fields.field_count self }
+    {
+        match self {
+            Kind::Record => RECORD_PLACES,
+            Kind::Relation => RELATION_PLACES,
+            Kind::Exception => ACTION,
         }
     }
 
@@ -288,9 +290,9 @@ impl Kind {
         ensures { result ≡ Fields.row_len self }
     {
         match self {
-            Kind::Record => 28,
-            Kind::Relation => 11,
-            Kind::Exception => 4,
+            Kind::Record => RECORD_PLACES,
+            Kind::Relation => RELATION_PLACES,
+            Kind::Exception => EXCEPTION_PLACES,
         }
     }
 }

@@ -2,9 +2,10 @@
 ghost use Rattle.std.specs.Prelude.{◌≡◌, ◌∷◌, [], ℕ, suc, List};
 ghost use Rattle.std.specs.Option.{option_to_list};
 ghost use Rattle.std.specs.List.{Contains};
+ghost use Rattle.lei_records.specs.Walks.{Next};
 ghost use Rattle.successor_rules.specs.declared.walks.Walked.{Walked};
 ghost use Rattle.successor_rules.specs.Chains.{AllEnd, EndsClear, IsTurned, Leads, Nexts};
-ghost use Rattle.successor_rules.specs.Walks.{Next, walked};
+ghost use Rattle.successor_rules.specs.Walks.{walked};
 
 /// Where each way ends, none comes back to where it began.
 pub fn ending_ways_never_return()
