@@ -4,3 +4,4 @@ pub mod RowLemmas
 pub mod NameLemmas
 pub mod PassLemmas
 pub mod OptionLemmas
+pub mod FindLemmas

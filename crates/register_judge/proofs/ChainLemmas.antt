@@ -5,21 +5,23 @@ use Rattle.std.specs.Option.{option_to_list}
 use Rattle.std.specs.Str.{bytes_eq}
 use Rattle.std.proofs.Common.{refl, sym, ap, subst, rules, ◌∙◌}
 use Rattle.std.proofs.lemmas.Bool.{false_from_ne_true}
-use Rattle.lei_records.specs.declared.check.Check.{Check}
+use Rattle.lei_records.specs.Checks.{FailedCheck}
 use Rattle.lei_records.specs.declared.check.Detail.{Detail}
 use Rattle.lei_records.specs.declared.item.Item.{Item}
 use Rattle.lei_records.specs.declared.item.Readied.{Readied}
 use Rattle.lei_records.specs.declared.view.RecCell.{RecCell}
 use Rattle.lei_records.specs.Cells.{lei_in, rec_cell, successor_in}
-use Rattle.lei_records.specs.Lines.{fails_if, first_failing}
+use Rattle.lei_records.specs.Checks.{fails_if, first_failing}
 use Rattle.lei_records.specs.Rows.{Row}
 use Rattle.lei_records.specs.Tables.{Table, put, put_all, row_at, record_of}
 use Rattle.authority_rules.proofs.HolderLemmas.{bytes_same, bytes_itself, some_apart}
 use Rattle.authority_rules.proofs.PutLemmas.{row_at-put}
 use Rattle.successor_rules.specs.declared.walks.Walked.{Walked}
 use Rattle.successor_rules.specs.Chains.{AllEnd, IsTurned}
-use Rattle.successor_rules.specs.Successors.{HasChains, successor_of, successors_of}
-use Rattle.successor_rules.specs.Walks.{is_met, is_long, walked}
+use Rattle.lei_records.specs.Walks.{successor_of, successors_of}
+use Rattle.successor_rules.specs.Successors.{HasChains}
+use Rattle.lei_records.specs.Walks.{is_met, is_long}
+use Rattle.successor_rules.specs.Walks.{walked}
 use Rattle.successor_rules.proofs.ChainLemmas.{keeps_ends}
 use Rattle.successor_rules.proofs.WalkLemmas.{ended_walk_keeps_ends}
 use Rattle.register_judge.specs.Checks.{c16, successor_checks}
@@ -116,7 +118,7 @@ accepted_chains table limit today office (Item.Record row) chains passes = chain
 accepted_chains table limit today office (Item.Relation row) chains passes = record { held = chains.held; ends = chains.ends }
 accepted_chains table limit today office (Item.Exception item) chains passes = record { held = chains.held; ends = chains.ends }
 
-item_chains : (table : Table) (limit : ℕ) (today : ℤ) (office : List ℕ) (item : Item) (failed : Option Check) → HasChains table
+item_chains : (table : Table) (limit : ℕ) (today : ℤ) (office : List ℕ) (item : Item) (failed : Option FailedCheck) → HasChains table
     → first_failing (item_checks table limit today office item) ≡ failed
     → HasChains (put_all (writes_of (verdict_of failed) (Readied.Good item)) table)
 item_chains table limit today office item None chains is = put-written HasChains table item (accepted_chains table limit today office item chains is)

@@ -1,10 +1,10 @@
 -- What items leave of the chains of direct parents, and of exceptions beside them.
 use Rattle.std.specs.Prelude.{◌≡◌, ℕ, ℤ, List, [], ◌∷◌, Option, Some, None}
 use Rattle.std.proofs.Common.{refl}
-use Rattle.lei_records.specs.declared.check.Check.{Check}
+use Rattle.lei_records.specs.Checks.{FailedCheck}
 use Rattle.lei_records.specs.declared.item.Item.{Item}
 use Rattle.lei_records.specs.declared.item.Readied.{Readied}
-use Rattle.lei_records.specs.Lines.{first_failing}
+use Rattle.lei_records.specs.Checks.{first_failing}
 use Rattle.lei_records.specs.Tables.{IsSound, Table, put, put_all}
 use Rattle.relation_rules.specs.Parents.{AreApart, HasParents}
 use Rattle.relation_rules.proofs.ApartLemmas.{exceptions_keep_apart, relations_keep_apart}
@@ -19,7 +19,7 @@ abbrev Keeps : (Table → Type 0) → Type 0
 Keeps P = (table : Table) (limit : ℕ) (today : ℤ) (office : List ℕ) (item : Item) → IsSound table → P table
     → first_failing (item_checks table limit today office item) ≡ None → P (put table item)
 
-item_keeps : (P : Table → Type 0) → Keeps P → (table : Table) (limit : ℕ) (today : ℤ) (office : List ℕ) (item : Item) (failed : Option Check) → IsSound table → P table
+item_keeps : (P : Table → Type 0) → Keeps P → (table : Table) (limit : ℕ) (today : ℤ) (office : List ℕ) (item : Item) (failed : Option FailedCheck) → IsSound table → P table
     → first_failing (item_checks table limit today office item) ≡ failed
     → P (put_all (writes_of (verdict_of failed) (Readied.Good item)) table)
 item_keeps P keeps table limit today office item None sound has is = put-written P table item (keeps table limit today office item sound has is)

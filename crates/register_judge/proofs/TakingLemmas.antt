@@ -6,7 +6,7 @@ use Rattle.std.specs.Str.{bytes_eq}
 use Rattle.std.proofs.Common.{refl, sym, ap, subst, ◌∙◌, arith}
 use Rattle.std.proofs.Math.Bool.{and-false, and-true}
 use Rattle.std.proofs.lemmas.Bool.Decides.{nat_tests}
-use Rattle.lei_records.specs.declared.check.Check.{Check}
+use Rattle.lei_records.specs.Checks.{FailedCheck}
 use Rattle.lei_records.specs.declared.check.Detail.{Detail}
 use Rattle.lei_records.specs.declared.item.Item.{Item}
 use Rattle.lei_records.specs.declared.item.Readied.{Readied}
@@ -15,7 +15,7 @@ use Rattle.lei_records.specs.declared.view.RecCell.{RecCell}
 use Rattle.lei_records.specs.declared.view.RowKey.{RowKey}
 use Rattle.lei_records.specs.declared.view.Seen.{Seen}
 use Rattle.lei_records.specs.Cells.{Cells, lei_in, successor_in, rec_cell, is_live, akey, holds}
-use Rattle.lei_records.specs.Lines.{Line, code_detail, fails_if, first_failing}
+use Rattle.lei_records.specs.Checks.{Finding, code_detail, fails_if, first_failing}
 use Rattle.lei_records.specs.Rows.{Row}
 use Rattle.lei_records.specs.Tables.{Table, record_key, put, put_write, put_all, row_at, record_of, record_count, holder_of, other_holder, seen, cells_of, row_key, IsKeyed, HasHolders, AreRelationsKeyed, HasActives, IsSound}
 use Rattle.lei_records.proofs.OptionLemmas.{none_where}
@@ -25,8 +25,8 @@ use Rattle.authority_rules.proofs.HolderLemmas.{keys_total, some_apart, taken-ce
 use Rattle.authority_rules.proofs.SoundLemmas.{IsSound-put_exception}
 use Rattle.authority_rules.proofs.PutLemmas.{record_of-put, holder_of-put, IsKeyed-put, HasHolders-put, IsSound-put, other_than}
 use Rattle.successor_rules.specs.declared.walks.Walked.{Walked}
-use Rattle.successor_rules.specs.Successors.{successor_of}
-use Rattle.successor_rules.specs.Walks.{is_met, is_long}
+use Rattle.lei_records.specs.Walks.{successor_of}
+use Rattle.lei_records.specs.Walks.{is_met, is_long}
 use Rattle.successor_rules.proofs.WalkLemmas.{walk-over_table}
 use Rattle.relation_rules.specs.declared.checked.Checked.{Checked}
 use Rattle.relation_rules.specs.Checking.{check_walked, checked_of, on_seen, unless_failed}
@@ -57,11 +57,11 @@ key_by_table table item keyed holders =
       | true ↦ λ _.
           ap (λ answer. on_seen answer (key_cell (akey item)) next) (taken-cells table item keyed holders) ∙ on_held other (key_cell (akey item)) next
       | false ↦ λ dead.
-          sym (ap (λ live. checked_of (cond (live && is_some other) (Some (record { code = 19; detail = code_detail other })) None)) dead)
+          sym (ap (λ live. checked_of (cond (live && is_some other) (Some (record { number = 19; detail = code_detail other })) None)) dead)
     ] refl
 
 -- C16 to C18 are asked one after the other, and then those behind
-in_turn : (found : Option RecCell) (met long : Bool) (behind : List Line)
+in_turn : (found : Option RecCell) (met long : Bool) (behind : List Finding)
     → unless_failed (first_failing (c16 found ∷ []))
     (check_walked 17 18 (if met then Walked.Meets else if long then Walked.Long else Walked.Ends) (checked_of (first_failing behind)))
     ≡ checked_of (first_failing (c16 found ∷ fails_if met 17 Detail.None ∷ fails_if long 18 Detail.None ∷ behind))
@@ -109,7 +109,7 @@ held_seen None = refl
 held_seen (Some x) = refl
 
 -- a record that passes the checks before C20 is asked it
-with_room : (earlier room : Option Check) (none : Bool)
+with_room : (earlier room : Option FailedCheck) (none : Bool)
     → judged_by (checked_of earlier) (record { verdict = verdict_of room; new = none })
     ≡ Ok (record { verdict = verdict_of (option_or earlier room); new = none && is_none earlier })
 with_room None room none = λ i. Ok (record { verdict = verdict_of room; new = sym (and-true none) i })
@@ -131,7 +131,7 @@ record_by_table table limit room today office item keyed holders limit_is =
 -- ---- a relationship and an exception on a table
 
 -- the first check that fails is the verdict
-by_checks : (failed : Option Check) → judged_by (checked_of failed) accepted ≡ Ok (record { verdict = verdict_of failed; new = false })
+by_checks : (failed : Option FailedCheck) → judged_by (checked_of failed) accepted ≡ Ok (record { verdict = verdict_of failed; new = false })
 by_checks None = refl
 by_checks (Some check) = refl
 
@@ -283,7 +283,7 @@ excepted table limit room row false told limit_is = record {
   left = kept_room limit (record_count table) room limit_is;
 }
 
-by_verdict : (table : Table) (limit room : ℕ) (today : ℤ) (office : List ℕ) (item : Item) (failed : Option Check) → IsTold table → limit ≡ record_count table + room
+by_verdict : (table : Table) (limit room : ℕ) (today : ℤ) (office : List ℕ) (item : Item) (failed : Option FailedCheck) → IsTold table → limit ≡ record_count table + room
     → first_failing (item_checks table limit today office item) ≡ failed
     → After table limit room (writes_of (verdict_of failed) (Readied.Good item)) (room_taken (verdict_of failed) (is_new table today office (Readied.Good item)))
 by_verdict table limit room today office item (Some check) told limit_is is = unchanged table limit room told limit_is
@@ -353,7 +353,7 @@ put-written P table (Item.Relation row) is = is
 put-written P table (Item.Exception (row, true)) is = is
 put-written P table (Item.Exception (row, false)) is = is
 
-item_sound : (table : Table) (limit : ℕ) (today : ℤ) (office : List ℕ) (item : Item) (failed : Option Check) → IsSound table → HasRow item
+item_sound : (table : Table) (limit : ℕ) (today : ℤ) (office : List ℕ) (item : Item) (failed : Option FailedCheck) → IsSound table → HasRow item
     → first_failing (item_checks table limit today office item) ≡ failed
     → IsSound (put_all (writes_of (verdict_of failed) (Readied.Good item)) table)
 item_sound table limit today office item (Some check) sound is_row is = sound

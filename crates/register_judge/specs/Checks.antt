@@ -8,23 +8,23 @@ use Rattle.lei_shapes.specs.Moment.{day_of}
 use Rattle.lei_records.specs.declared.check.Detail.{Detail}
 use Rattle.lei_records.specs.declared.view.RecCell.{RecCell}
 use Rattle.lei_records.specs.Cells.{lei_in, status_in, entity_status_in, initial_in, updated_in, renewal_in, created_in, manager_in, successor_in, is_live}
-use Rattle.lei_records.specs.Lines.{Line, fails_if, code_detail}
+use Rattle.lei_records.specs.Checks.{Finding, fails_if, code_detail}
 use Rattle.lei_records.specs.Rows.{Row}
 use Rattle.lei_records.specs.Tables.{Table, record_of, record_count, other_holder}
 use Rattle.status_rules.specs.declared.transitions.Party.{Party}
 use Rattle.status_rules.specs.Statuses.{entity_fits, renewal_fits, is_issued, is_retired, is_duplicate}
 use Rattle.status_rules.specs.Transitions.{party}
-use Rattle.successor_rules.specs.Successors.{successor_of}
-use Rattle.successor_rules.specs.Walks.{Next, is_met, is_long}
+use Rattle.lei_records.specs.Walks.{successor_of}
+use Rattle.lei_records.specs.Walks.{Next, is_met, is_long}
 
 -- ---- the item alone, and the uploader
 
 -- C05: record and entity status are no allowed pair
-abbrev pub c05 : Row → Line
+abbrev pub c05 : Row → Finding
 c05 item = fails_if (not (entity_fits (status_in item) (entity_status_in item))) 5 Detail.None
 
 -- C06: LastUpdateDate or NextRenewalDate is before InitialRegistrationDate
-abbrev pub c06 : Row → Line
+abbrev pub c06 : Row → Finding
 c06 item = fails_if (int_lt (updated_in item) (initial_in item) || int_lt (renewal_in item) (initial_in item)) 6 Detail.None
 
 -- the moment's day is after today
@@ -32,7 +32,7 @@ abbrev pub is_after : ℤ → ℤ → Bool
 is_after today seconds = int_lt today (day_of seconds)
 
 -- C07: the day of LastUpdateDate or of EntityCreationDate is after today
-abbrev pub c07 : ℤ → Row → Line
+abbrev pub c07 : ℤ → Row → Finding
 c07 today item =
     fails_if (is_after today (updated_in item) || option_map_or (is_after today) (created_in item) false) 7 Detail.None
 
@@ -41,22 +41,22 @@ abbrev pub misfits : RecordStatus → Bool → Bool
 misfits status stands = (stands && not (is_retired status || is_duplicate status)) || (not stands && is_duplicate status)
 
 -- C08: the successor, or that there is none, doesn't fit the status
-abbrev pub c08 : Row → Line
+abbrev pub c08 : Row → Finding
 c08 item = fails_if (misfits (status_in item) (is_some (successor_in item))) 8 Detail.None
 
 -- C09: the item's ManagingLOU isn't the uploader
-abbrev pub c09 : List ℕ → Row → Line
+abbrev pub c09 : List ℕ → Row → Finding
 c09 office item = fails_if (not (bytes_eq (manager_in item) office)) 9 Detail.None
 
 -- ---- the record that is held under the item's LEI, if there is one
 
 -- C10: no record is held and the status isn't ISSUED
-abbrev pub c10 : Option RecCell → Row → Line
+abbrev pub c10 : Option RecCell → Row → Finding
 c10 None item = fails_if (not (is_issued (status_in item))) 10 Detail.None
 c10 (Some held) item = fails_if false 10 Detail.None
 
 -- C11: one is held and the pair of statuses isn't permitted; the held status is told
-abbrev pub c11 : Option RecCell → Row → Line
+abbrev pub c11 : Option RecCell → Row → Finding
 c11 None item = fails_if false 11 Detail.None
 c11 (Some held) item =
     fails_if (is_none (party (Some held.status) (status_in item))) 11 (Detail.Status held.status)
@@ -70,66 +70,66 @@ is_another held office (Some Party.Receiver) = not (option_map_or (bytes_eq offi
 
 -- C12: one is held, the pair is permitted to its manager (its receiver), and its ManagingLOU (its
 -- TransferTo) isn't the uploader
-abbrev pub c12 : Option RecCell → List ℕ → Row → Line
+abbrev pub c12 : Option RecCell → List ℕ → Row → Finding
 c12 None office item = fails_if false 12 Detail.None
 c12 (Some held) office item =
     fails_if (is_another held office (party (Some held.status) (status_in item))) 12 Detail.None
 
 -- C13: one is held with another InitialRegistrationDate
-abbrev pub c13 : Option RecCell → Row → Line
+abbrev pub c13 : Option RecCell → Row → Finding
 c13 None item = fails_if false 13 Detail.None
 c13 (Some held) item = fails_if (not (int_eq held.initial (initial_in item))) 13 Detail.None
 
 -- C14: one is held with a later LastUpdateDate
-abbrev pub c14 : Option RecCell → Row → Line
+abbrev pub c14 : Option RecCell → Row → Finding
 c14 None item = fails_if false 14 Detail.None
 c14 (Some held) item = fails_if (int_lt (updated_in item) held.updated) 14 Detail.None
 
 -- C15: the rule on renewal is broken
-abbrev pub c15 : ℤ → Row → Line
+abbrev pub c15 : ℤ → Row → Finding
 c15 today item = fails_if (not (renewal_fits (status_in item) (day_of (renewal_in item)) today)) 15 Detail.None
 
 -- ---- the successor of an item that has one
 
 -- C16: no record of the successor is held
-abbrev pub c16 : Option RecCell → Line
+abbrev pub c16 : Option RecCell → Finding
 c16 found = fails_if (is_none found) 16 Detail.None
 
 -- C17: one of the first 200 members of the walk from the successor is the item's own LEI
-abbrev pub c17 : Next → Row → List ℕ → Line
+abbrev pub c17 : Next → Row → List ℕ → Finding
 c17 next item successor = fails_if (is_met next (lei_in item) successor) 17 Detail.None
 
 -- C18: that walk has a 201st member
-abbrev pub c18 : Next → List ℕ → Line
+abbrev pub c18 : Next → List ℕ → Finding
 c18 next successor = fails_if (is_long next successor) 18 Detail.None
 
 -- ---- the other records
 
 -- C19: the item is live and another live record has its authority key; that record's LEI is told
-abbrev pub c19 : Option (List ℕ) → Row → Line
+abbrev pub c19 : Option (List ℕ) → Row → Finding
 c19 other item = fails_if (is_live item && is_some other) 19 (code_detail other)
 
 -- C20: no record is held, and there are as many records as the limit
-abbrev pub c20 : Option RecCell → Bool → Line
+abbrev pub c20 : Option RecCell → Bool → Finding
 c20 held full = fails_if (is_none held && full) 20 Detail.None
 
 -- ---- the checks in order of their numbers
 
-abbrev pub own_checks : ℤ → List ℕ → Row → List Line
+abbrev pub own_checks : ℤ → List ℕ → Row → List Finding
 own_checks today office item = c05 item ∷ c06 item ∷ c07 today item ∷ c08 item ∷ c09 office item ∷ []
 
-abbrev pub held_checks : Option RecCell → ℤ → List ℕ → Row → List Line
+abbrev pub held_checks : Option RecCell → ℤ → List ℕ → Row → List Finding
 held_checks held today office item =
     c10 held item ∷ c11 held item ∷ c12 held office item ∷ c13 held item ∷ c14 held item ∷ c15 today item ∷ []
 
 -- C16 to C18 are asked only of an item that has a successor. The walk goes by the records of the table
-abbrev pub successor_checks : Table → Row → Option (List ℕ) → List Line
+abbrev pub successor_checks : Table → Row → Option (List ℕ) → List Finding
 successor_checks table item None = []
 successor_checks table item (Some successor) =
     c16 (record_of table successor) ∷ c17 (successor_of table) item successor ∷ c18 (successor_of table) successor ∷ []
 
 -- the checks before C20, on a table
-abbrev pub earlier_checks : Table → ℤ → List ℕ → Row → List Line
+abbrev pub earlier_checks : Table → ℤ → List ℕ → Row → List Finding
 earlier_checks table today office item =
     own_checks today office item ++ held_checks (record_of table (lei_in item)) today office item
     ++ successor_checks table item (successor_in item) ++ c19 (other_holder table item) item ∷ []
@@ -139,6 +139,6 @@ abbrev pub is_full : Table → ℕ → Bool
 is_full table limit = nat_le limit (record_count table)
 
 -- all checks of a record on a table, for an office and a day, where the table may hold so many records
-abbrev pub checks : Table → ℕ → ℤ → List ℕ → Row → List Line
+abbrev pub checks : Table → ℕ → ℤ → List ℕ → Row → List Finding
 checks table limit today office item =
     earlier_checks table today office item ++ c20 (record_of table (lei_in item)) (is_full table limit) ∷ []

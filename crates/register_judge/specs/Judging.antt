@@ -1,6 +1,6 @@
 -- The same over any view: what a view's cells make of items, or the first cell that they need and the view lacks.
 use Rattle.std.specs.Prelude.{ℕ, ◌+◌, ◌-◌, ◌==◌, ℤ, List, [], ◌∷◌, ◌++◌, Bool, true, false, if◌then◌else◌, Option, Some, None, is_none, Result, Ok, Err}
-use Rattle.lei_records.specs.declared.check.Check.{Check}
+use Rattle.lei_records.specs.Checks.{FailedCheck}
 use Rattle.lei_records.specs.declared.item.Item.{Item}
 use Rattle.lei_records.specs.declared.item.Readied.{Readied}
 use Rattle.lei_records.specs.declared.view.CellKey.{CellKey}
@@ -8,7 +8,7 @@ use Rattle.lei_records.specs.declared.view.RecCell.{RecCell}
 use Rattle.lei_records.specs.declared.view.RowKey.{RowKey}
 use Rattle.lei_records.specs.declared.view.Seen.{Seen}
 use Rattle.lei_records.specs.Cells.{Cells, lei_in, successor_in, is_live, akey}
-use Rattle.lei_records.specs.Lines.{first_failing}
+use Rattle.lei_records.specs.Checks.{first_failing}
 use Rattle.lei_records.specs.Rows.{Row}
 use Rattle.authority_rules.specs.Taken.{taken}
 use Rattle.relation_rules.specs.declared.checked.Checked.{Checked}
@@ -59,7 +59,7 @@ check_record cells today office item =
 
 -- ---- an item
 
-abbrev pub rejected : Check → Judged
+abbrev pub rejected : FailedCheck → Judged
 rejected check = record { verdict = Verdict.Rejected check; new = false }
 
 -- an item that takes up no room passes

@@ -1,11 +1,11 @@
 -- What an upload's items do to a table, from the first to the last.
 use Rattle.std.specs.Prelude.{ℕ, ◌+◌, ℤ, List, [], ◌∷◌, ◌++◌, Bool, false, ◌&&◌, if◌then◌else◌, Option, Some, None, is_none, ⊤}
-use Rattle.lei_records.specs.declared.check.Check.{Check}
+use Rattle.lei_records.specs.Checks.{FailedCheck}
 use Rattle.lei_records.specs.declared.item.Item.{Item}
 use Rattle.lei_records.specs.declared.item.Readied.{Readied}
 use Rattle.lei_records.specs.declared.view.RowKey.{RowKey}
 use Rattle.lei_records.specs.Cells.{lei_in}
-use Rattle.lei_records.specs.Lines.{Line, first_failing}
+use Rattle.lei_records.specs.Checks.{Finding, first_failing}
 use Rattle.lei_records.specs.Spelled.{IsExceptionRow, IsRelationRow, IsRow}
 use Rattle.lei_records.specs.Tables.{Table, record_of, put_all, row_key}
 use Rattle.relation_rules.specs.Checks.{relation_checks, exception_checks}
@@ -13,12 +13,12 @@ use Rattle.register_judge.specs.declared.outcome.Verdict.{Verdict}
 use Rattle.register_judge.specs.Checks.{earlier_checks, checks}
 
 -- a check that failed, or none
-abbrev pub verdict_of : Option Check → Verdict
+abbrev pub verdict_of : Option FailedCheck → Verdict
 verdict_of None = Verdict.Accepted
 verdict_of (Some check) = Verdict.Rejected check
 
 -- the checks of an item on a table: C05 to C20 of a record, C30 to C40 of a relationship, C50 to C53 of an exception
-abbrev pub item_checks : Table → ℕ → ℤ → List ℕ → Item → List Line
+abbrev pub item_checks : Table → ℕ → ℤ → List ℕ → Item → List Finding
 item_checks table limit today office (Item.Record row) = checks table limit today office row
 item_checks table limit today office (Item.Relation row) = relation_checks table office row
 item_checks table limit today office (Item.Exception item) = exception_checks table office item

@@ -3,7 +3,7 @@ ghost use Rattle.std.specs.Prelude.{◌≡◌, ℕ, List, [], ◌∷◌, false, 
 ghost use Rattle.std.specs.Option.{option_map_or};
 ghost use Rattle.std.specs.Str.{bytes_eq};
 ghost use Rattle.lei_records.specs.Cells.{entity_status_in, renewal_in};
-ghost use Rattle.lei_records.specs.Lines.{first_failing};
+ghost use Rattle.lei_records.specs.Checks.{first_failing};
 ghost use Rattle.status_rules.specs.Statuses;
 ghost use Rattle.register_judge.specs.Checks;
 

@@ -3,7 +3,7 @@ ghost use Rattle.std.specs.Prelude.{◌≡◌, ℕ, ℤ, List, None};
 ghost use Rattle.lei_records.specs.declared.item.Item.{Item};
 ghost use Rattle.lei_records.specs.declared.item.Readied.{Readied};
 ghost use Rattle.lei_records.specs.Cells.{successor_in};
-ghost use Rattle.lei_records.specs.Lines.{first_failing};
+ghost use Rattle.lei_records.specs.Checks.{first_failing};
 ghost use Rattle.lei_records.specs.Rows.{Row};
 ghost use Rattle.lei_records.specs.Tables.{Table, IsSound, put, put_all};
 ghost use Rattle.relation_rules.specs.Parents.{AreApart, HasParents};

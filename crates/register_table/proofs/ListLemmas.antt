@@ -10,6 +10,7 @@ use Rattle.std.proofs.lemmas.List.{append-nil, length-append}
 use mathlib.Core.Bool.{true≢false}
 use Rattle.lei_records.specs.Rows.{Row}
 use Rattle.lei_records.specs.Tables.{KeyTexts, Rows, key_cmp}
+use Rattle.lei_records.proofs.FindLemmas.{find-passes}
 use Rattle.lei_records.proofs.OptionLemmas.{mapped, none_there, some_mapped}
 use Rattle.authority_rules.proofs.HolderLemmas.{keys_total, same_key}
 use Rattle.authority_rules.proofs.KeyLemmas.{key_itself, keys_antisymmetric}
@@ -80,15 +81,6 @@ find_place test (x ∷ xs) within =
 pub standing-find : {X : Type 0} (test : X → Bool) (xs : List X) (at : Option ℕ) → position test xs ≡ at → standing at xs ≡ find test xs
 standing-find test xs None is = sym (unplaced test xs is)
 standing-find test xs (Some at) is = let p = placed test xs at is in ap (slice_get xs) (sym p.0) ∙ sym (find_place test xs p.1)
-
--- what is found passes
-pub find-passes : {X : Type 0} (test : X → Bool) (xs : List X) (x : X) → find test xs ≡ Some x → test x ≡ true
-find-passes test [] x found = cc
-find-passes test (y ∷ ys) x found =
-    elim (test y) as (λ b. test y ≡ b → cond b (Some y) (find test ys) ≡ Some x → test x ≡ true) [
-      | true ↦ λ t is. let same : y ≡ x = cc in ap test (sym same) ∙ t
-      | false ↦ λ _ is. find-passes test ys x is
-    ] refl found
 
 -- where one test finds what another passes, the other finds something
 pub find-other : {X : Type 0} (test other : X → Bool) (xs : List X) (x : X) → find test xs ≡ Some x → other x ≡ true → find other xs ≡ None → ⊥

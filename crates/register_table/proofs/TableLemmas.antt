@@ -10,12 +10,13 @@ use Rattle.lei_records.specs.Cells.{holds, lei_in}
 use Rattle.lei_records.specs.Relations.{end_in, is_active_of}
 use Rattle.lei_records.specs.Rows.{Row}
 use Rattle.lei_records.specs.Tables.{KeyTexts, Table, IsSound, active_of, exception_key, has_exception, holder_of, record_key, relation_key, relation_key_in, relation_row, row_at}
+use Rattle.lei_records.proofs.FindLemmas.{find-passes}
 use Rattle.lei_records.proofs.OptionLemmas.{some_mapped}
 use Rattle.authority_rules.proofs.HolderLemmas.{keys_total}
 use Rattle.authority_rules.proofs.MapLemmas.{find-values, values-find}
 use Rattle.register_table.specs.Lists.{Listed, AreKept, HasKeysOnce, exception_item_key, is_exception_of, is_of, is_relation_of, record_key_in, record_rows, rows_under, table_of}
 use Rattle.register_table.proofs.KeyLemmas.{has_key, is_exception_of-key, is_of-key, is_relation_of-key}
-use Rattle.register_table.proofs.ListLemmas.{IsOnce, find-other, find-own, find-passes, get-rows_under}
+use Rattle.register_table.proofs.ListLemmas.{IsOnce, find-other, find-own, get-rows_under}
 
 -- ---- by key
 

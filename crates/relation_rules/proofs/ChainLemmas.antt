@@ -10,7 +10,7 @@ use Rattle.lei_shapes.specs.Lists.{relation_type_of, relation_type_text}
 use Rattle.lei_shapes.proofs.ListLemmas.{texts_apart}
 use Rattle.lei_shapes.proofs.ValueTexts.{relation_type_of-text}
 use Rattle.lei_records.specs.declared.item.Item.{Item}
-use Rattle.lei_records.specs.Lines.{first_failing}
+use Rattle.lei_records.specs.Checks.{first_failing}
 use Rattle.lei_records.specs.Relations.{end_in, is_active, is_active_of, kind_in, start_in}
 use Rattle.lei_records.specs.Rows.{Row}
 use Rattle.lei_records.specs.Tables.{IsSound, Table, put}
@@ -18,11 +18,13 @@ use Rattle.authority_rules.proofs.HolderLemmas.{bytes_same}
 use Rattle.authority_rules.proofs.PutLemmas.{other_than}
 use Rattle.successor_rules.specs.declared.walks.Walked.{Walked}
 use Rattle.successor_rules.specs.Chains.{AllEnd, IsTurned}
-use Rattle.successor_rules.specs.Walks.{is_long, is_met, walked}
+use Rattle.lei_records.specs.Walks.{is_long, is_met}
+use Rattle.successor_rules.specs.Walks.{walked}
 use Rattle.successor_rules.proofs.ChainLemmas.{keeps_ends}
 use Rattle.successor_rules.proofs.WalkLemmas.{ended_walk_keeps_ends}
 use Rattle.relation_rules.specs.Checks.{c37, is_direct_parent, is_from, other_end, relation_checks}
-use Rattle.relation_rules.specs.Parents.{HasParents, is_direct, parent_of, parents_of}
+use Rattle.lei_records.specs.Parents.{is_direct, parent_of, parents_of}
+use Rattle.relation_rules.specs.Parents.{HasParents}
 use Rattle.relation_rules.proofs.ActiveLemmas.{active_of-put, closed, left_of, opened, same_bytes}
 use Rattle.lei_records.proofs.PassLemmas.{AllPass, all_pass}
 use Rattle.relation_rules.proofs.PutLemmas.{fitting}
@@ -121,10 +123,10 @@ module _ (table : Table) (row : Row) (sound : IsSound table) (passes : (c37 (oth
       (λ none. keeps_ends (parents_of table) (parents_of (put table (Item.Relation row))) start [] 0 all
       (turned [] (ap option_to_list (here ∙ none))) (λ target at. absurd (no_member target at)))
 
-pub keeps_parents : (table : Table) (office : List ℕ) (row : Row) → IsSound table → HasParents table
-    → first_failing (relation_checks table office row) ≡ None → HasParents (put table (Item.Relation row))
-keeps_parents table office row sound has passes =
-    let all : AllPass (relation_checks table office row) = all_pass (relation_checks table office row) passes in
+pub keeps_parents : (table : Table) (issuer : List ℕ) (row : Row) → IsSound table → HasParents table
+    → first_failing (relation_checks table issuer row) ≡ None → HasParents (put table (Item.Relation row))
+keeps_parents table issuer row sound has passes =
+    let all : AllPass (relation_checks table issuer row) = all_pass (relation_checks table issuer row) passes in
     let from_37 = all.others.others.others.others.others.others.others in
     elim (is_direct_parent row) as (λ b. is_direct_parent row ≡ b → HasParents (put table (Item.Relation row))) [
       | true ↦ λ t.

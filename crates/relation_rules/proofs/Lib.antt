@@ -1,4 +1,3 @@
-pub mod Parts
 pub mod ActiveLemmas
 pub mod ParentLemmas
 pub mod CheckLemmas

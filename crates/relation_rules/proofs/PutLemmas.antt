@@ -1,22 +1,20 @@
 -- A relationship that is put leaves a sound table sound.
-use Rattle.std.specs.Prelude.{◌≡◌, Bool, true, false, ◌&&◌, is_some, Option, Some, None, option_map}
-use Rattle.std.proofs.Common.{refl, ap, subst, ◌∙◌}
+use Rattle.std.specs.Prelude.{◌≡◌, false, ◌&&◌, find}
+use Rattle.std.proofs.Common.{sym, ap, subst, ◌∙◌}
 use Rattle.lei_records.specs.declared.item.Item.{Item}
 use Rattle.lei_records.specs.Relations.{end_in, is_active}
 use Rattle.lei_records.specs.Rows.{Row}
 use Rattle.lei_records.specs.Spelled.{IsRelationRow}
-use Rattle.lei_records.specs.Tables.{AreRelationsKeyed, HasRelationRows, IsSound, Table, put, relation_key_in}
-use Rattle.relation_rules.specs.Checks.{c37, other_end}
+use Rattle.lei_records.specs.Tables.{AreRelationsKeyed, HasRelationRows, IsSound, Table, put, relation_key_in, relations_of}
+use Rattle.lei_records.proofs.OptionLemmas.{none_where, some_mapped}
+use Rattle.relation_rules.specs.Checks.{c37, is_in_the_way, other_end}
 use Rattle.relation_rules.proofs.ActiveLemmas.{HasActives-put, IsFitting, split, with_relation}
-
-fits_by : (active : Bool) (found : Option Row) → (active && is_some (option_map end_in found)) ≡ false → active ≡ true → found ≡ None
-fits_by true None passes is = refl
-fits_by true (Some row) passes is = cc
-fits_by false found passes is = cc
 
 -- a relationship that passes C37 has no other one in its way
 pub fitting : (table : Table) (row : Row) → (c37 (other_end table row) row).fails ≡ false → IsFitting table row
-fitting table row passes = fits_by (is_active row) _ passes
+fitting table row passes =
+    let found = find (is_in_the_way row) (relations_of table) in
+    none_where (is_active row) found (ap (λ some. is_active row && some) (sym (some_mapped end_in found)) ∙ passes)
 
 pub AreRelationsKeyed-put : (table : Table) (row : Row) → AreRelationsKeyed table → AreRelationsKeyed (with_relation table row)
 AreRelationsKeyed-put table row keyed key other at =
