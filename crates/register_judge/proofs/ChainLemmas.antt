@@ -112,23 +112,23 @@ chains-put table row chains passes = record {
 }
 
 -- an accepted item leaves each successor held and each chain ending: a relationship and an exception leave the records
-accepted_chains : (table : Table) (limit : ℕ) (today : ℤ) (office : List ℕ) (item : Item) → HasChains table
-    → first_failing (item_checks table limit today office item) ≡ None → HasChains (put table item)
-accepted_chains table limit today office (Item.Record row) chains passes = chains-put table row chains (successors_pass table limit today office row passes)
-accepted_chains table limit today office (Item.Relation row) chains passes = record { held = chains.held; ends = chains.ends }
-accepted_chains table limit today office (Item.Exception item) chains passes = record { held = chains.held; ends = chains.ends }
+accepted_chains : (table : Table) (limit : ℕ) (today : ℤ) (issuer : List ℕ) (item : Item) → HasChains table
+    → first_failing (item_checks table limit today issuer item) ≡ None → HasChains (put table item)
+accepted_chains table limit today issuer (Item.Record row) chains passes = chains-put table row chains (successors_pass table limit today issuer row passes)
+accepted_chains table limit today issuer (Item.Relation row) chains passes = record { held = chains.held; ends = chains.ends }
+accepted_chains table limit today issuer (Item.Exception item) chains passes = record { held = chains.held; ends = chains.ends }
 
-item_chains : (table : Table) (limit : ℕ) (today : ℤ) (office : List ℕ) (item : Item) (failed : Option FailedCheck) → HasChains table
-    → first_failing (item_checks table limit today office item) ≡ failed
+item_chains : (table : Table) (limit : ℕ) (today : ℤ) (issuer : List ℕ) (item : Item) (failed : Option FailedCheck) → HasChains table
+    → first_failing (item_checks table limit today issuer item) ≡ failed
     → HasChains (put_all (writes_of (verdict_of failed) (Readied.Good item)) table)
-item_chains table limit today office item None chains is = put-written HasChains table item (accepted_chains table limit today office item chains is)
-item_chains table limit today office item (Some check) chains is = chains
+item_chains table limit today issuer item None chains is = put-written HasChains table item (accepted_chains table limit today issuer item chains is)
+item_chains table limit today issuer item (Some check) chains is = chains
 
-pub take-chains : (table : Table) (limit : ℕ) (today : ℤ) (office : List ℕ) (items : List Readied) → HasChains table
-    → HasChains (take table limit today office items).table
-take-chains table limit today office [] chains = chains
-take-chains table limit today office (Readied.Bad check ∷ items) chains = take-chains table limit today office items chains
-take-chains table limit today office (Readied.Good item ∷ items) chains =
-    let given = verdict table limit today office (Readied.Good item) in
-    take-chains (put_all (writes_of given (Readied.Good item)) table) limit today office items
-    (item_chains table limit today office item (first_failing (item_checks table limit today office item)) chains refl)
+pub take-chains : (table : Table) (limit : ℕ) (today : ℤ) (issuer : List ℕ) (items : List Readied) → HasChains table
+    → HasChains (take table limit today issuer items).table
+take-chains table limit today issuer [] chains = chains
+take-chains table limit today issuer (Readied.Bad check ∷ items) chains = take-chains table limit today issuer items chains
+take-chains table limit today issuer (Readied.Good item ∷ items) chains =
+    let given = verdict table limit today issuer (Readied.Good item) in
+    take-chains (put_all (writes_of given (Readied.Good item)) table) limit today issuer items
+    (item_chains table limit today issuer item (first_failing (item_checks table limit today issuer item)) chains refl)

@@ -3,6 +3,5 @@ pub mod OverlayLemmas
 pub mod JudgingLemmas
 pub mod RelationLemmas
 pub mod TakingLemmas
-pub mod RisingLemmas
 pub mod ChainLemmas
 pub mod ParentLemmas

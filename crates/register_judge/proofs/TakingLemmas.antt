@@ -83,22 +83,22 @@ successor_by_table table item (Some successor) keyed holders =
     ∙ in_turn found (is_met (successor_of table) (lei_in item) successor) (is_long (successor_of table) successor) (c19 (other_holder table item) item ∷ []))
 
 -- the cells of a table come to the first check before C20 that fails on it
-record_by_cells : (table : Table) (today : ℤ) (office : List ℕ) (item : Row) → IsKeyed table → HasHolders table
-    → check_record (cells_of table) today office item ≡ checked_of (first_failing (earlier_checks table today office item))
+record_by_cells : (table : Table) (today : ℤ) (issuer : List ℕ) (item : Row) → IsKeyed table → HasHolders table
+    → check_record (cells_of table) today issuer item ≡ checked_of (first_failing (earlier_checks table today issuer item))
 unfolding check_record
-record_by_cells table today office item keyed holders =
+record_by_cells table today issuer item keyed holders =
     let held = record_of table (lei_in item) in
-    let own = own_checks today office item in
-    let of_held = held_checks held today office item in
+    let own = own_checks today issuer item in
+    let of_held = held_checks held today issuer item in
     let behind = successor_checks table item (successor_in item) ++ c19 (other_holder table item) item ∷ [] in
     ap (unless_failed (first_failing own))
-    (on_held held (CellKey.Rec (lei_in item)) (check_held (cells_of table) today office item)
+    (on_held held (CellKey.Rec (lei_in item)) (check_held (cells_of table) today issuer item)
     ∙ (ap (unless_failed (first_failing of_held)) (successor_by_table table item (successor_in item) keyed holders) ∙ chained of_held behind))
     ∙ chained own (of_held ++ behind)
 
 -- the verdict of a record's checks on a table, and whether it is new there
 abbrev pub judged_on : Table → ℕ → ℤ → List ℕ → Readied → Judged
-judged_on table limit today office item = record { verdict = verdict table limit today office item; new = is_new table today office item }
+judged_on table limit today issuer item = record { verdict = verdict table limit today issuer item; new = is_new table today issuer item }
 
 -- the room that is left is none exactly where the table is full
 full_by_room : (count limit room : ℕ) → limit ≡ count + room → (room == 0) ≡ nat_le limit count
@@ -115,13 +115,13 @@ with_room : (earlier room : Option FailedCheck) (none : Bool)
 with_room None room none = λ i. Ok (record { verdict = verdict_of room; new = sym (and-true none) i })
 with_room (Some check) room none = λ i. Ok (record { verdict = Verdict.Rejected check; new = sym (and-false none) i })
 
-record_by_table : (table : Table) (limit room : ℕ) (today : ℤ) (office : List ℕ) (item : Row) → IsKeyed table → HasHolders table → limit ≡ record_count table + room
-    → judge_record (cells_of table) (room == 0) today office item ≡ Ok (judged_on table limit today office (Readied.Good (Item.Record item)))
-record_by_table table limit room today office item keyed holders limit_is =
+record_by_table : (table : Table) (limit room : ℕ) (today : ℤ) (issuer : List ℕ) (item : Row) → IsKeyed table → HasHolders table → limit ≡ record_count table + room
+    → judge_record (cells_of table) (room == 0) today issuer item ≡ Ok (judged_on table limit today issuer (Readied.Good (Item.Record item)))
+record_by_table table limit room today issuer item keyed holders limit_is =
     let held = record_of table (lei_in item) in
-    let earlier = earlier_checks table today office item in
+    let earlier = earlier_checks table today issuer item in
     let of_room = c20 held (is_full table limit) ∷ [] in
-    (λ i. judged_by (record_by_cells table today office item keyed holders i) (judge_room (held_seen held i) (full_by_room (record_count table) limit room limit_is i)))
+    (λ i. judged_by (record_by_cells table today issuer item keyed holders i) (judge_room (held_seen held i) (full_by_room (record_count table) limit room limit_is i)))
     ∙ (with_room (first_failing earlier) (first_failing of_room) (is_none held)
     ∙ (λ i. Ok (record {
       verdict = verdict_of (sym (first_failing-append earlier of_room) i);
@@ -143,15 +143,15 @@ pub record IsTold (table : Table) : Type 0 where
   pub relations_keyed : AreRelationsKeyed table
   pub actives : HasActives table
 
-item_by_table : (table : Table) (limit room : ℕ) (today : ℤ) (office : List ℕ) (item : Readied) → IsTold table → limit ≡ record_count table + room
-    → judge_item (cells_of table) (room == 0) today office item ≡ Ok (judged_on table limit today office item)
-item_by_table table limit room today office (Readied.Bad check) told limit_is = refl
-item_by_table table limit room today office (Readied.Good (Item.Record item)) told limit_is =
-    record_by_table table limit room today office item told.keyed told.holders limit_is
-item_by_table table limit room today office (Readied.Good (Item.Relation item)) told limit_is =
-    ap (λ checked. judged_by checked accepted) (check_relation-cells table office item told.actives) ∙ by_checks (first_failing (relation_checks table office item))
-item_by_table table limit room today office (Readied.Good (Item.Exception item)) told limit_is =
-    ap (λ checked. judged_by checked accepted) (check_exception-cells table office item) ∙ by_checks (first_failing (exception_checks table office item))
+item_by_table : (table : Table) (limit room : ℕ) (today : ℤ) (issuer : List ℕ) (item : Readied) → IsTold table → limit ≡ record_count table + room
+    → judge_item (cells_of table) (room == 0) today issuer item ≡ Ok (judged_on table limit today issuer item)
+item_by_table table limit room today issuer (Readied.Bad check) told limit_is = refl
+item_by_table table limit room today issuer (Readied.Good (Item.Record item)) told limit_is =
+    record_by_table table limit room today issuer item told.keyed told.holders limit_is
+item_by_table table limit room today issuer (Readied.Good (Item.Relation item)) told limit_is =
+    ap (λ checked. judged_by checked accepted) (check_relation-cells table issuer item told.actives) ∙ by_checks (first_failing (relation_checks table issuer item))
+item_by_table table limit room today issuer (Readied.Good (Item.Exception item)) told limit_is =
+    ap (λ checked. judged_by checked accepted) (check_exception-cells table issuer item) ∙ by_checks (first_failing (exception_checks table issuer item))
 
 -- ---- the cells and the room after an item
 
@@ -176,29 +176,29 @@ or_none (Some x) b e = absurd (some_apart x e)
 
 -- all checks pass
 abbrev pub Passes : Table → ℕ → ℤ → List ℕ → Row → Type 0
-Passes table limit today office item = first_failing (checks table limit today office item) ≡ None
+Passes table limit today issuer item = first_failing (checks table limit today issuer item) ≡ None
 
-passed : (table : Table) (limit : ℕ) (today : ℤ) (office : List ℕ) (item : Row) → Passes table limit today office item
-    → (first_failing (earlier_checks table today office item) ≡ None) × (first_failing (c20 (record_of table (lei_in item)) (is_full table limit) ∷ []) ≡ None)
-passed table limit today office item passes =
-    or_none _ _ (sym (first_failing-append (earlier_checks table today office item) (c20 (record_of table (lei_in item)) (is_full table limit) ∷ [])) ∙ passes)
+passed : (table : Table) (limit : ℕ) (today : ℤ) (issuer : List ℕ) (item : Row) → Passes table limit today issuer item
+    → (first_failing (earlier_checks table today issuer item) ≡ None) × (first_failing (c20 (record_of table (lei_in item)) (is_full table limit) ∷ []) ≡ None)
+passed table limit today issuer item passes =
+    or_none _ _ (sym (first_failing-append (earlier_checks table today issuer item) (c20 (record_of table (lei_in item)) (is_full table limit) ∷ [])) ∙ passes)
 
 -- the checks of the successor pass, and C19
-before_c20 : (table : Table) (limit : ℕ) (today : ℤ) (office : List ℕ) (item : Row) → Passes table limit today office item
+before_c20 : (table : Table) (limit : ℕ) (today : ℤ) (issuer : List ℕ) (item : Row) → Passes table limit today issuer item
     → (first_failing (successor_checks table item (successor_in item)) ≡ None) × (first_failing (c19 (other_holder table item) item ∷ []) ≡ None)
-before_c20 table limit today office item passes =
-    let front = own_checks today office item ++ held_checks (record_of table (lei_in item)) today office item in
+before_c20 table limit today issuer item passes =
+    let front = own_checks today issuer item ++ held_checks (record_of table (lei_in item)) today issuer item in
     let of_successor = successor_checks table item (successor_in item) in
-    let parts = or_none _ _ (sym (first_failing-append (front ++ of_successor) (c19 (other_holder table item) item ∷ [])) ∙ (passed table limit today office item passes).0) in
+    let parts = or_none _ _ (sym (first_failing-append (front ++ of_successor) (c19 (other_holder table item) item ∷ [])) ∙ (passed table limit today issuer item passes).0) in
     ((or_none _ _ (sym (first_failing-append front of_successor) ∙ parts.0)).1, parts.1)
 
-free_if_passes : (table : Table) (limit : ℕ) (today : ℤ) (office : List ℕ) (item : Row) → Passes table limit today office item → IsFree table item
-free_if_passes table limit today office item passes =
-    none_where (is_live item) (other_holder table item) (all_pass (c19 (other_holder table item) item ∷ []) (before_c20 table limit today office item passes).1).first
+free_if_passes : (table : Table) (limit : ℕ) (today : ℤ) (issuer : List ℕ) (item : Row) → Passes table limit today issuer item → IsFree table item
+free_if_passes table limit today issuer item passes =
+    none_where (is_live item) (other_holder table item) (all_pass (c19 (other_holder table item) item ∷ []) (before_c20 table limit today issuer item passes).1).first
 
-pub successors_pass : (table : Table) (limit : ℕ) (today : ℤ) (office : List ℕ) (item : Row) → Passes table limit today office item
+pub successors_pass : (table : Table) (limit : ℕ) (today : ℤ) (issuer : List ℕ) (item : Row) → Passes table limit today issuer item
     → first_failing (successor_checks table item (successor_in item)) ≡ None
-successors_pass table limit today office item passes = (before_c20 table limit today office item passes).0
+successors_pass table limit today issuer item passes = (before_c20 table limit today issuer item passes).0
 
 -- ---- the table and the room after an item
 
@@ -228,14 +228,14 @@ room_put None count limit room next limit_is next_is fits =
     omega arith
 room_put (Some row) count limit room next limit_is next_is fits = omega arith
 
-recorded : (table : Table) (limit room : ℕ) (today : ℤ) (office : List ℕ) (item : Row) → IsTold table → limit ≡ record_count table + room
-    → Passes table limit today office item
-    → After table limit room ((RowKey.Rec (lei_in item), Some (Item.Record item)) ∷ []) (room_taken Verdict.Accepted (is_new table today office (Readied.Good (Item.Record item))))
-recorded table limit room today office item told limit_is passes =
-    let both = passed table limit today office item passes in
-    let free = free_if_passes table limit today office item passes in
+recorded : (table : Table) (limit room : ℕ) (today : ℤ) (issuer : List ℕ) (item : Row) → IsTold table → limit ≡ record_count table + room
+    → Passes table limit today issuer item
+    → After table limit room ((RowKey.Rec (lei_in item), Some (Item.Record item)) ∷ []) (room_taken Verdict.Accepted (is_new table today issuer (Readied.Good (Item.Record item))))
+recorded table limit room today issuer item told limit_is passes =
+    let both = passed table limit today issuer item passes in
+    let free = free_if_passes table limit today issuer item passes in
     let held = record_of table (lei_in item) in
-    let new : is_new table today office (Readied.Good (Item.Record item)) ≡ is_none held =
+    let new : is_new table today issuer (Readied.Good (Item.Record item)) ≡ is_none held =
     ap (λ f. is_none held && is_none f) both.0 ∙ and-true (is_none held) in
     record {
       told = record {
@@ -251,14 +251,14 @@ recorded table limit room today office item told limit_is passes =
     }
 
 -- an accepted relationship has no other active one in its way
-pub passed_37 : (table : Table) (office : List ℕ) (row : Row) → first_failing (relation_checks table office row) ≡ None → (c37 (other_end table row) row).fails ≡ false
-passed_37 table office row passes = (all_pass (relation_checks table office row) passes).others.others.others.others.others.others.others.first
+pub passed_37 : (table : Table) (issuer : List ℕ) (row : Row) → first_failing (relation_checks table issuer row) ≡ None → (c37 (other_end table row) row).fails ≡ false
+passed_37 table issuer row passes = (all_pass (relation_checks table issuer row) passes).others.others.others.others.others.others.others.first
 
-related : (table : Table) (limit room : ℕ) (office : List ℕ) (row : Row) → IsTold table → limit ≡ record_count table + room
-    → first_failing (relation_checks table office row) ≡ None
+related : (table : Table) (limit room : ℕ) (issuer : List ℕ) (row : Row) → IsTold table → limit ≡ record_count table + room
+    → first_failing (relation_checks table issuer row) ≡ None
     → After table limit room ((row_key (Item.Relation row), Some (Item.Relation row)) ∷ []) 0
-related table limit room office row told limit_is passes =
-    let fits : IsFitting table row = fitting table row (passed_37 table office row passes) in
+related table limit room issuer row told limit_is passes =
+    let fits : IsFitting table row = fitting table row (passed_37 table issuer row passes) in
     record {
       told = record {
         keyed = told.keyed;
@@ -283,19 +283,19 @@ excepted table limit room row false told limit_is = record {
   left = kept_room limit (record_count table) room limit_is;
 }
 
-by_verdict : (table : Table) (limit room : ℕ) (today : ℤ) (office : List ℕ) (item : Item) (failed : Option FailedCheck) → IsTold table → limit ≡ record_count table + room
-    → first_failing (item_checks table limit today office item) ≡ failed
-    → After table limit room (writes_of (verdict_of failed) (Readied.Good item)) (room_taken (verdict_of failed) (is_new table today office (Readied.Good item)))
-by_verdict table limit room today office item (Some check) told limit_is is = unchanged table limit room told limit_is
-by_verdict table limit room today office (Item.Record row) None told limit_is is = recorded table limit room today office row told limit_is is
-by_verdict table limit room today office (Item.Relation row) None told limit_is is = related table limit room office row told limit_is is
-by_verdict table limit room today office (Item.Exception item) None told limit_is is = excepted table limit room item.0 item.1 told limit_is
+by_verdict : (table : Table) (limit room : ℕ) (today : ℤ) (issuer : List ℕ) (item : Item) (failed : Option FailedCheck) → IsTold table → limit ≡ record_count table + room
+    → first_failing (item_checks table limit today issuer item) ≡ failed
+    → After table limit room (writes_of (verdict_of failed) (Readied.Good item)) (room_taken (verdict_of failed) (is_new table today issuer (Readied.Good item)))
+by_verdict table limit room today issuer item (Some check) told limit_is is = unchanged table limit room told limit_is
+by_verdict table limit room today issuer (Item.Record row) None told limit_is is = recorded table limit room today issuer row told limit_is is
+by_verdict table limit room today issuer (Item.Relation row) None told limit_is is = related table limit room issuer row told limit_is is
+by_verdict table limit room today issuer (Item.Exception item) None told limit_is is = excepted table limit room item.0 item.1 told limit_is
 
-after_item : (table : Table) (limit room : ℕ) (today : ℤ) (office : List ℕ) (item : Readied) → IsTold table → limit ≡ record_count table + room
-    → After table limit room (writes_of (verdict table limit today office item) item) (room_taken (verdict table limit today office item) (is_new table today office item))
-after_item table limit room today office (Readied.Bad check) told limit_is = unchanged table limit room told limit_is
-after_item table limit room today office (Readied.Good item) told limit_is =
-    by_verdict table limit room today office item (first_failing (item_checks table limit today office item)) told limit_is refl
+after_item : (table : Table) (limit room : ℕ) (today : ℤ) (issuer : List ℕ) (item : Readied) → IsTold table → limit ≡ record_count table + room
+    → After table limit room (writes_of (verdict table limit today issuer item) item) (room_taken (verdict table limit today issuer item) (is_new table today issuer item))
+after_item table limit room today issuer (Readied.Bad check) told limit_is = unchanged table limit room told limit_is
+after_item table limit room today issuer (Readied.Good item) told limit_is =
+    by_verdict table limit room today issuer item (first_failing (item_checks table limit today issuer item)) told limit_is refl
 
 -- ---- all items
 
@@ -303,25 +303,25 @@ abbrev pub shown : Taken → Judgement
 shown taken = record { verdicts = taken.verdicts; writes = taken.writes; new_records = taken.new_records }
 
 -- over the cells of a table what is judged is what the items do to the table
-told-taken : (table : Table) (limit room : ℕ) (today : ℤ) (office : List ℕ) (items : List Readied) → IsTold table → limit ≡ record_count table + room
-    → judge_items (cells_of table) room today office items ≡ Ok (shown (take table limit today office items))
+told-taken : (table : Table) (limit room : ℕ) (today : ℤ) (issuer : List ℕ) (items : List Readied) → IsTold table → limit ≡ record_count table + room
+    → judge_items (cells_of table) room today issuer items ≡ Ok (shown (take table limit today issuer items))
 unfolding judge_items
-told-taken table limit room today office [] told limit_is = refl
-told-taken table limit room today office (item ∷ items) told limit_is =
-    let given = verdict table limit today office item in
-    let new = is_new table today office item in
-    let next = after_item table limit room today office item told limit_is in
+told-taken table limit room today issuer [] told limit_is = refl
+told-taken table limit room today issuer (item ∷ items) told limit_is =
+    let given = verdict table limit today issuer item in
+    let new = is_new table today issuer item in
+    let next = after_item table limit room today issuer item told limit_is in
     let rest : Result Judged CellKey → Result Judgement CellKey =
-    λ j. before j item (judge_items (cells_after j item (cells_of table)) (room_after j room) today office items) in
-    ap rest (item_by_table table limit room today office item told limit_is)
-    ∙ ap (before (Ok (judged_on table limit today office item)) item)
-    (ap (λ cells. judge_items cells (room - room_taken given new) today office items) next.cells
-    ∙ told-taken (put_all (writes_of given item) table) limit (room - room_taken given new) today office items next.told next.left)
+    λ j. before j item (judge_items (cells_after j item (cells_of table)) (room_after j room) today issuer items) in
+    ap rest (item_by_table table limit room today issuer item told limit_is)
+    ∙ ap (before (Ok (judged_on table limit today issuer item)) item)
+    (ap (λ cells. judge_items cells (room - room_taken given new) today issuer items) next.cells
+    ∙ told-taken (put_all (writes_of given item) table) limit (room - room_taken given new) today issuer items next.told next.left)
 
-pub judged-taken : (table : Table) (limit room : ℕ) (today : ℤ) (office : List ℕ) (items : List Readied) → IsSound table → limit ≡ record_count table + room
-    → judge_items (cells_of table) room today office items ≡ Ok (shown (take table limit today office items))
-judged-taken table limit room today office items sound limit_is =
-    told-taken table limit room today office items
+pub judged-taken : (table : Table) (limit room : ℕ) (today : ℤ) (issuer : List ℕ) (items : List Readied) → IsSound table → limit ≡ record_count table + room
+    → judge_items (cells_of table) room today issuer items ≡ Ok (shown (take table limit today issuer items))
+judged-taken table limit room today issuer items sound limit_is =
+    told-taken table limit room today issuer items
     (record { keyed = sound.keyed; holders = sound.holders; relations_keyed = sound.relations_keyed; actives = sound.actives }) limit_is
 
 -- ---- the table behind the items
@@ -331,20 +331,20 @@ put_all-append [] second table = refl
 put_all-append (write ∷ writes) second table = put_all-append writes second (put_write table write)
 
 -- the table behind the items is the table with what they wrote
-pub take-written : (table : Table) (limit : ℕ) (today : ℤ) (office : List ℕ) (items : List Readied)
-    → (take table limit today office items).table ≡ put_all (take table limit today office items).writes table
-take-written table limit today office [] = refl
-take-written table limit today office (item ∷ items) =
-    let writes = writes_of (verdict table limit today office item) item in
-    take-written (put_all writes table) limit today office items
-    ∙ sym (put_all-append writes (take (put_all writes table) limit today office items).writes table)
+pub take-written : (table : Table) (limit : ℕ) (today : ℤ) (issuer : List ℕ) (items : List Readied)
+    → (take table limit today issuer items).table ≡ put_all (take table limit today issuer items).writes table
+take-written table limit today issuer [] = refl
+take-written table limit today issuer (item ∷ items) =
+    let writes = writes_of (verdict table limit today issuer item) item in
+    take-written (put_all writes table) limit today issuer items
+    ∙ sym (put_all-append writes (take (put_all writes table) limit today issuer items).writes table)
 
 -- an accepted item leaves a sound table sound
-accepted_sound : (table : Table) (limit : ℕ) (today : ℤ) (office : List ℕ) (item : Item) → IsSound table → HasRow item
-    → first_failing (item_checks table limit today office item) ≡ None → IsSound (put table item)
-accepted_sound table limit today office (Item.Record row) sound is_row passes = IsSound-put table row sound is_row (free_if_passes table limit today office row passes)
-accepted_sound table limit today office (Item.Relation row) sound is_row passes = IsSound-put_relation table row sound is_row (passed_37 table office row passes)
-accepted_sound table limit today office (Item.Exception item) sound is_row passes = IsSound-put_exception table item.0 item.1 sound is_row
+accepted_sound : (table : Table) (limit : ℕ) (today : ℤ) (issuer : List ℕ) (item : Item) → IsSound table → HasRow item
+    → first_failing (item_checks table limit today issuer item) ≡ None → IsSound (put table item)
+accepted_sound table limit today issuer (Item.Record row) sound is_row passes = IsSound-put table row sound is_row (free_if_passes table limit today issuer row passes)
+accepted_sound table limit today issuer (Item.Relation row) sound is_row passes = IsSound-put_relation table row sound is_row (passed_37 table issuer row passes)
+accepted_sound table limit today issuer (Item.Exception item) sound is_row passes = IsSound-put_exception table item.0 item.1 sound is_row
 
 -- what an item writes is that it is put
 pub put-written : (P : Table → Type 0) (table : Table) (item : Item) → P (put table item) → P (put_write table (row_key item, written item))
@@ -353,26 +353,26 @@ put-written P table (Item.Relation row) is = is
 put-written P table (Item.Exception (row, true)) is = is
 put-written P table (Item.Exception (row, false)) is = is
 
-item_sound : (table : Table) (limit : ℕ) (today : ℤ) (office : List ℕ) (item : Item) (failed : Option FailedCheck) → IsSound table → HasRow item
-    → first_failing (item_checks table limit today office item) ≡ failed
+item_sound : (table : Table) (limit : ℕ) (today : ℤ) (issuer : List ℕ) (item : Item) (failed : Option FailedCheck) → IsSound table → HasRow item
+    → first_failing (item_checks table limit today issuer item) ≡ failed
     → IsSound (put_all (writes_of (verdict_of failed) (Readied.Good item)) table)
-item_sound table limit today office item (Some check) sound is_row is = sound
-item_sound table limit today office item None sound is_row is = put-written IsSound table item (accepted_sound table limit today office item sound is_row is)
+item_sound table limit today issuer item (Some check) sound is_row is = sound
+item_sound table limit today issuer item None sound is_row is = put-written IsSound table item (accepted_sound table limit today issuer item sound is_row is)
 
 -- the table behind the first of some items, with the rows of those behind it
-pub next_sound : (table : Table) (limit : ℕ) (today : ℤ) (office : List ℕ) (item : Item) → IsSound table → HasRow item
-    → IsSound (put_all (writes_of (verdict table limit today office (Readied.Good item)) (Readied.Good item)) table)
-next_sound table limit today office item sound is_row =
-    item_sound table limit today office item (first_failing (item_checks table limit today office item)) sound is_row refl
+pub next_sound : (table : Table) (limit : ℕ) (today : ℤ) (issuer : List ℕ) (item : Item) → IsSound table → HasRow item
+    → IsSound (put_all (writes_of (verdict table limit today issuer (Readied.Good item)) (Readied.Good item)) table)
+next_sound table limit today issuer item sound is_row =
+    item_sound table limit today issuer item (first_failing (item_checks table limit today issuer item)) sound is_row refl
 
 -- the items leave a sound table sound
-pub take-sound : (table : Table) (limit : ℕ) (today : ℤ) (office : List ℕ) (items : List Readied) → IsSound table → HaveRows items
-    → IsSound (take table limit today office items).table
-take-sound table limit today office [] sound rows = sound
-take-sound table limit today office (Readied.Bad check ∷ items) sound rows = take-sound table limit today office items sound rows
-take-sound table limit today office (Readied.Good item ∷ items) sound rows =
-    let given = verdict table limit today office (Readied.Good item) in
-    take-sound (put_all (writes_of given (Readied.Good item)) table) limit today office items (next_sound table limit today office item sound rows.0) rows.1
+pub take-sound : (table : Table) (limit : ℕ) (today : ℤ) (issuer : List ℕ) (items : List Readied) → IsSound table → HaveRows items
+    → IsSound (take table limit today issuer items).table
+take-sound table limit today issuer [] sound rows = sound
+take-sound table limit today issuer (Readied.Bad check ∷ items) sound rows = take-sound table limit today issuer items sound rows
+take-sound table limit today issuer (Readied.Good item ∷ items) sound rows =
+    let given = verdict table limit today issuer (Readied.Good item) in
+    take-sound (put_all (writes_of given (Readied.Good item)) table) limit today issuer items (next_sound table limit today issuer item sound rows.0) rows.1
 
 -- what is judged of a table is taken, and no cell is wanted
 pub judges-takes : (result : Result Outcome JudgeStop) (judged : Result Judgement CellKey) (taken : Taken) → judged ≡ Ok (shown taken) → Judges result judged → Takes result taken

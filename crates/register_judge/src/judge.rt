@@ -44,20 +44,20 @@ pub fn judge_item<V: View>(
     alloc: Global,
     view: &V,
     full: bool,
-    office: &Lei,
+    issuer: &Lei,
     today: i32,
     item: &Readied,
 ) -> Result<Judged, JudgeStop>
-    ensures { JudgesItem result (Judging.judge_item (V.cells view.now) full today office.now item.now) }
+    ensures { JudgesItem result (Judging.judge_item (V.cells view.now) full today issuer.now item.now) }
 {
     match item {
         Readied::Bad(check) => Ok(rejected(check.copy(alloc)?)),
-        Readied::Good(Item::Record(item)) => judge_record(alloc, view, full, office, today, item),
+        Readied::Good(Item::Record(item)) => judge_record(alloc, view, full, issuer, today, item),
         Readied::Good(Item::Relation(item)) => {
-            judged_by(relation_check(view, office, item), accepted())
+            judged_by(relation_check(view, issuer, item), accepted())
         }
         Readied::Good(Item::Exception(item)) => {
-            judged_by(exception_check(view, office, item), accepted())
+            judged_by(exception_check(view, issuer, item), accepted())
         }
     }
 }
@@ -78,13 +78,13 @@ fn judge_record<V: View>(
     alloc: Global,
     view: &V,
     full: bool,
-    office: &Lei,
+    issuer: &Lei,
     today: i32,
     item: &Record,
 ) -> Result<Judged, JudgeStop>
-    ensures { JudgesItem result (Judging.judge_record (V.cells view.now) full today office.now item.now) }
+    ensures { JudgesItem result (Judging.judge_record (V.cells view.now) full today issuer.now item.now) }
 {
-    if let Some(check) = own_check(office, today, item) {
+    if let Some(check) = own_check(issuer, today, item) {
         return Ok(rejected(check));
     }
     let held = match view.record_cell(&item.lei()) {
@@ -92,7 +92,7 @@ fn judge_record<V: View>(
         Seen::Empty => None,
         Seen::Missing => return Err(JudgeStop::NeedCell(CellKey::Rec(item.lei()))),
     };
-    let checked = check_held(alloc, view, &held, office, today, item)?;
+    let checked = check_held(alloc, view, &held, issuer, today, item)?;
     judged_by(checked, judge_room(&held, full))
 }
 

@@ -5,12 +5,13 @@ ghost use Rattle.register_judge.specs.Judging;
 ghost use Rattle.relation_rules.specs.Checking;
 ghost use Rattle.successor_rules.specs.Successors;
 
-use crate::checks::{
-    AUTHORITY_KEY_TAKEN, SUCCESSOR_CHAIN_LONG, SUCCESSOR_CYCLE, SUCCESSOR_UNKNOWN, held_check,
-};
+use crate::checks::held_check;
 use authority_rules::{is_live, key_of, taken};
 use lei_code::Lei;
 use lei_outside::{NoMemory, Text};
+use lei_records::numbers::{
+    AUTHORITY_KEY_TAKEN, SUCCESSOR_CHAIN_LONG, SUCCESSOR_CYCLE, SUCCESSOR_UNKNOWN,
+};
 use lei_records::{CellKey, RecCell, Record, Seen, View};
 use relation_rules::{Checked, failed, telling};
 use std::alloc::Global;
@@ -21,13 +22,13 @@ pub fn check_held<V: View>(
     alloc: Global,
     view: &V,
     held: &Option<RecCell>,
-    office: &Lei,
+    issuer: &Lei,
     today: i32,
     item: &Record,
 ) -> Result<Checked, NoMemory>
-    ensures { IfOk result (λ checked. checked ≡ Judging.check_held (V.cells view.now) today office.now item.now held.now) }
+    ensures { IfOk result (λ checked. checked ≡ Judging.check_held (V.cells view.now) today issuer.now item.now held.now) }
 {
-    if let Some(check) = held_check(held, office, today, item) {
+    if let Some(check) = held_check(held, issuer, today, item) {
         return Ok(Checked::Fails(check));
     }
     match item.successor() {
