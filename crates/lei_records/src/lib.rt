@@ -14,6 +14,7 @@ mod readying;
 mod record;
 mod relation;
 mod sheet;
+mod tables;
 #[cfg(test)]
 mod tests;
 mod texts;

@@ -5,9 +5,7 @@ ghost use Rattle.std.specs.List.{list_all};
 ghost use Rattle.std.specs.Cmp.Lexicographic.{slice_cmp};
 ghost use Rattle.std.specs.Ordering.{is_lt, nat_cmp};
 
-use crate::{
-    Check, Detail, ExceptionItem, Fields, Item, Kind, RawItem, Readied, RelCell, Relation, ready,
-};
+use crate::{ExceptionItem, Fields, Item, Kind, RawItem, Readied, RelCell, Relation, ready};
 use lei_outside::Text;
 use lei_shapes::{
     ExceptionCategory, Moment, Reason, RelationRegistration, RelationStatus, RelationType,
@@ -91,7 +89,7 @@ fn raw_of(alloc: Global, kind: Kind, lines: &str) -> Result<RawItem, Fail> {
     })
 }
 
-// What the item is, or the number of the check and what it names.
+// What the item is, or the check that it fails.
 fn told(alloc: Global, readied: &Readied) -> Result<String, AllocError> {
     match readied {
         Readied::Good(Item::Record(_)) => String::from_str(alloc, "record"),
@@ -100,13 +98,7 @@ fn told(alloc: Global, readied: &Readied) -> Result<String, AllocError> {
             String::from_str(alloc, "withdrawal")
         }
         Readied::Good(Item::Exception(_)) => String::from_str(alloc, "exception"),
-        Readied::Bad(Check { code, detail }) => match detail {
-            Detail::Field(name) => {
-                let name = name.as_str();
-                format!(in alloc; "C0{code} {name}")
-            }
-            _ => format!(in alloc; "C0{code}"),
-        },
+        Readied::Bad(check) => check.to_string(alloc),
     }
 }
 
@@ -133,78 +125,83 @@ fn items_of_each_kind_with_one_change(rt: HostRuntime) -> Result<(), Fail> {
             Kind::Record,
             "Entity.EntityCategory",
             "Action=PUT\nEntity.EntityCategory",
-            "C01 Action",
+            "C01 FIELD_UNKNOWN Action",
         ),
         (
             Kind::Relation,
             "Registration.Init",
             "Action=PUT\nRegistration.Init",
-            "C01 Action",
+            "C01 FIELD_UNKNOWN Action",
         ),
         (
             Kind::Exception,
             "Action=PUT\n",
             "Action=PUT\nEntity.LegalName=\n",
-            "C01 Entity.LegalName",
+            "C01 FIELD_UNKNOWN Entity.LegalName",
         ),
         // C02
         (
             Kind::Relation,
             "00000000000000000292",
             "",
-            "C02 Relationship.EndNode",
+            "C02 FIELD_MISSING Relationship.EndNode",
         ),
-        (Kind::Exception, "LEI=00000000000000000195\n", "", "C02 LEI"),
+        (
+            Kind::Exception,
+            "LEI=00000000000000000195\n",
+            "",
+            "C02 FIELD_MISSING LEI",
+        ),
         // C03
         (
             Kind::Relation,
             "PUBLISHED",
             "PENDING_ARCHIVAL",
-            "C03 Registration.RegistrationStatus",
+            "C03 FIELD_SHAPE Registration.RegistrationStatus",
         ),
         (
             Kind::Relation,
             "2026-01-10T09:00:00Z",
             "2026-01-10",
-            "C03 Relationship.EndDate",
+            "C03 FIELD_SHAPE Relationship.EndDate",
         ),
         (
             Kind::Exception,
             "DIRECT_ACC",
             "ACC",
-            "C03 ExceptionCategory",
+            "C03 FIELD_SHAPE ExceptionCategory",
         ),
         // C04
         (
             Kind::Relation,
             "00000000000000000292",
             "00000000000000000293",
-            "C04 Relationship.EndNode",
+            "C04 CHECK_DIGITS Relationship.EndNode",
         ),
         (
             Kind::Exception,
             "00000000000000000195",
             "00000000000000000196",
-            "C04 LEI",
+            "C04 CHECK_DIGITS LEI",
         ),
         // The check of the least number comes first, and then the field of the least place.
         (
             Kind::Relation,
             "Relationship.EndNode=00000000000000000292\n",
             "Relationship.EndNod=\n",
-            "C01 Relationship.EndNod",
+            "C01 FIELD_UNKNOWN Relationship.EndNod",
         ),
         (
             Kind::Relation,
             "=FULLY_CORROBORATED\nRelationship.EndDate=2026",
             "=\nRelationship.EndDate=x",
-            "C02 Registration.ValidationSources",
+            "C02 FIELD_MISSING Registration.ValidationSources",
         ),
         (
             Kind::Relation,
             "ACTIVE\nRelationship.RelationshipType=IS_",
             "WAS\nRelationship.RelationshipType=WAS_",
-            "C03 Relationship.RelationshipType",
+            "C03 FIELD_SHAPE Relationship.RelationshipType",
         ),
     ];
     for (kind, old, new, want) in table {
@@ -234,37 +231,52 @@ fn the_same_exception_put_and_withdrawn(rt: HostRuntime) -> Result<(), Fail> {
             "withdrawal",
         ),
         // The reason is needed, but for a withdrawal.
-        ("", "", "7", "C02 ExceptionReason"),
+        ("", "", "7", "C02 FIELD_MISSING ExceptionReason"),
         (
             "Action=PUT\n",
             "ExceptionReason=\n",
             "7",
-            "C02 ExceptionReason",
+            "C02 FIELD_MISSING ExceptionReason",
         ),
         ("Action=WITHDRAW\n", "", "7", "withdrawal"),
         ("Action=WITHDRAW\n", "ExceptionReason=\n", "7", "withdrawal"),
         // What stands has its shape, in a withdrawal too.
-        ("", "ExceptionReason=NONE\n", "7", "C03 ExceptionReason"),
+        (
+            "",
+            "ExceptionReason=NONE\n",
+            "7",
+            "C03 FIELD_SHAPE ExceptionReason",
+        ),
         (
             "Action=WITHDRAW\n",
             "ExceptionReason=NONE\n",
             "7",
-            "C03 ExceptionReason",
+            "C03 FIELD_SHAPE ExceptionReason",
         ),
-        ("Action=WITHDRAW\n", "", "\u{7f}", "C03 ExceptionReference"),
+        (
+            "Action=WITHDRAW\n",
+            "",
+            "\u{7f}",
+            "C03 FIELD_SHAPE ExceptionReference",
+        ),
         // Another action is no withdrawal.
         (
             "Action=TAKE\n",
             "ExceptionReason=NO_LEI\n",
             "7",
-            "C03 Action",
+            "C03 FIELD_SHAPE Action",
         ),
-        ("Action=TAKE\n", "", "7", "C02 ExceptionReason"),
+        (
+            "Action=TAKE\n",
+            "",
+            "7",
+            "C02 FIELD_MISSING ExceptionReason",
+        ),
         (
             "Action=withdraw\n",
             "ExceptionReason=NO_LEI\n",
             "7",
-            "C03 Action",
+            "C03 FIELD_SHAPE Action",
         ),
     ];
     for (action, reason, reference, want) in table {
