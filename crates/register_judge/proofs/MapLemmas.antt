@@ -22,14 +22,11 @@ copied : (b : Bool) (row : Bor Row) (old : Option (Bor Row)) → option_copied (
 copied true row old = refl
 copied false row old = refl
 
-turned : (a b : List ℕ) → bytes_eq a b ≡ bytes_eq b a
-turned a b = nat_list_eq_equiv.symm a b
-
 pub record_at-insert : (old new : Records) (lei own : List ℕ) (row : Bor Row) → lei ≡ own → Updates (slice_cmp nat_cmp) old new lei (Some row)
     → (q : List ℕ) → record_at new q ≡ cond (bytes_eq q own) (Some row.now) (record_at old q)
 record_at-insert old new lei own row same updates q =
     ap option_copied (updates.0 q)
-    ∙ (ap (λ b. option_copied (cond b (Some row) (get (slice_cmp nat_cmp) old q))) (is_eq-slice_cmp lei q ∙ (turned lei q ∙ ap (bytes_eq q) same))
+    ∙ (ap (λ b. option_copied (cond b (Some row) (get (slice_cmp nat_cmp) old q))) (is_eq-slice_cmp lei q ∙ (nat_list_eq_equiv.symm lei q ∙ ap (bytes_eq q) same))
     ∙ copied (bytes_eq q own) row (get (slice_cmp nat_cmp) old q))
 
 -- the ids of an authority after one was taken out or put in

@@ -6,14 +6,18 @@ use Rattle.std.specs.Ordering.{eq_by_cmp}
 use Rattle.std.proofs.Common.{refl, sym, ap, subst, ◌∙◌, arith, rules, ltb}
 use Rattle.std.proofs.lemmas.Grind.{common_steps}
 use Rattle.std.proofs.lemmas.Bool.Decides.{nat_tests}
+use Rattle.std.proofs.lemmas.List.{append-nil, length-append}
 use mathlib.Core.Bool.{true≢false}
 use Rattle.lei_records.specs.Rows.{Row}
 use Rattle.lei_records.specs.Tables.{KeyTexts, Rows, key_cmp}
+use Rattle.lei_records.proofs.FindLemmas.{find-passes}
+use Rattle.lei_records.proofs.OptionLemmas.{mapped, none_there, some_mapped}
 use Rattle.authority_rules.proofs.HolderLemmas.{keys_total, same_key}
+use Rattle.authority_rules.proofs.KeyLemmas.{key_itself, keys_antisymmetric}
 use Rattle.register_table.specs.Lists.{exchanged, remaining, rows_under, standing, without}
 use Rattle.register_table.specs.Undos.{with_under}
-use Rattle.register_table.proofs.KeyLemmas.{has_key, keys_antisymmetric}
-use Rattle.register_table.proofs.MapLemmas.{get-with_under, own_key}
+use Rattle.register_table.proofs.KeyLemmas.{has_key}
+use Rattle.register_table.proofs.MapLemmas.{get-with_under}
 
 -- ---- places
 
@@ -78,15 +82,6 @@ pub standing-find : {X : Type 0} (test : X → Bool) (xs : List X) (at : Option 
 standing-find test xs None is = sym (unplaced test xs is)
 standing-find test xs (Some at) is = let p = placed test xs at is in ap (slice_get xs) (sym p.0) ∙ sym (find_place test xs p.1)
 
--- what is found passes
-pub find-passes : {X : Type 0} (test : X → Bool) (xs : List X) (x : X) → find test xs ≡ Some x → test x ≡ true
-find-passes test [] x found = cc
-find-passes test (y ∷ ys) x found =
-    elim (test y) as (λ b. test y ≡ b → cond b (Some y) (find test ys) ≡ Some x → test x ≡ true) [
-      | true ↦ λ t is. let same : y ≡ x = cc in ap test (sym same) ∙ t
-      | false ↦ λ _ is. find-passes test ys x is
-    ] refl found
-
 -- where one test finds what another passes, the other finds something
 pub find-other : {X : Type 0} (test other : X → Bool) (xs : List X) (x : X) → find test xs ≡ Some x → other x ≡ true → find other xs ≡ None → ⊥
 find-other test other [] x found passes none = cc
@@ -108,15 +103,6 @@ set_behind x new xs n = let e : 1 + n ≡ suc n = omega arith in ap (λ k. set (
 without_behind : {X : Type 0} (x : X) (xs : List X) (n : ℕ) → without (x ∷ xs) (1 + n) ≡ x ∷ without xs n
 without_behind x xs n = let e : 1 + n ≡ suc n = omega arith in ap (without (x ∷ xs)) e
 
-no_more_items : {X : Type 0} (xs : List X) → xs ++ [] ≡ xs
-no_more_items [] = refl
-no_more_items (x ∷ xs) = ap (λ ys. x ∷ ys) (no_more_items xs)
-
--- there is one item more
-pub length_push : {X : Type 0} (xs : List X) (new : X) → length (xs ++ new ∷ []) ≡ length xs + 1
-length_push [] new = refl
-length_push (x ∷ xs) new = let rest = length_push xs new in omega (arith, rest)
-
 length-set : {X : Type 0} (xs : List X) (n : ℕ) (new : X) → length (set xs n new) ≡ length xs
 length-set xs n new = search rules
 
@@ -133,22 +119,6 @@ swapped : {A : Type 0} (a b : Bool) (x y z : A) → (b ≡ true → a ≡ false)
 swapped true true x y z apart = absurd (true≢false (apart refl))
 swapped true false x y z apart = refl
 swapped false b x y z apart = refl
-
-mapped : {A B : Type 0} (f : A → B) (b : Bool) (x y : Option A) → option_map f (cond b x y) ≡ cond b (option_map f x) (option_map f y)
-mapped f true x y = refl
-mapped f false x y = refl
-
-none_mapped : {A B : Type 0} (f : A → B) (o : Option A) → is_some (option_map f o) ≡ false → o ≡ None
-none_mapped f None is = refl
-none_mapped f (Some x) is = absurd (true≢false is)
-
-pub some_mapped : {A B : Type 0} (f : A → B) (o : Option A) → is_some (option_map f o) ≡ is_some o
-some_mapped f None = refl
-some_mapped f (Some x) = refl
-
-pub mapped_itself : {A : Type 0} (o : Option A) → option_map (λ x. x) o ≡ o
-mapped_itself None = refl
-mapped_itself (Some x) = refl
 
 module _ {X : Type 0} (key : X → KeyTexts) (row : X → Row) where
   -- ---- what is held under a key is what a search finds
@@ -229,7 +199,7 @@ module _ {X : Type 0} (key : X → KeyTexts) (row : X → Row) where
   nothing_there q k xs false none t = refl
 
   changes-join : (k : KeyTexts) (new : Option X) (xs : List X) → IfSome new (λ x. key x ≡ k) → find (has_key key k) xs ≡ None → Changes k new xs (xs ++ option_to_list new)
-  changes-join k None xs own none = λ q. ap (find (has_key key q)) (no_more_items xs) ∙ nothing_there q k xs (eq_by_cmp key_cmp q k) none refl
+  changes-join k None xs own none = λ q. ap (find (has_key key q)) (append-nil xs) ∙ nothing_there q k xs (eq_by_cmp key_cmp q k) none refl
   changes-join k (Some x) xs own none =
       subst (λ j. find (has_key key j) xs ≡ None → Changes j (Some x) xs (xs ++ x ∷ [])) own (λ is q. find-push xs x q is) none
 
@@ -260,7 +230,7 @@ module _ {X : Type 0} (key : X → KeyTexts) (row : X → Row) where
   IsOnce-tail : (x : X) (xs : List X) → IsOnce (x ∷ xs) → IsOnce xs × (find (has_key key (key x)) xs ≡ None)
   IsOnce-tail x xs once =
       let parts = apart_by (contains_key (rows_under key row xs) (key x)) (len (rows_under key row xs)) (length xs) (no_more xs) (sym (len_first x xs) ∙ once) in
-      (parts.0, none_mapped row (find (has_key key (key x)) xs) (ap is_some (sym (get-rows_under xs (key x))) ∙ parts.1))
+      (parts.0, none_there (find (has_key key (key x)) xs) (sym (some_mapped row (find (has_key key (key x)) xs)) ∙ (ap is_some (sym (get-rows_under xs (key x))) ∙ parts.1)))
 
   -- what any search finds is found under its key, where none stands twice
   pub find-own : (test : X → Bool) (xs : List X) (x : X) → IsOnce xs → find test xs ≡ Some x → find (has_key key (key x)) xs ≡ Some x
@@ -270,7 +240,7 @@ module _ {X : Type 0} (key : X → KeyTexts) (row : X → Row) where
       elim (test y) as (λ b. cond b (Some y) (find test ys) ≡ Some x → cond (has_key key (key x) y) (Some y) (find (has_key key (key x)) ys) ≡ Some x) [
         | true ↦ λ is.
             let same : y ≡ x = cc in
-            let own : has_key key (key x) y ≡ true = ap (λ z. eq_by_cmp key_cmp (key z) (key y)) (sym same) ∙ own_key (key y) in
+            let own : has_key key (key x) y ≡ true = ap (λ z. eq_by_cmp key_cmp (key z) (key y)) (sym same) ∙ key_itself (key y) in
             ap (λ b. cond b (Some y) (find (has_key key (key x)) ys)) own ∙ is
         | false ↦ λ is.
             let later = find-own test ys x tail.0 is in
@@ -313,7 +283,7 @@ module _ {X : Type 0} (key : X → KeyTexts) (row : X → Row) where
 
   -- nothing is found under its key then
   gone : (xs : List X) (k : KeyTexts) (at : ℕ) → position (has_key key k) xs ≡ Some at → IsOnce xs → find (has_key key k) (without xs at) ≡ None
-  gone xs k at is once = changes-without xs k at is once k ∙ ap (λ b. cond b None (find (has_key key k) xs)) (own_key k)
+  gone xs k at is once = changes-without xs k at is once k ∙ ap (λ b. cond b None (find (has_key key k) xs)) (key_itself k)
 
   -- ---- none stands twice after a change either
 
@@ -329,12 +299,12 @@ module _ {X : Type 0} (key : X → KeyTexts) (row : X → Row) where
       ∙ (once ∙ sym (length-set xs at new))))
 
   once-join : (k : KeyTexts) (new : Option X) (xs : List X) → IfSome new (λ x. key x ≡ k) → find (has_key key k) xs ≡ None → IsOnce xs → IsOnce (xs ++ option_to_list new)
-  once-join k None xs own none once = subst IsOnce (sym (no_more_items xs)) once
+  once-join k None xs own none once = subst IsOnce (sym (append-nil xs)) once
   once-join k (Some x) xs own none once =
       ap len (changed k (Some x) xs (xs ++ x ∷ []) (changes-join k (Some x) xs own none))
       ∙ (len-insert keys_total (rows_under key row xs) k (row x)
       ∙ (ap (λ b. cond b (len (rows_under key row xs)) (len (rows_under key row xs) + 1)) (ap is_some (get-rows_under xs k) ∙ ap (λ found. is_some (option_map row found)) none)
-      ∙ (ap (λ n. n + 1) once ∙ sym (length_push xs x))))
+      ∙ (ap (λ n. n + 1) once ∙ sym (length-append xs (x ∷ [])))))
 
   once-without : (xs : List X) (k : KeyTexts) (at : ℕ) → position (has_key key k) xs ≡ Some at → IsOnce xs → IsOnce (without xs at)
   once-without xs k at is once =

@@ -1,8 +1,7 @@
 -- Rows under their keys: searches among them, and what an insertion and a removal leave.
 use Rattle.std.specs.Prelude.{◌≡◌, Bool, true, false, cond, find, Option, Some, None}
-use Rattle.std.specs.Cmp.{tied_itself}
 use Rattle.std.specs.FinMap.{get, get-insert, get-remove, insert, remove, values}
-use Rattle.std.specs.Ordering.{eq_by_cmp, is_eq}
+use Rattle.std.specs.Ordering.{eq_by_cmp}
 use Rattle.std.proofs.Common.{refl, sym, ap, ◌∙◌}
 use Rattle.lei_records.specs.Rows.{Row}
 use Rattle.lei_records.specs.Tables.{KeyTexts, Rows, key_cmp}
@@ -36,9 +35,6 @@ found_none rows test key row is at passes =
     let some = values-find keys_total rows test key row at passes in some_apart some.0 (sym some.1 ∙ is)
 
 -- ---- changes
-
-pub key_itself : (key : KeyTexts) → eq_by_cmp key_cmp key key ≡ true
-key_itself key = ap is_eq (tied_itself keys_total key)
 
 -- a row behind an insertion is the one that was put, or stood there under another key
 pub inserted : (rows : Rows) (own : KeyTexts) (row : Row) (key : KeyTexts) (other : Row) (P : Type 0) → get (insert rows own row) key ≡ Some other
