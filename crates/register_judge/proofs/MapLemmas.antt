@@ -1,4 +1,4 @@
--- Maps by codes and by texts after an insertion.
+-- Maps by LEIs and by texts after an insertion.
 use Rattle.std.specs.Prelude.{◌≡◌, ℕ, List, Bool, true, false, ◌&&◌, cond, Option, Some, None, option_and_then}
 use Rattle.std.specs.BTreeMap.{BTreeMap, Updates, UpdatesBy, get}
 use Rattle.std.specs.Cmp.{tied_then}
@@ -64,7 +64,7 @@ tied_texts a b c d =
 abbrev pub pair_cmp : List ℕ × Bor (List ℕ) → List ℕ × Bor (List ℕ) → Ordering
 pair_cmp a b = ordering_then (slice_cmp nat_cmp a.0 b.0) (slice_cmp nat_cmp a.1.now b.1.now)
 
--- what is found under a code and a text after an insertion
+-- what is found under an LEI and a text after an insertion
 pub pair_at-insert : {X : Type 0} (old new : BTreeMap (List ℕ × Bor (List ℕ)) X) (key : List ℕ × Bor (List ℕ)) (lei text : List ℕ) (x : X)
     → key.0 ≡ lei → key.1.now ≡ text → Updates pair_cmp old new key (Some x)
     → (q t : List ℕ) → pair_at new q t ≡ cond (bytes_eq lei q && bytes_eq text t) (Some x) (pair_at old q t)

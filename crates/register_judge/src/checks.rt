@@ -88,7 +88,7 @@ fn misfits(status: RecordStatus, stands: bool) -> bool
     }
 }
 
-/// C10 to C15: the record that is held under the item's code, if there is one, and the day.
+/// C10 to C15: the record that is held under the item's LEI, if there is one, and the day.
 pub fn held_check(held: &Option<RecCell>, issuer: &Lei, today: i32, item: &Record) -> Option<Check>
     ensures { result ≡ first_failing (Checks.held_checks held.now today issuer.now item.now) }
 {
@@ -169,7 +169,7 @@ fn has_wrong_renewal(today: i32, item: &Record) -> bool
     !renewal_fits(item.status(), item.renewal().day(), today)
 }
 
-/// C20: whether a record is held under the item's code, and whether the table is full.
+/// C20: whether a record is held under the item's LEI, and whether the table is full.
 pub fn room_check(held: &Option<RecCell>, full: bool) -> Option<Check>
     ensures { result ≡ first_failing (Checks.c20 held.now full ∷ []) }
 {

@@ -12,7 +12,7 @@ use lei_records::{CellKey, Check, Item, Readied, RecCell, Record, Seen, View};
 use relation_rules::{Checked, exception_check, relation_check};
 use std::alloc::Global;
 
-/// The verdict on an item, and whether it came to the check of the room while no record of its code
+/// The verdict on an item, and whether it came to the check of the room while no record of its LEI
 /// was held.
 #[derive(Debug, Drop)]
 pub struct Judged {

@@ -23,7 +23,7 @@ use lei_shapes::{ExceptionCategory, RelationType};
 use std::alloc::Global;
 use std::collections::BTreeMap;
 
-// By the id of an authority, the code of a record.
+// By the id of an authority, the LEI of a record.
 type Ids<'a> = BTreeMap<&'a str, Lei>;
 
 // The ids of each authority.
@@ -35,14 +35,14 @@ type Relations<'a> = BTreeMap<(Lei, &'static str, Lei), &'a Relation>;
 // By start and type, the end of a relationship.
 type Ends = BTreeMap<(Lei, &'static str), Lei>;
 
-// By code and category, whether the exception stands.
+// By LEI and category, whether the exception stands.
 type Standing = BTreeMap<(Lei, &'static str), bool>;
 
 // A view with accepted items over it. Each is found by the keys of its cells.
 #[derive(Drop)]
 pub struct Overlay<'a, V> {
     view: &'a V,
-    // The accepted record of each code, and of two with one code the later.
+    // The accepted record of each LEI, and of two with one LEI the later.
     records: BTreeMap<Lei, &'a Record>,
     // The record that took a key last. It may have given the key up again.
     takers: Takers<'a>,

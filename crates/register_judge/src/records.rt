@@ -17,7 +17,7 @@ use relation_rules::{Checked, failed, telling};
 use std::alloc::Global;
 use successor_rules::{Walked, walk};
 
-/// From C10 on, with the record that is held under the item's code. The key of a cell that is lacking takes memory.
+/// From C10 on, with the record that is held under the item's LEI. The key of a cell that is lacking takes memory.
 pub fn check_held<V: View>(
     alloc: Global,
     view: &V,

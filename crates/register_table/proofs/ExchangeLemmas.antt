@@ -10,12 +10,12 @@ use Rattle.register_table.specs.Undos.{with_under}
 use Rattle.register_table.proofs.KeyLemmas.{has_key}
 use Rattle.register_table.proofs.ListLemmas.{Exchange, IsOnce, exchange_exchanged, exchange_joined, get-rows_under, unplaced}
 
--- a place by the test of a key's parts is that by the key, where the list that was searched is the list
+-- an index by the test of a key's parts is that by the key, where the list that was searched is the list
 module _ {X : Type 0} (key : X → KeyTexts) (row : X → Row) (test : X → Bool) (k : KeyTexts) (same : test ≡ has_key key k) where
   by_key : (looked xs : List X) (at : Option ℕ) → looked ≡ xs → at ≡ position test looked → position (has_key key k) xs ≡ at
   by_key looked xs at whole is = ap (λ t. position t xs) (sym same) ∙ (ap (position test) (sym whole) ∙ sym is)
 
-  -- where no place was found, nothing is held
+  -- where no index was found, nothing is held
   pub none_held : (looked xs : List X) (at : Option ℕ) → looked ≡ xs → at ≡ position test looked → at ≡ None → get (rows_under key row xs) k ≡ None
   none_held looked xs at whole is none =
       get-rows_under key row xs k ∙ ap (option_map row) (unplaced (has_key key k) xs (by_key looked xs at whole is ∙ none))

@@ -19,11 +19,11 @@ use Rattle.register_table.specs.Undos.{with_under}
 use Rattle.register_table.proofs.KeyLemmas.{has_key}
 use Rattle.register_table.proofs.MapLemmas.{get-with_under}
 
--- ---- places
+-- ---- indices
 
--- the first place at which the test passes, or the length
-abbrev pub place : {X : Type 0} → (X → Bool) → List X → ℕ
-place test xs = position_or_len test xs
+-- the first index at which the test passes, or the length
+abbrev pub index : {X : Type 0} → (X → Bool) → List X → ℕ
+index test xs = position_or_len test xs
 
 behind : {X : Type 0} (b : Bool) (x : X) (n m : ℕ) → suc m ≤ cond (not b) (1 + n) 0 → b ≡ false
 behind true x n m above = absurd (omega arith)
@@ -37,30 +37,30 @@ found_nothing : (b : Bool) (n : ℕ) → cond b (Some n) None ≡ None → b ≡
 found_nothing true n is = cc
 found_nothing false n is = refl
 
--- a place that was found is the first one, within the list
-pub placed : {X : Type 0} (test : X → Bool) (xs : List X) (at : ℕ) → position test xs ≡ Some at → (place test xs ≡ at) × (place test xs < length xs)
-placed test xs at is =
-    let found = found_at (ltb (place test xs) (length xs)) (place test xs) at is in
+-- an index that was found is the first one, within the list
+pub first_at : {X : Type 0} (test : X → Bool) (xs : List X) (at : ℕ) → position test xs ≡ Some at → (index test xs ≡ at) × (index test xs < length xs)
+first_at test xs at is =
+    let found = found_at (ltb (index test xs) (length xs)) (index test xs) at is in
     (found.1, grind (arith, nat_tests, found.0))
 
-none_found : {X : Type 0} (test : X → Bool) (xs : List X) → length xs ≤ place test xs → find test xs ≡ None
+none_found : {X : Type 0} (test : X → Bool) (xs : List X) → length xs ≤ index test xs → find test xs ≡ None
 none_found test [] past = refl
 none_found test (x ∷ xs) past =
-    elim (test x) as (λ b. suc (length xs) ≤ cond (not b) (1 + place test xs) 0 → cond b (Some x) (find test xs) ≡ None) [
+    elim (test x) as (λ b. suc (length xs) ≤ cond (not b) (1 + index test xs) 0 → cond b (Some x) (find test xs) ≡ None) [
       | true ↦ λ above. absurd (omega arith)
       | false ↦ λ above. none_found test xs (omega arith)
     ] past
 
--- where no place was found, nothing is
+-- where no index was found, nothing is
 pub unplaced : {X : Type 0} (test : X → Bool) (xs : List X) → position test xs ≡ None → find test xs ≡ None
 unplaced test xs is =
-    let nowhere = found_nothing (ltb (place test xs) (length xs)) (place test xs) is in
+    let nowhere = found_nothing (ltb (index test xs) (length xs)) (index test xs) is in
     none_found test xs (grind (arith, nat_tests, nowhere))
 
-some_found : {X : Type 0} (test : X → Bool) (xs : List X) → place test xs < length xs → is_some (find test xs) ≡ true
+some_found : {X : Type 0} (test : X → Bool) (xs : List X) → index test xs < length xs → is_some (find test xs) ≡ true
 some_found test [] within = absurd (omega arith)
 some_found test (x ∷ xs) within =
-    elim (test x) as (λ b. cond (not b) (1 + place test xs) 0 < suc (length xs) → is_some (cond b (Some x) (find test xs)) ≡ true) [
+    elim (test x) as (λ b. cond (not b) (1 + index test xs) 0 < suc (length xs) → is_some (cond b (Some x) (find test xs)) ≡ true) [
       | true ↦ λ _. refl
       | false ↦ λ below. some_found test xs (omega arith)
     ] within
@@ -68,19 +68,19 @@ some_found test (x ∷ xs) within =
 get_behind : {X : Type 0} (x : X) (xs : List X) (n : ℕ) → slice_get (x ∷ xs) (1 + n) ≡ slice_get xs n
 get_behind x xs n = let e : 1 + n ≡ suc n = omega arith in ap (slice_get (x ∷ xs)) e
 
-find_place : {X : Type 0} (test : X → Bool) (xs : List X) → place test xs < length xs → find test xs ≡ slice_get xs (place test xs)
-find_place test [] within = absurd (omega arith)
-find_place test (x ∷ xs) within =
-    elim (test x) as (λ b. cond (not b) (1 + place test xs) 0 < suc (length xs)
-    → cond b (Some x) (find test xs) ≡ slice_get (x ∷ xs) (cond (not b) (1 + place test xs) 0)) [
+find_index : {X : Type 0} (test : X → Bool) (xs : List X) → index test xs < length xs → find test xs ≡ slice_get xs (index test xs)
+find_index test [] within = absurd (omega arith)
+find_index test (x ∷ xs) within =
+    elim (test x) as (λ b. cond (not b) (1 + index test xs) 0 < suc (length xs)
+    → cond b (Some x) (find test xs) ≡ slice_get (x ∷ xs) (cond (not b) (1 + index test xs) 0)) [
       | true ↦ λ _. refl
-      | false ↦ λ below. find_place test xs (omega arith) ∙ sym (get_behind x xs (place test xs))
+      | false ↦ λ below. find_index test xs (omega arith) ∙ sym (get_behind x xs (index test xs))
     ] within
 
--- what stands at the place is found
+-- what stands at the index is found
 pub standing-find : {X : Type 0} (test : X → Bool) (xs : List X) (at : Option ℕ) → position test xs ≡ at → standing at xs ≡ find test xs
 standing-find test xs None is = sym (unplaced test xs is)
-standing-find test xs (Some at) is = let p = placed test xs at is in ap (slice_get xs) (sym p.0) ∙ sym (find_place test xs p.1)
+standing-find test xs (Some at) is = let p = first_at test xs at is in ap (slice_get xs) (sym p.0) ∙ sym (find_index test xs p.1)
 
 -- where one test finds what another passes, the other finds something
 pub find-other : {X : Type 0} (test other : X → Bool) (xs : List X) (x : X) → find test xs ≡ Some x → other x ≡ true → find other xs ≡ None → ⊥
@@ -95,7 +95,7 @@ find-other test other (y ∷ ys) x found passes none =
       ]
     ] found none
 
--- ---- lists and places behind their first item
+-- ---- lists and indices behind their first item
 
 set_behind : {X : Type 0} (x new : X) (xs : List X) (n : ℕ) → set (x ∷ xs) (1 + n) new ≡ x ∷ set xs n new
 set_behind x new xs n = let e : 1 + n ≡ suc n = omega arith in ap (λ k. set (x ∷ xs) k new) e
@@ -159,18 +159,18 @@ module _ {X : Type 0} (key : X → KeyTexts) (row : X → Row) where
   changes-twice k first second xs ys zs one two =
       λ q. two q ∙ (ap (cond (eq_by_cmp key_cmp q k) second) (one q) ∙ sym (shadowed (eq_by_cmp key_cmp q k) second first (find (has_key key q) xs)))
 
-  find-set : (xs : List X) (new : X) (q : KeyTexts) → place (has_key key (key new)) xs < length xs
-      → find (has_key key q) (set xs (place (has_key key (key new)) xs) new) ≡ cond (has_key key q new) (Some new) (find (has_key key q) xs)
+  find-set : (xs : List X) (new : X) (q : KeyTexts) → index (has_key key (key new)) xs < length xs
+      → find (has_key key q) (set xs (index (has_key key (key new)) xs) new) ≡ cond (has_key key q new) (Some new) (find (has_key key q) xs)
   find-set [] new q within = absurd (omega arith)
   find-set (x ∷ xs) new q within =
-      elim (has_key key (key new) x) as (λ b. has_key key (key new) x ≡ b → cond (not b) (1 + place (has_key key (key new)) xs) 0 < suc (length xs)
-      → find (has_key key q) (set (x ∷ xs) (cond (not b) (1 + place (has_key key (key new)) xs) 0) new) ≡ cond (has_key key q new) (Some new) (cond (has_key key q x) (Some x) (find (has_key key q) xs))) [
+      elim (has_key key (key new) x) as (λ b. has_key key (key new) x ≡ b → cond (not b) (1 + index (has_key key (key new)) xs) 0 < suc (length xs)
+      → find (has_key key q) (set (x ∷ xs) (cond (not b) (1 + index (has_key key (key new)) xs) 0) new) ≡ cond (has_key key q new) (Some new) (cond (has_key key q x) (Some x) (find (has_key key q) xs))) [
         | true ↦ λ t _.
             let alike : has_key key q new ≡ has_key key q x = ap (eq_by_cmp key_cmp q) (same_key (key new) (key x) t) in
             shadowed (has_key key q new) (Some new) (Some x) (find (has_key key q) xs)
             ∙ ap (λ b. cond (has_key key q new) (Some new) (cond b (Some x) (find (has_key key q) xs))) alike
         | false ↦ λ t below.
-            ap (find (has_key key q)) (set_behind x new xs (place (has_key key (key new)) xs))
+            ap (find (has_key key q)) (set_behind x new xs (index (has_key key (key new)) xs))
             ∙ (ap (cond (has_key key q x) (Some x)) (find-set xs new q (omega arith))
             ∙ swapped (has_key key q x) (has_key key q new) (Some x) (Some new) (find (has_key key q) xs)
             (λ s. ap (λ k. has_key key k x) (same_key q (key new) s) ∙ t))
@@ -178,7 +178,7 @@ module _ {X : Type 0} (key : X → KeyTexts) (row : X → Row) where
 
   changes-set : (xs : List X) (new : X) (at : ℕ) → position (has_key key (key new)) xs ≡ Some at → Changes (key new) (Some new) xs (set xs at new)
   changes-set xs new at is =
-      let p = placed (has_key key (key new)) xs at is in
+      let p = first_at (has_key key (key new)) xs at is in
       λ q. ap (λ n. find (has_key key q) (set xs n new)) (sym p.0) ∙ find-set xs new q p.1
 
   find-push : (xs : List X) (new : X) (q : KeyTexts) → find (has_key key (key new)) xs ≡ None
@@ -256,13 +256,13 @@ module _ {X : Type 0} (key : X → KeyTexts) (row : X → Row) where
 
   -- ---- the item with a key is taken out
 
-  find-without : (xs : List X) (k q : KeyTexts) → IsOnce xs → place (has_key key k) xs < length xs
-      → find (has_key key q) (without xs (place (has_key key k) xs)) ≡ cond (eq_by_cmp key_cmp q k) None (find (has_key key q) xs)
+  find-without : (xs : List X) (k q : KeyTexts) → IsOnce xs → index (has_key key k) xs < length xs
+      → find (has_key key q) (without xs (index (has_key key k) xs)) ≡ cond (eq_by_cmp key_cmp q k) None (find (has_key key q) xs)
   find-without [] k q once within = absurd (omega arith)
   find-without (x ∷ xs) k q once within =
       let tail = IsOnce-tail x xs once in
-      elim (has_key key k x) as (λ b. has_key key k x ≡ b → cond (not b) (1 + place (has_key key k) xs) 0 < suc (length xs)
-      → find (has_key key q) (without (x ∷ xs) (cond (not b) (1 + place (has_key key k) xs) 0)) ≡ cond (eq_by_cmp key_cmp q k) None (cond (has_key key q x) (Some x) (find (has_key key q) xs))) [
+      elim (has_key key k x) as (λ b. has_key key k x ≡ b → cond (not b) (1 + index (has_key key k) xs) 0 < suc (length xs)
+      → find (has_key key q) (without (x ∷ xs) (cond (not b) (1 + index (has_key key k) xs) 0)) ≡ cond (eq_by_cmp key_cmp q k) None (cond (has_key key q x) (Some x) (find (has_key key q) xs))) [
         | true ↦ λ t _.
             let alike : k ≡ key x = same_key k (key x) t in
             elim (eq_by_cmp key_cmp q k) as (λ b. eq_by_cmp key_cmp q k ≡ b → find (has_key key q) xs ≡ cond b None (cond (has_key key q x) (Some x) (find (has_key key q) xs))) [
@@ -270,7 +270,7 @@ module _ {X : Type 0} (key : X → KeyTexts) (row : X → Row) where
               | false ↦ λ s. ap (λ b. cond b (Some x) (find (has_key key q) xs)) (sym (ap (eq_by_cmp key_cmp q) (sym alike) ∙ s))
             ] refl
         | false ↦ λ t below.
-            ap (find (has_key key q)) (without_behind x xs (place (has_key key k) xs))
+            ap (find (has_key key q)) (without_behind x xs (index (has_key key k) xs))
             ∙ (ap (cond (has_key key q x) (Some x)) (find-without xs k q tail.0 (omega arith))
             ∙ swapped (has_key key q x) (eq_by_cmp key_cmp q k) (Some x) None (find (has_key key q) xs)
             (λ s. ap (λ j. has_key key j x) (same_key q k s) ∙ t))
@@ -278,7 +278,7 @@ module _ {X : Type 0} (key : X → KeyTexts) (row : X → Row) where
 
   changes-without : (xs : List X) (k : KeyTexts) (at : ℕ) → position (has_key key k) xs ≡ Some at → IsOnce xs → Changes k None xs (without xs at)
   changes-without xs k at is once =
-      let p = placed (has_key key k) xs at is in
+      let p = first_at (has_key key k) xs at is in
       λ q. ap (λ n. find (has_key key q) (without xs n)) (sym p.0) ∙ find-without xs k q once p.1
 
   -- nothing is found under its key then
@@ -289,7 +289,7 @@ module _ {X : Type 0} (key : X → KeyTexts) (row : X → Row) where
 
   contained : (xs : List X) (k : KeyTexts) (at : ℕ) → position (has_key key k) xs ≡ Some at → contains_key (rows_under key row xs) k ≡ true
   contained xs k at is =
-      ap is_some (get-rows_under xs k) ∙ (some_mapped row (find (has_key key k) xs) ∙ some_found (has_key key k) xs (placed (has_key key k) xs at is).1)
+      ap is_some (get-rows_under xs k) ∙ (some_mapped row (find (has_key key k) xs) ∙ some_found (has_key key k) xs (first_at (has_key key k) xs at is).1)
 
   once-set : (xs : List X) (new : X) (at : ℕ) → position (has_key key (key new)) xs ≡ Some at → IsOnce xs → IsOnce (set xs at new)
   once-set xs new at is once =
@@ -308,7 +308,7 @@ module _ {X : Type 0} (key : X → KeyTexts) (row : X → Row) where
 
   once-without : (xs : List X) (k : KeyTexts) (at : ℕ) → position (has_key key k) xs ≡ Some at → IsOnce xs → IsOnce (without xs at)
   once-without xs k at is once =
-      let p = placed (has_key key k) xs at is in
+      let p = first_at (has_key key k) xs at is in
       let within : at < length xs = subst (λ n. n < length xs) p.0 p.1 in
       ap len (changed k None xs (without xs at) (changes-without xs k at is once))
       ∙ (len-remove keys_total (rows_under key row xs) k

@@ -24,7 +24,7 @@ get-found : (key : Row → KeyTexts) (test : Row → Bool) (k : KeyTexts) (rows 
 get-found key test k rows same =
     get-rows_under key (λ row. row) rows k ∙ (option_map_id (find (has_key key k) rows) ∙ ap (λ t. find t rows) (sym same))
 
--- the record with a code is the one that a search finds
+-- the record with an LEI is the one that a search finds
 pub row_at-found : (lists : Listed) (lei : List ℕ) → row_at (table_of lists) lei ≡ find (is_of lei) lists.records
 row_at-found lists lei = get-found record_key_in (is_of lei) (record_key lei) lists.records (is_of-key lei)
 

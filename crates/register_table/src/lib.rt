@@ -4,7 +4,7 @@
 
 mod laws;
 mod lists;
-mod places;
+mod searches;
 mod rows;
 mod single;
 mod slot;

@@ -82,7 +82,7 @@ pub fn held_check(held: Option<RelCell>, item: &Relation) -> Option<Check>
 
 // ---- an exception
 
-// C51: the record of the exception's code, and the issuer that uploads it.
+// C51: the record of the exception's LEI, and the issuer that uploads it.
 pub fn manager_check(held: &RecCell, issuer: &Lei) -> Option<Check>
     ensures { result ≡ first_failing (Checks.c51 (Some held.now) issuer.now ∷ []) }
 {

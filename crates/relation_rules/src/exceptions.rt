@@ -20,7 +20,7 @@ use lei_shapes::{ExceptionCategory, RelationType};
 
 /// The checks C50 to C53 of an exception, or of its withdrawal, that an issuer uploads, beside what the view answers:
 /// the first that fails. `Missing` where none fails before one that asks for a cell that the view lacks, with the key of
-/// the first such cell: the record of its code, and then the active parent of its category with a put, and the
+/// the first such cell: the record of its LEI, and then the active parent of its category with a put, and the
 /// exception itself with a withdrawal.
 pub fn exception_check<V: View>(view: &V, issuer: &Lei, item: &ExceptionItem) -> Checked
     ensures answers { result ≡ Checking.check_exception (V.cells view.now) issuer.now item.now }
@@ -47,7 +47,7 @@ fn check_exception<V: View>(view: &V, issuer: &Lei, item: &ExceptionItem) -> Che
     }
 }
 
-// From C51 on, with the record of the exception's code.
+// From C51 on, with the record of the exception's LEI.
 fn check_subject<V: View>(view: &V, issuer: &Lei, item: &ExceptionItem, held: &RecCell) -> Checked
     ensures { result ≡ Checking.check_subject (V.cells view.now) issuer.now item.now (Some held.now) }
 {

@@ -2,5 +2,5 @@ use Rattle.lei_records.specs.Names.{AreRising}
 use Rattle.register_table.proofs.tests.fields_of.Given as goal
 
 -- the names so far rise
-abbrev pub invariant-loop-name : goal.invariant-loop-name
-invariant-loop-name l = AreRising l.pairs.items
+abbrev pub invariant-loop-line : goal.invariant-loop-line
+invariant-loop-line l = AreRising l.pairs.items

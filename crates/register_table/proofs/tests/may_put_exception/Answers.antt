@@ -5,4 +5,4 @@ use Rattle.register_table.proofs.tests.may_put_exception.Goals as goal
 pub returns : goal.returns
 returns c = λ tells.
     let put : c.withdraws.result ≡ false = search (rules, tests) in
-    may_put_exception c.args.table.now c.args.new.now c.held-held.ensures.kept c.lei-code.ensures.row (sym c.withdraws.ensures ∙ put)
+    may_put_exception c.args.table.now c.args.new.now c.held-held.ensures.kept c.lei-lei.ensures.row (sym c.withdraws.ensures ∙ put)

@@ -3,24 +3,24 @@ ghost use Rattle.std.specs.Prelude.{◌≡◌, find, option_map, position};
 ghost use Rattle.std.specs.List.{list_any};
 ghost use Rattle.lei_records.specs.Cells.{holds as holds_key};
 ghost use Rattle.lei_records.specs.Exceptions.{exception_category_in, is_same_category};
-ghost use Rattle.lei_records.specs.Relations.{is_active as is_active_row, is_active_status as is_status_active, is_active_of, is_same_type, kind_in};
+ghost use Rattle.lei_records.specs.Relations.{is_active_of, is_same_type, kind_in};
 ghost use Rattle.register_table.specs.Lists.{is_exception_of, is_of, is_relation_of};
 
 use authority_rules::holds;
 use lei_code::Lei;
 use lei_records::{ExceptionItem, Record, Relation};
-use lei_shapes::{ExceptionCategory, RelationStatus, RelationType};
+use lei_shapes::{ExceptionCategory, RelationType};
 use std::collections::LinkedList;
 
-/// The place of the record of an entity.
-pub fn record_place(rows: &[Record], lei: &Lei) -> Option<usize>
+/// The index of the record of an entity.
+pub fn record_index(rows: &[Record], lei: &Lei) -> Option<usize>
     ensures { result ≡ position (is_of lei.now) rows.now }
 {
     rows.iter().position(|row| row.lei() == *lei)
 }
 
-/// The place of the relationship of a start, a type and an end.
-pub fn relation_place(
+/// The index of the relationship of a start, a type and an end.
+pub fn relation_index(
     rows: &[Relation],
     start: &Lei,
     kind: RelationType,
@@ -32,8 +32,8 @@ pub fn relation_place(
         .position(|row| is_relation(row, start, kind, end))
 }
 
-/// The place of the exception of an entity and a category.
-pub fn exception_place(
+/// The index of the exception of an entity and a category.
+pub fn exception_index(
     rows: &LinkedList<ExceptionItem>,
     lei: &Lei,
     category: ExceptionCategory,
@@ -101,7 +101,7 @@ fn is_relation(row: &Relation, start: &Lei, kind: RelationType, end: &Lei) -> bo
 fn is_active(row: &Relation, start: &Lei, kind: RelationType) -> bool
     ensures { result ≡ is_active_of start.now kind row.now }
 {
-    has_active_status(row) && row.start() == *start && has_type(row, kind)
+    row.is_active() && row.start() == *start && has_type(row, kind)
 }
 
 fn is_exception(row: &ExceptionItem, lei: &Lei, category: ExceptionCategory) -> bool
@@ -114,18 +114,6 @@ fn has_type(row: &Relation, kind: RelationType) -> bool
     ensures { result ≡ is_same_type (kind_in row.now) kind }
 {
     row.kind() == kind
-}
-
-fn has_active_status(row: &Relation) -> bool
-    ensures { result ≡ is_active_row row.now }
-{
-    is_active_status(row.status())
-}
-
-fn is_active_status(status: RelationStatus) -> bool
-    ensures { result ≡ is_status_active status }
-{
-    matches!(status, RelationStatus::Active)
 }
 
 fn has_category(row: &ExceptionItem, category: ExceptionCategory) -> bool
