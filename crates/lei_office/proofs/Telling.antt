@@ -1,20 +1,21 @@
 -- Each check that is told on an upload's items is one: there is a check of its number.
-use Rattle.std.proofs.Common.{◌≡◌, ℕ, ℤ, List, [], ◌∷◌, ◌++◌, map, Bool, true, false, cond, Option, Some, None, option_map, refl, subst}
+use Rattle.std.proofs.Common.{◌≡◌, ℕ, ℤ, List, [], ◌∷◌, ◌++◌, map, Bool, true, false, cond, Option, Some, None, option_map, unwrap_or, refl, subst}
 use Rattle.std.specs.List.{All}
+use Rattle.std.specs.Prelude.{IfSome}
 use Rattle.std.specs.Option.{option_or}
 use Rattle.std.proofs.lemmas.List.Elements.{All-cons, All-nil}
 use Rattle.lei_code.specs.Texts.{Lei, Text}
 use Rattle.lei_records.specs.Cells.{lei_in, successor_in}
 use Rattle.lei_records.specs.Checks.{FailedCheck, Finding, IsNumber, first_failing}
-use Rattle.lei_records.specs.Items.{failed_check, failed_field, miscoded_field, misshapen_field, missing_field, ready, readied, unknown_name}
+use Rattle.lei_records.specs.Items.{failed_check, failed_field, is_withdrawal, item_of, miscoded_field, misshapen_field, missing_field, ready, readied, row_of, unknown_name}
 use Rattle.lei_records.specs.Rows.{Row}
-use Rattle.lei_records.specs.Tables.{Table, put_all, record_of}
+use Rattle.lei_records.specs.Tables.{Table, other_holder, put_all, record_of}
 use Rattle.lei_records.specs.declared.fields.Kind.{Kind}
 use Rattle.lei_records.specs.declared.item.Item.{Item}
 use Rattle.lei_records.specs.declared.item.RawItem.{RawItem}
 use Rattle.lei_records.specs.declared.item.Readied.{Readied}
 use Rattle.lei_records.specs.declared.view.RecCell.{RecCell}
-use Rattle.register_judge.specs.Checks.{checks, held_checks, own_checks, successor_checks}
+use Rattle.register_judge.specs.Checks.{c19, c20, held_checks, is_full, own_checks, successor_checks}
 use Rattle.register_judge.specs.Taking.{item_checks, take, verdict, verdict_of, writes_of}
 use Rattle.lei_office.specs.Answers.{IsTold}
 
@@ -42,23 +43,28 @@ first-numbered (finding ∷ findings) check numbered is =
 -- ---- the checks on a table
 
 held-numbered : (held : Option RecCell) (today : ℤ) (issuer : Lei) (row : Row) → AreNumbered (held_checks held today issuer row)
-held-numbered None today issuer row = (tt, (tt, (tt, (tt, (tt, (tt, tt))))))
-held-numbered (Some held) today issuer row = (tt, (tt, (tt, (tt, (tt, (tt, tt))))))
+held-numbered None today issuer row = (refl, (refl, (refl, (refl, (refl, (refl, tt))))))
+held-numbered (Some held) today issuer row = (refl, (refl, (refl, (refl, (refl, (refl, tt))))))
 
 successor-numbered : (table : Table) (row : Row) (successor : Option Lei) → AreNumbered (successor_checks table row successor)
 successor-numbered table row None = tt
-successor-numbered table row (Some successor) = (tt, (tt, (tt, tt)))
+successor-numbered table row (Some successor) = (refl, (refl, (refl, tt)))
+
+parts-numbered : (own held followed taken full : List Finding) → AreNumbered own → AreNumbered held → AreNumbered followed → AreNumbered taken → AreNumbered full
+    → AreNumbered ((own ++ held ++ followed ++ taken) ++ full)
+parts-numbered own held followed taken full of_own of_held of_followed of_taken of_full =
+    both-numbered (own ++ held ++ followed ++ taken) full
+    (both-numbered (own ++ held ++ followed) taken (both-numbered (own ++ held) followed (both-numbered own held of_own of_held) of_followed) of_taken) of_full
 
 item-numbered : (table : Table) (limit : ℕ) (today : ℤ) (issuer : Lei) (item : Item) → AreNumbered (item_checks table limit today issuer item)
 item-numbered table limit today issuer (Item.Record row) =
-    let held = held_checks (record_of table (lei_in row)) today issuer row in
-    let followed = successor_checks table row (successor_in row) in
-    let earlier = both-numbered (own_checks today issuer row) _ (tt, (tt, (tt, (tt, (tt, tt)))))
-        (both-numbered held _ (held-numbered (record_of table (lei_in row)) today issuer row)
-        (both-numbered followed _ (successor-numbered table row (successor_in row)) (tt, tt))) in
-    both-numbered _ _ earlier (tt, tt)
-item-numbered table limit today issuer (Item.Relation row) = (tt, (tt, (tt, (tt, (tt, (tt, (tt, (tt, (tt, (tt, (tt, tt)))))))))))
-item-numbered table limit today issuer (Item.Exception item) = (tt, (tt, (tt, (tt, tt))))
+    let held = record_of table (lei_in row) in
+    let taken = c19 (other_holder table row) row ∷ [] in
+    let full = c20 held (is_full table limit) ∷ [] in
+    parts-numbered (own_checks today issuer row) (held_checks held today issuer row) (successor_checks table row (successor_in row)) taken full
+    (refl, (refl, (refl, (refl, (refl, tt))))) (held-numbered held today issuer row) (successor-numbered table row (successor_in row)) (refl, tt) (refl, tt)
+item-numbered table limit today issuer (Item.Relation row) = (refl, (refl, (refl, (refl, (refl, (refl, (refl, (refl, (refl, (refl, (refl, tt)))))))))))
+item-numbered table limit today issuer (Item.Exception item) = (refl, (refl, (refl, (refl, tt))))
 
 -- ---- the checks of fields
 
@@ -80,9 +86,9 @@ last-numbered number (Some name) check numbered is =
 fields-numbered : (kind : Kind) (pairs : List (Text × Text)) (check : FailedCheck) → failed_check kind pairs ≡ Some check → IsNumber check.number
 unfolding failed_check
 fields-numbered kind pairs check is =
-    field-numbered 1 (unknown_name kind pairs) _ check tt
-    (field-numbered 2 (missing_field kind pairs) _ check tt
-    (field-numbered 3 (misshapen_field kind pairs) _ check tt (last-numbered 4 (miscoded_field kind pairs) check tt))) is
+    field-numbered 1 (unknown_name kind pairs) _ check refl
+    (field-numbered 2 (missing_field kind pairs) _ check refl
+    (field-numbered 3 (misshapen_field kind pairs) _ check refl (last-numbered 4 (miscoded_field kind pairs) check refl))) is
 
 -- ---- verdicts
 
@@ -97,7 +103,7 @@ of_item table limit today issuer item =
 
 of_readied : (table : Table) (limit : ℕ) (today : ℤ) (issuer : Lei) (kind : Kind) (pairs : List (Text × Text)) (failed : Option FailedCheck) → failed_check kind pairs ≡ failed
     → IsTold (verdict table limit today issuer (readied kind pairs failed))
-of_readied table limit today issuer kind pairs None is = of_item table limit today issuer _
+of_readied table limit today issuer kind pairs None is = of_item table limit today issuer (item_of kind (is_withdrawal pairs) (row_of kind pairs))
 of_readied table limit today issuer kind pairs (Some check) is = fields-numbered kind pairs check is
 
 of_raw : (table : Table) (limit : ℕ) (today : ℤ) (issuer : Lei) (raw : RawItem) → IsTold (verdict table limit today issuer (ready raw))
@@ -110,3 +116,8 @@ all_told table limit today issuer [] = All-nil IsTold
 all_told table limit today issuer (raw ∷ raws) =
     let given = verdict table limit today issuer (ready raw) in
     All-cons IsTold given _ (of_raw table limit today issuer raw) (all_told (put_all (writes_of given (ready raw)) table) limit today issuer raws)
+
+-- a text that there is
+pub told_text : (told : Option Text) (text bytes : Text) → told ≡ Some text → IfSome told (λ written. bytes ≡ written) → bytes ≡ unwrap_or told []
+told_text None text bytes is writes = cc
+told_text (Some told) text bytes is writes = writes

@@ -62,7 +62,11 @@ fn verdict_text(alloc: Global, verdict: &Verdict) -> Result<String, NoMemory>
 {
     match verdict {
         Verdict::Accepted => Ok(String::from_str(alloc, "ACCEPTED")?),
-        Verdict::Rejected(check) => Ok(format!(in alloc; "{check}")?),
+        Verdict::Rejected(check) => {
+            // Each check has a name, and so a text.
+            let _ = check.name();
+            Ok(format!(in alloc; "{check}")?)
+        }
     }
 }
 
