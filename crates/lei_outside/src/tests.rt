@@ -141,14 +141,14 @@ fn a_piece_is_written_whole(rt: HostRuntime) -> Result<(), Fail> {
     let mut sink = ByteSink::new(alloc, 3, numbers(alloc, &[6])?);
     assert_eq!(rt; write_all(&mut sink, b""), Ok(()));
     assert_eq!(rt; write_all(&mut sink, TEXT), Ok(()));
-    assert_eq!(rt; sink.taken(), TEXT);
+    assert_eq!(rt; sink.written(), TEXT);
     assert_eq!(rt; sink.faults(), 0);
     assert_eq!(rt; write_all(&mut sink, TEXT), Err(SinkFault::Failed));
-    assert_eq!(rt; sink.taken(), TEXT);
+    assert_eq!(rt; sink.written(), TEXT);
     assert_eq!(rt; sink.faults(), 1);
     let mut sure = SureSink::new(alloc, 3);
     assert_eq!(rt; write_all(&mut sure, TEXT), Ok(()));
-    assert_eq!(rt; sure.taken(), TEXT);
+    assert_eq!(rt; sure.written(), TEXT);
     Ok(())
 }
 
@@ -157,7 +157,7 @@ fn a_write_that_fails_leaves_a_front(rt: HostRuntime) -> Result<(), Fail> {
     let alloc = rt.alloc();
     let mut sink = ByteSink::new(alloc, 3, numbers(alloc, &[3])?);
     assert_eq!(rt; write_all(&mut sink, TEXT), Err(SinkFault::Failed));
-    assert_eq!(rt; sink.taken(), b"a doze".as_slice());
+    assert_eq!(rt; sink.written(), b"a doze".as_slice());
     assert_eq!(rt; sink.faults(), 1);
     Ok(())
 }
