@@ -1,5 +1,5 @@
 use Rattle.lei_records.specs.Names.{AreRising}
-use Rattle.relation_rules.proofs.tests.items.fields_of.Given as goal
+use Rattle.register_judge.proofs.tests.fields_of.Given as goal
 
 -- the names so far rise
 abbrev pub invariant-loop-line : goal.invariant-loop-line

@@ -1,7 +1,7 @@
 use Rattle.std.proofs.Common.{◌≡◌, true, sym, subst, rules, tests}
 use Rattle.lei_records.specs.Names.{AreRising}
 use Rattle.lei_records.proofs.NameLemmas.{rising-none, rising-pushed}
-use Rattle.relation_rules.proofs.tests.items.fields_of.Goals as goal
+use Rattle.register_judge.proofs.tests.fields_of.Goals as goal
 
 pub loop-line-init : goal.loop-line-init
 loop-line-init c = subst AreRising (sym c.new-pairs.ensures.items) rising-none
