@@ -17,6 +17,3 @@ pub use laws::{
     fitting_relations_keep_tables_sound, records_and_exceptions_keep_parents,
 };
 pub use relations::relation_check;
-
-#[cfg(test)]
-mod tests;
