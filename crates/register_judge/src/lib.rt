@@ -19,5 +19,3 @@ pub use laws::{
 };
 pub use outcome::{JudgeStop, Outcome, Verdict};
 
-#[cfg(test)]
-mod tests;

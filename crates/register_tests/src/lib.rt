@@ -3,4 +3,10 @@
 #![tactic(auto)]
 
 #[cfg(test)]
+mod items;
+#[cfg(test)]
+mod judging;
+#[cfg(test)]
 mod limits;
+#[cfg(test)]
+mod tables;

@@ -3,8 +3,8 @@ use Rattle.lei_records.specs.declared.item.Item.{Item}
 use Rattle.lei_records.specs.declared.view.RowKey.{RowKey}
 use Rattle.lei_records.specs.Tables.{row_key}
 use Rattle.register_table.specs.Undos.{MayApply}
-use Rattle.register_table.proofs.TestLemmas.{may_withdraw}
-use Rattle.register_table.proofs.tests.withdraw.Goals as goal
+use Rattle.register_tests.proofs.TableLemmas.{may_withdraw}
+use Rattle.register_tests.proofs.tables.withdraw.Goals as goal
 
 pub apply-requires : goal.apply-requires
 apply-requires c =

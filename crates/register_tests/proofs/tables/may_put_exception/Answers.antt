@@ -1,6 +1,6 @@
 use Rattle.std.proofs.Common.{◌≡◌, false, sym, ◌∙◌, rules, tests}
-use Rattle.register_table.proofs.TestLemmas.{may_put_exception}
-use Rattle.register_table.proofs.tests.may_put_exception.Goals as goal
+use Rattle.register_tests.proofs.TableLemmas.{may_put_exception}
+use Rattle.register_tests.proofs.tables.may_put_exception.Goals as goal
 
 pub returns : goal.returns
 returns c = λ tells.

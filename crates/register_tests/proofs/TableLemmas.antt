@@ -1,4 +1,4 @@
--- Writes that the tests put may be applied.
+-- Writes that the tests of the table put may be applied.
 use Rattle.std.specs.Prelude.{◌≡◌, ℕ, ◌+◌, ◌<◌, ◌≤◌, Bool, true, false, cond, [], ◌∷◌, Option, Some, None}
 use Rattle.std.specs.FinMap.{contains_key, len-insert}
 use Rattle.std.proofs.Common.{refl, sym, subst, arith}

@@ -1,7 +1,7 @@
 use Rattle.std.proofs.Common.{◌<◌, refl, sym, subst, ◌∙◌, arith}
 use Rattle.std.proofs.lemmas.Bool.Decides.{nat_tests}
-use Rattle.register_table.proofs.TestLemmas.{may_put_record}
-use Rattle.register_table.proofs.tests.may_put_record.Goals as goal
+use Rattle.register_tests.proofs.TableLemmas.{may_put_record}
+use Rattle.register_tests.proofs.tables.may_put_record.Goals as goal
 
 pub returns-in-Empty : goal.returns-in-Empty
 returns-in-Empty c = λ tells.

@@ -1,19 +1,14 @@
 //! Items judged over a view that lacks cells, and over one that lacks none.
 ghost use Rattle.std.specs.Prelude.{◌≡◌, nat_le, if◌then◌else◌};
-ghost use Rattle.std.specs.Cmp.Lexicographic.{slice_cmp};
-ghost use Rattle.std.specs.List.{list_all};
-ghost use Rattle.std.specs.Ordering.{is_lt, nat_cmp};
 ghost use Rattle.std.specs.Str.{bytes_eq};
 ghost use Rattle.lei_records.specs.declared.view.Seen as seen;
 ghost use Rattle.lei_records.specs.Cells.{lei_in, rec_cell};
 
-use crate::{JudgeStop, Outcome, Verdict, judge_all};
+use crate::items::{EXCEPTION, RECORD, readied};
 use lei_code::Lei;
-use lei_outside::Text;
-use lei_records::{
-    CellKey, Fields, Item, Kind, RawItem, Readied, RecCell, Record, RelCell, Seen, View, ready,
-};
+use lei_records::{CellKey, Item, Readied, RecCell, Record, RelCell, Seen, View};
 use lei_shapes::{ExceptionCategory, RelationType};
+use register_judge::{JudgeStop, Outcome, Verdict, judge_all};
 use std::alloc::Global;
 use std::test::Fail;
 
@@ -22,57 +17,12 @@ const ISSUER: &str = "506700GE1G29325QX363";
 // 2025-01-11, counted from 1970-01-01.
 const TODAY: i32 = 20_099;
 
-// The standard record of A.
-const RECORD: &str = concat!(
-    "Entity.EntityCategory=GENERAL\n",
-    "Entity.EntityStatus=ACTIVE\n",
-    "Entity.HeadquartersAddress.City=Paris\n",
-    "Entity.HeadquartersAddress.Country=FR\n",
-    "Entity.HeadquartersAddress.FirstAddressLine=1 Main Street\n",
-    "Entity.LegalAddress.City=Paris\n",
-    "Entity.LegalAddress.Country=FR\n",
-    "Entity.LegalAddress.FirstAddressLine=1 Main Street\n",
-    "Entity.LegalForm.EntityLegalFormCode=AB12\n",
-    "Entity.LegalJurisdiction=FR\n",
-    "Entity.LegalName=Alpha\n",
-    "Entity.RegistrationAuthority.RegistrationAuthorityEntityID=1001\n",
-    "Entity.RegistrationAuthority.RegistrationAuthorityID=RA000001\n",
-    "LEI=00000000000000000195\n",
-    "Registration.InitialRegistrationDate=2025-01-10T09:00:00Z\n",
-    "Registration.LastUpdateDate=2025-01-10T09:00:00Z\n",
-    "Registration.ManagingLOU=506700GE1G29325QX363\n",
-    "Registration.NextRenewalDate=2026-01-10T09:00:00Z\n",
-    "Registration.RegistrationStatus=ISSUED\n",
-    "Registration.ValidationSources=FULLY_CORROBORATED\n",
-);
-
 // B is the direct parent of A.
-const RELATION: &str = concat!(
-    "Registration.InitialRegistrationDate=2025-01-10T09:00:00Z\n",
-    "Registration.LastUpdateDate=2025-01-10T09:00:00Z\n",
-    "Registration.ManagingLOU=506700GE1G29325QX363\n",
-    "Registration.RegistrationStatus=PUBLISHED\n",
-    "Registration.ValidationSources=FULLY_CORROBORATED\n",
-    "Relationship.EndNode=00000000000000000292\n",
-    "Relationship.RelationshipStatus=ACTIVE\n",
-    "Relationship.RelationshipType=IS_DIRECTLY_CONSOLIDATED_BY\n",
-    "Relationship.StartDate=2025-01-10T09:00:00Z\n",
-    "Relationship.StartNode=00000000000000000195\n",
-);
+const RELATION: &str =
+    r#"{"relationships":[{"Registration.InitialRegistrationDate":"2025-01-10T09:00:00Z","Registration.LastUpdateDate":"2025-01-10T09:00:00Z","Registration.ManagingLOU":"506700GE1G29325QX363","Registration.RegistrationStatus":"PUBLISHED","Registration.ValidationSources":"FULLY_CORROBORATED","Relationship.EndNode":"00000000000000000292","Relationship.RelationshipStatus":"ACTIVE","Relationship.RelationshipType":"IS_DIRECTLY_CONSOLIDATED_BY","Relationship.StartDate":"2025-01-10T09:00:00Z","Relationship.StartNode":"00000000000000000195"}]}"#;
 
-// A reports no direct parent.
-const EXCEPTION: &str = concat!(
-    "Action=PUT\n",
-    "ExceptionCategory=DIRECT_ACCOUNTING_CONSOLIDATION_PARENT\n",
-    "ExceptionReason=NON_CONSOLIDATING\n",
-    "LEI=00000000000000000195\n",
-);
-
-const WITHDRAWAL: &str = concat!(
-    "Action=WITHDRAW\n",
-    "ExceptionCategory=DIRECT_ACCOUNTING_CONSOLIDATION_PARENT\n",
-    "LEI=00000000000000000195\n",
-);
+const WITHDRAWAL: &str =
+    r#"{"exceptions":[{"Action":"WITHDRAW","ExceptionCategory":"DIRECT_ACCOUNTING_CONSOLIDATION_PARENT","LEI":"00000000000000000195"}]}"#;
 
 // A register that holds this record under each LEI, and nothing else. Its view knows the first of these kinds of cells:
 // records; relationships and holders of keys; active relationships of the record's entity; those of all; exceptions.
@@ -133,41 +83,8 @@ impl<'a> View for Partial<'a> {
     }
 }
 
-// Whether a name is behind all of these.
-fn is_behind(pairs: &[(Text, Text)], name: &str) -> bool
-    ensures { result ≡ list_all (λ pair. is_lt (slice_cmp nat_cmp pair.0 name.now)) pairs.now }
-{
-    pairs.iter().all(|pair| pair.0.as_str() < name)
-}
-
-// The fields of lines, each a name, `=` and a text.
-fn fields_of(alloc: Global, lines: &str) -> Result<Fields, Fail> {
-    let mut pairs = Vec::new(alloc);
-    for line in lines.lines() {
-        let Some((name, text)) = line.split_once("=") else {
-            return Err(Fail::from("a name and a text"));
-        };
-        if !is_behind(&pairs, name) {
-            return Err(Fail::from("names that rise"));
-        }
-        pairs.push((Text::copy_of(alloc, name)?, Text::copy_of(alloc, text)?))?;
-    }
-    Ok(Fields::of(pairs))
-}
-
-// The item of these lines, after the checks of its fields.
-fn readied(alloc: Global, kind: Kind, lines: &str) -> Result<Readied, Fail> {
-    let fields = fields_of(alloc, lines)?;
-    let raw = match kind {
-        Kind::Record => RawItem::Record(fields),
-        Kind::Relation => RawItem::Relation(fields),
-        Kind::Exception => RawItem::Exception(fields),
-    };
-    Ok(ready(alloc, &raw)?)
-}
-
 fn record(alloc: Global) -> Result<Record, Fail> {
-    match readied(alloc, Kind::Record, RECORD)? {
+    match readied(alloc, RECORD)? {
         Readied::Good(Item::Record(record)) => Ok(record),
         _ => Err(Fail::from("a record")),
     }
@@ -201,20 +118,20 @@ fn the_first_cell_that_is_lacking_is_told(rt: HostRuntime) -> Result<(), Fail> {
     let alloc = rt.alloc();
     let held = record(alloc)?;
     let issuer = Lei::read(ISSUER.as_bytes())?;
-    for (kind, lines, kinds, told) in [
-        (Kind::Record, RECORD, 0, "record 00000000000000000195"),
-        (Kind::Record, RECORD, 1, "holder RA000001"),
-        (Kind::Record, RECORD, 2, ""),
-        (Kind::Relation, RELATION, 0, "record 00000000000000000195"),
-        (Kind::Relation, RELATION, 1, "relation 00000000000000000195"),
-        (Kind::Relation, RELATION, 2, "active 00000000000000000195"),
-        (Kind::Relation, RELATION, 3, "active 00000000000000000292"),
-        (Kind::Relation, RELATION, 4, "exception 00000000000000000195"),
-        (Kind::Exception, EXCEPTION, 2, "active 00000000000000000195"),
-        (Kind::Exception, WITHDRAWAL, 4, "exception 00000000000000000195"),
+    for (body, kinds, told) in [
+        (RECORD, 0, "record 00000000000000000195"),
+        (RECORD, 1, "holder RA000001"),
+        (RECORD, 2, ""),
+        (RELATION, 0, "record 00000000000000000195"),
+        (RELATION, 1, "relation 00000000000000000195"),
+        (RELATION, 2, "active 00000000000000000195"),
+        (RELATION, 3, "active 00000000000000000292"),
+        (RELATION, 4, "exception 00000000000000000195"),
+        (EXCEPTION, 2, "active 00000000000000000195"),
+        (WITHDRAWAL, 4, "exception 00000000000000000195"),
     ] {
         let view = Partial { held: &held, kinds };
-        let item = readied(alloc, kind, lines)?;
+        let item = readied(alloc, body)?;
         let judged = judge_all(alloc, &view, 9, &issuer, TODAY, &[item]);
         assert_eq!(rt; wanted(alloc, &judged)?.as_str(), told, "{kinds}");
     }
@@ -240,9 +157,9 @@ fn items_are_judged_beside_those_before(rt: HostRuntime) -> Result<(), Fail> {
         kinds: 5,
     };
     let items = [
-        readied(alloc, Kind::Record, RECORD)?,
-        readied(alloc, Kind::Relation, RELATION)?,
-        readied(alloc, Kind::Exception, EXCEPTION)?,
+        readied(alloc, RECORD)?,
+        readied(alloc, RELATION)?,
+        readied(alloc, EXCEPTION)?,
     ];
     let outcome = judge_all(alloc, &view, 9, &issuer, TODAY, &items)?;
     let parent_stands = "C52 PARENT_STANDS 00000000000000000292";

@@ -1,21 +1,17 @@
 // What a table has after writes, and after the last ones were undone. The record is the standard one of the profile of
 // uploads, and the exception is of its entity.
 ghost use Rattle.std.specs.Prelude.{◌≡◌, ◌∷◌, [], IfOk, IsTrue, Some};
-ghost use Rattle.std.specs.List.{list_all};
-ghost use Rattle.std.specs.Cmp.Lexicographic.{slice_cmp};
-ghost use Rattle.std.specs.Ordering.{is_lt, nat_cmp};
 ghost use Rattle.register_table.specs.Undos.{IsOfLast, MayApply};
 ghost use Rattle.lei_records.specs.declared.item.Item as items;
 ghost use Rattle.lei_records.specs.Tables.{row_key};
 
-use crate::{Table, Undo};
+use crate::items::{EXCEPTION, RECORD, readied};
 use authority_rules::taken;
 use lei_code::Lei;
-use lei_outside::{List, Text};
-use lei_records::{
-    ExceptionItem, Fields, Item, RawItem, Readied, Record, RowKey, Seen, View, ready,
-};
+use lei_outside::List;
+use lei_records::{ExceptionItem, Item, Readied, Record, RowKey, Seen, View};
 use lei_shapes::{ExceptionCategory, RecordStatus};
+use register_table::{Table, Undo};
 use std::alloc::Global;
 use std::test::Fail;
 
@@ -23,59 +19,9 @@ const LEI: &str = "00000000000000000195";
 
 const DIRECT: ExceptionCategory = ExceptionCategory::DirectAccountingConsolidationParent;
 
-const RECORD: &str = concat!(
-    "Entity.EntityCategory=GENERAL\n",
-    "Entity.EntityStatus=ACTIVE\n",
-    "Entity.HeadquartersAddress.City=Paris\n",
-    "Entity.HeadquartersAddress.Country=FR\n",
-    "Entity.HeadquartersAddress.FirstAddressLine=1 Main Street\n",
-    "Entity.LegalAddress.City=Paris\n",
-    "Entity.LegalAddress.Country=FR\n",
-    "Entity.LegalAddress.FirstAddressLine=1 Main Street\n",
-    "Entity.LegalForm.EntityLegalFormCode=AB12\n",
-    "Entity.LegalJurisdiction=FR\n",
-    "Entity.LegalName=Alpha\n",
-    "Entity.RegistrationAuthority.RegistrationAuthorityEntityID=1001\n",
-    "Entity.RegistrationAuthority.RegistrationAuthorityID=RA000001\n",
-    "LEI=00000000000000000195\n",
-    "Registration.InitialRegistrationDate=2025-01-10T09:00:00Z\n",
-    "Registration.LastUpdateDate=2025-01-10T09:00:00Z\n",
-    "Registration.ManagingLOU=506700GE1G29325QX363\n",
-    "Registration.NextRenewalDate=2026-01-10T09:00:00Z\n",
-    "Registration.RegistrationStatus=ISSUED\n",
-    "Registration.ValidationSources=FULLY_CORROBORATED\n",
-);
-
-const EXCEPTION: &str = concat!(
-    "ExceptionCategory=DIRECT_ACCOUNTING_CONSOLIDATION_PARENT\n",
-    "ExceptionReason=NON_CONSOLIDATING\n",
-    "LEI=00000000000000000195\n",
-);
-
-// Whether a name is behind all of these.
-fn is_behind(pairs: &[(Text, Text)], name: &str) -> bool
-    ensures { result ≡ list_all (λ pair. is_lt (slice_cmp nat_cmp pair.0 name.now)) pairs.now }
-{
-    pairs.iter().all(|pair| pair.0.as_str() < name)
-}
-
-// The fields of lines, each a name, `=` and a text.
-fn fields_of(alloc: Global, lines: &str) -> Result<Fields, Fail> {
-    let mut pairs = Vec::new(alloc);
-    for line in lines.lines() {
-        let Some((name, text)) = line.split_once("=") else {
-            return Err(Fail::from("a name and a text"));
-        };
-        if !is_behind(&pairs, name) {
-            return Err(Fail::from("names that rise"));
-        }
-        pairs.push((Text::copy_of(alloc, name)?, Text::copy_of(alloc, text)?))?;
-    }
-    Ok(Fields::of(pairs))
-}
-
-fn item_of(alloc: Global, raw: &RawItem) -> Result<Item, Fail> {
-    match ready(alloc, raw)? {
+// The one item of a body, which passes the checks of its fields.
+fn item_of(alloc: Global, body: &str) -> Result<Item, Fail> {
+    match readied(alloc, body)? {
         Readied::Good(item) => Ok(item),
         Readied::Bad(_) => Err(Fail::from("an item that passes")),
     }
@@ -83,12 +29,11 @@ fn item_of(alloc: Global, raw: &RawItem) -> Result<Item, Fail> {
 
 // The record, with one text changed for another.
 fn record(alloc: Global, old: &str, new: &str) -> Result<Item, Fail> {
-    let lines = RECORD.replace(alloc, old, new)?;
-    item_of(alloc, &RawItem::Record(fields_of(alloc, &lines)?))
+    item_of(alloc, &RECORD.replace(alloc, old, new)?)
 }
 
 fn exception(alloc: Global) -> Result<Item, Fail> {
-    item_of(alloc, &RawItem::Exception(fields_of(alloc, EXCEPTION)?))
+    item_of(alloc, EXCEPTION)
 }
 
 // Whether a record may be put: there is room, and no other live record has its authority key.
