@@ -50,7 +50,7 @@ fn is_key(key: Option<(&str, &str)>, authority: &str, id: &str) -> bool
 pub fn key_of(item: &Record) -> Option<(&str, &str)>
     ensures { option_map (λ key. (key.0.now, key.1.now)) result ≡ akey item.now }
 {
-    let (authority, id) = (item.field(14), item.field(15));
+    let (authority, id) = (item.authority(), item.authority_id());
     if id.is_empty() {
         return None;
     }

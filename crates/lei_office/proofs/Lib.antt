@@ -5,3 +5,4 @@ pub mod Histories
 pub mod Orders
 pub mod Sessions
 pub mod Showing
+pub mod Telling

@@ -12,14 +12,13 @@ use Rattle.lei_shapes.specs.Moment.{day_of}
 use Rattle.lei_records.specs.Cells.{lei_in, manager_in, receiver_in, rec_cell, status_in}
 use Rattle.lei_records.specs.Rows.{Row}
 use Rattle.lei_records.specs.Tables.{Table, put_all, row_at}
-use Rattle.lei_records.specs.declared.check.Check.{Check}
 use Rattle.lei_records.specs.declared.item.Item.{Item}
 use Rattle.lei_records.specs.declared.item.Readied.{Readied}
 use Rattle.lei_records.specs.declared.view.RecCell.{RecCell}
+use Rattle.lei_records.specs.Checks.{FailedCheck, Finding, first_failing}
 use Rattle.status_rules.specs.Statuses.{is_issued}
 use Rattle.status_rules.specs.Transitions.{party}
 use Rattle.status_rules.specs.declared.transitions.Party.{Party}
-use Rattle.lei_records.specs.Lines.{Line, first_failing}
 use Rattle.register_judge.specs.Checks.{checks, is_another, c09, c10, c11, c12}
 use Rattle.register_judge.specs.Taking.{take, verdict, verdict_of, writes_of}
 use Rattle.register_judge.specs.declared.outcome.Verdict.{Verdict}
@@ -35,24 +34,24 @@ pub record BothPass (fails : Bool) (Others : Type 0) : Type 0 where
   pub first : fails ≡ false
   pub others : Others
 
-abbrev pub AllPass : List Line → Type 0
+abbrev pub AllPass : List Finding → Type 0
 AllPass [] = Unit {0}
 AllPass (line ∷ lines) = BothPass line.fails (AllPass lines)
 
-pub passing : (lines : List Line) → first_failing lines ≡ None → AllPass lines
+pub passing : (lines : List Finding) → first_failing lines ≡ None → AllPass lines
 passing [] none = tt
 passing (line ∷ lines) none =
-    elim line.fails as (λ b. cond b (Some (record { code = line.code; detail = line.detail })) (first_failing lines) ≡ None → BothPass b (AllPass lines)) [
+    elim line.fails as (λ b. cond b (Some (record { number = line.number; detail = line.detail })) (first_failing lines) ≡ None → BothPass b (AllPass lines)) [
       | true ↦ λ is. cc
       | false ↦ λ is. record { first = refl; others = passing lines is }
     ] none
 
 -- where all pass, those behind the first ones do
-pub passing_behind : (first behind : List Line) → AllPass (first ++ behind) → AllPass behind
+pub passing_behind : (first behind : List Finding) → AllPass (first ++ behind) → AllPass behind
 passing_behind [] behind pass = pass
 passing_behind (line ∷ first) behind pass = passing_behind first behind pass.others
 
-accepted-none : (failed : Option Check) → verdict_of failed ≡ Verdict.Accepted → failed ≡ None
+accepted-none : (failed : Option FailedCheck) → verdict_of failed ≡ Verdict.Accepted → failed ≡ None
 accepted-none None is = refl
 accepted-none (Some check) is = cc
 

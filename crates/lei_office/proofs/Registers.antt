@@ -16,22 +16,23 @@ use Rattle.upload_format.specs.declared.fault.Malformed.{Malformed}
 use Rattle.upload_format.specs.declared.fault.Malformed.TheVariants.{NoItems, TooManyItems}
 use Rattle.lei_records.specs.Cells.{lei_in, rec_cell, successor_in}
 use Rattle.lei_records.specs.Items.{failed_check, ready, readied}
-use Rattle.lei_records.specs.Lines.{first_failing}
 use Rattle.lei_records.specs.Relations.{end_in, is_active_of}
 use Rattle.lei_records.specs.declared.fields.Kind.{Kind}
 use Rattle.lei_shapes.specs.declared.lists.RelationType.{RelationType}
 use Rattle.lei_records.specs.Rows.{Row}
 use Rattle.lei_records.specs.Tables.{Table, key_cmp, record_key, put, put_all, put_write, row_at, row_key, active_of, relations_of, record_of, record_count, IsSound}
-use Rattle.lei_records.specs.declared.check.Check.{Check}
 use Rattle.lei_records.specs.declared.item.Item.{Item}
 use Rattle.lei_records.specs.declared.item.RawItem.{RawItem}
 use Rattle.lei_records.specs.declared.item.Readied.{Readied}
 use Rattle.lei_records.specs.declared.view.CellKey.{CellKey}
 use Rattle.lei_records.proofs.RowLemmas.{IsRowOf-row_of}
-use Rattle.relation_rules.specs.Parents.{AreApart, HasParents, parent_type, parents_of}
+use Rattle.lei_records.specs.Checks.{FailedCheck, first_failing}
+use Rattle.lei_records.specs.Parents.{parent_type, parents_of}
+use Rattle.lei_records.specs.Walks.{successors_of}
+use Rattle.relation_rules.specs.Parents.{AreApart, HasParents}
 use Rattle.authority_rules.proofs.MapLemmas.{find-values}
 use Rattle.successor_rules.specs.Chains.{EndsIn}
-use Rattle.successor_rules.specs.Successors.{HasChains, successors_of}
+use Rattle.successor_rules.specs.Successors.{HasChains}
 use Rattle.register_judge.specs.Checks.{earlier_checks, checks, is_full, c20}
 use Rattle.register_judge.specs.Taking.{Taken, take, in_front, is_new, verdict_of, written, writes_of, item_checks, HasRow, HaveRows}
 use Rattle.register_judge.specs.declared.outcome.JudgeStop.{JudgeStop}
@@ -52,7 +53,7 @@ keys_total = lists_total nat_list_cmp_total
 
 -- ---- items have rows
 
-readied-rows : (kind : Kind) (pairs : List (List ℕ × List ℕ)) (failed : Option Check) (items : List Readied) → failed_check kind pairs ≡ failed → HaveRows items
+readied-rows : (kind : Kind) (pairs : List (List ℕ × List ℕ)) (failed : Option FailedCheck) (items : List Readied) → failed_check kind pairs ≡ failed → HaveRows items
     → HaveRows (readied kind pairs failed ∷ items)
 readied-rows Kind.Record pairs None items passes rows = (IsRowOf-row_of Kind.Record pairs passes, rows)
 readied-rows Kind.Relation pairs None items passes rows = (IsRowOf-row_of Kind.Relation pairs passes, rows)
@@ -79,7 +80,7 @@ with_item table item = put_write table (row_key item, written item)
 item-sound : (table : Table) (limit : ℕ) (today : ℤ) (office : List ℕ) (item : Item) → IsSound table → HasRow item
     → first_failing (item_checks table limit today office item) ≡ None → IsSound (with_item table item)
 item-sound table limit today office item sound row passes =
-    let P : Option Check → Type 0 = λ failed. IsSound (put_all (writes_of (verdict_of failed) (Readied.Good item)) table) in
+    let P : Option FailedCheck → Type 0 = λ failed. IsSound (put_all (writes_of (verdict_of failed) (Readied.Good item)) table) in
     subst P passes (take-sound table limit today office (Readied.Good item ∷ []) sound (row, tt))
 
 -- it is written under its own key
@@ -118,7 +119,7 @@ pub record MayPut (table : Table) (limit : ℕ) (taken : Taken) : Type 0 where
   pub fits : record_count taken.table ≤ limit
 
 -- the item and those behind it, where this check of the item failed or none
-abbrev with_first : Table → ℕ → ℤ → List ℕ → Item → List Readied → Option Check → Taken
+abbrev with_first : Table → ℕ → ℤ → List ℕ → Item → List Readied → Option FailedCheck → Taken
 with_first table limit today office item items failed =
     let writes = writes_of (verdict_of failed) (Readied.Good item) in
     in_front (verdict_of failed) writes (is_new table today office (Readied.Good item)) (take (put_all writes table) limit today office items)

@@ -19,7 +19,7 @@ use Rattle.lei_office.specs.Shown.{put_present, shown}
 abbrev pub shown_with : Members → Row → ℕ → Members
 shown_with members row index = fold put_present members (drop index (zip field_names row))
 
-length-names : length field_names ≡ 28
+pub length-names : length field_names ≡ 28
 unfolding fields
 length-names = refl
 

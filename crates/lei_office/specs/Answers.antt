@@ -1,10 +1,10 @@
 -- The texts of answers: JSON objects in their compact form, with their names in byte order (RFC 8259).
-use Rattle.std.specs.Prelude.{ℕ, List, [], ◌∷◌, codes, map}
+use Rattle.std.specs.Prelude.{ℕ, List, [], ◌∷◌, codes, map, unwrap_or}
 use Rattle.serde_json.specs.Data.{Data, number, unsigned, string, array, object, Items, no_items, item, member, no_members}
 use Rattle.serde_json.specs.Written.{compact_text}
 use Rattle.lei_code.specs.Texts.{Lei, Text}
 use Rattle.register_judge.specs.declared.outcome.Verdict.{Verdict}
-use Rattle.lei_office.specs.Checks.{check_text}
+use Rattle.lei_records.specs.Checks.{IsNumber, check_text}
 
 -- what is answered when an issuer is accredited by the entry of this number
 abbrev pub accreditation_answer : ℕ → Lei → Data
@@ -15,10 +15,15 @@ accreditation_answer entry issuer =
 unfoldable pub accreditation_text : ℕ → Lei → Text
 accreditation_text entry issuer = compact_text (accreditation_answer entry issuer)
 
--- `ACCEPTED`, or the check that fails
+-- `ACCEPTED`, or how the check that fails is told. Each check that is told has such a text, which is a law.
 abbrev pub verdict_text : Verdict → Text
 verdict_text Verdict.Accepted = codes "ACCEPTED"
-verdict_text (Verdict.Rejected check) = check_text check
+verdict_text (Verdict.Rejected check) = unwrap_or (check_text check) []
+
+-- where the verdict is that a check fails, there is a check of its number
+abbrev pub IsTold : Verdict → Type 0
+IsTold Verdict.Accepted = Unit {0}
+IsTold (Verdict.Rejected check) = IsNumber check.number
 
 -- the items of an array of texts
 abbrev pub strings : List Text → Items

@@ -1,4 +1,3 @@
-pub mod Checks
 pub mod Shown
 pub mod Limits
 pub mod History

@@ -1,6 +1,11 @@
 //! Laws of the definitions. Each is the contract of a function that does nothing.
-ghost use Rattle.std.specs.Prelude.{◌≡◌, ℤ, List, Contains};
-ghost use Rattle.lei_records.specs.Tables.{IsSound};
+ghost use Rattle.std.specs.Prelude.{◌≡◌, ℕ, ℤ, List, All, Contains, map};
+ghost use Rattle.lei_code.specs.Texts.{Lei};
+ghost use Rattle.lei_records.specs.Items.{ready};
+ghost use Rattle.lei_records.specs.Tables.{IsSound, Table};
+ghost use Rattle.lei_records.specs.declared.item.RawItem.{RawItem};
+ghost use Rattle.register_judge.specs.Taking.{take};
+ghost use Rattle.lei_office.specs.Answers.{IsTold};
 ghost use Rattle.successor_rules.specs.Successors.{HasChains};
 ghost use Rattle.relation_rules.specs.Parents.{AreApart, HasParents};
 ghost use Rattle.lei_office.specs.declared.reply.Refusal.TheVariants.{NoMemory};
@@ -52,6 +57,12 @@ pub fn changes_are_permitted()
 /// The records of a register are what the changes of its history make.
 pub fn changes_make_records()
     ensures { (office : OfficeState) → ChangesMakeRecords office }
+{}
+
+/// Each check that is told of an item of an upload has a number that a check has, and so a text.
+pub fn verdicts_are_told()
+    ensures { (table : Table) (limit : ℕ) (today : ℤ) (issuer : Lei) (raws : List RawItem) →
+        All IsTold (take table limit today issuer (map ready raws)).verdicts }
 {}
 
 /// Where want of memory is never answered, the replies are those that the requests and their moments determine.

@@ -1,7 +1,6 @@
 //! The office of the register: what it answers to requests, and what it keeps of them.
 #![tactic(auto)]
 
-mod check;
 mod judge;
 mod laws;
 mod ledger;
@@ -15,7 +14,7 @@ mod texts;
 pub use laws::{
     changes_are_permitted, changes_make_records, exceptions_stand_apart, moments_never_fall,
     parents_are_chained, registers_are_sound, sessions_are_exact, successors_are_chained,
-    uploads_are_numbered,
+    uploads_are_numbered, verdicts_are_told,
 };
 pub use ledger::{ACCREDIT, RULES, UPLOAD};
 pub use limits::Limits;

@@ -286,6 +286,3 @@ fn next_seq(entries: &[KeptEntry]) -> Result<u64, NoMemory>
 {
     (entries.len() as u64).checked_add(1).ok_or(NoMemory)
 }
-
-#[cfg(test)]
-mod tests;

@@ -1,11 +1,11 @@
 // A record as it is shown.
-ghost use Rattle.std.specs.Prelude.{◌≡◌, ◌<◌, IfOk, OnOk, codes, map, slice_index_or};
+ghost use Rattle.std.specs.Prelude.{◌≡◌, ◌<◌, IfOk, OnOk, codes, slice_index_or};
 ghost use Rattle.serde_json.specs.View.{view, members_view};
 ghost use Rattle.lei_records.specs.Fields.{field_names};
 ghost use Rattle.lei_office.specs.Shown.{put_present, record_text, shown};
 
 use lei_outside::{Bytes, NoMemory};
-use lei_records::{Field, RECORD_FIELDS, Record};
+use lei_records::{Kind, Record};
 use serde_json::{Map, Value};
 use std::alloc::Global;
 
@@ -51,14 +51,6 @@ fn field_name(index: usize) -> &'static str
     requires { index < 28 }
     ensures { result.now ≡ slice_index_or field_names index (codes "") }
 {
-    let table = record_fields();
-    table[index].0
-}
-
-// The fields of a record, lent.
-#[tactic(auto, unfolding(lei_records::specs::Fields::fields))]
-fn record_fields() -> &'static [Field; 28]
-    ensures { map (λ field. field.0.now) result.now ≡ field_names }
-{
-    &RECORD_FIELDS
+    let fields = Kind::Record.fields();
+    fields[index].0
 }

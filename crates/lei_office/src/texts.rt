@@ -1,9 +1,8 @@
 // The texts of answers.
-ghost use Rattle.std.specs.Prelude.{◌≡◌, IfOk, map};
+ghost use Rattle.std.specs.Prelude.{◌≡◌, IfOk, map, string_bytes};
 ghost use Rattle.serde_json.specs.View.{view, items_view};
 ghost use Rattle.lei_office.specs.Answers.{accreditation_answer, accreditation_text, upload_answer, upload_text, verdict_text, strings};
 
-use crate::check::verdict_text;
 use lei_code::Lei;
 use lei_outside::{Bytes, NoMemory};
 use register_judge::Verdict;
@@ -55,6 +54,20 @@ fn upload_answer(
         "items": Value::Array(items),
         "number": number
     })?)
+}
+
+// `ACCEPTED`, or the check that fails, with what it names.
+fn verdict_text(alloc: Global, verdict: &Verdict) -> Result<String, NoMemory>
+    ensures { IfOk result (λ text. string_bytes text ≡ verdict_text verdict.now) }
+{
+    match verdict {
+        Verdict::Accepted => Ok(String::from_str(alloc, "ACCEPTED")?),
+        Verdict::Rejected(check) => {
+            // Each check has a name, and so a text.
+            let _ = check.name();
+            Ok(format!(in alloc; "{check}")?)
+        }
+    }
 }
 
 fn verdict_values(alloc: Global, verdicts: &[Verdict]) -> Result<Vec<Value>, NoMemory>

@@ -1,5 +1,7 @@
-pub mod CellLemmas
 pub mod SheetLemmas
 pub mod Codes
 pub mod RowLemmas
 pub mod NameLemmas
+pub mod PassLemmas
+pub mod OptionLemmas
+pub mod FindLemmas

@@ -19,19 +19,21 @@ use Rattle.lei_shapes.specs.Lists.{category_of, entity_status_of, exception_cate
 use Rattle.lei_shapes.specs.Moment.{IsMoment, is_moment, moment_of_instant, read_moment, whole_seconds}
 use Rattle.lei_shapes.specs.Shape.{is_code, fits_shape}
 use Rattle.lei_shapes.proofs.MomentLemmas.{read_moment-text}
-use Rattle.lei_records.specs.declared.check.Check.{Check}
 use Rattle.lei_records.specs.declared.fields.Content.{Content}
 use Rattle.lei_records.specs.declared.fields.Facts.{Facts}
 use Rattle.lei_records.specs.declared.fields.Kind.{Kind}
 use Rattle.lei_records.specs.declared.fields.Need.{Need}
 use Rattle.lei_records.specs.declared.item.Readied.{Readied}
-use Rattle.lei_records.specs.declared.readying.Ask.{Ask}
+use Rattle.lei_records.specs.declared.readying.FieldCheck.{FieldCheck}
+use Rattle.lei_records.specs.Checks.{FailedCheck}
 use Rattle.lei_records.specs.Fields.{Field, exception_fields, field_count, fields, fields_of, fits_content, is_code_content, is_needed, may_stand, relation_fields, row_fields, row_len}
-use Rattle.lei_records.specs.Items.{facts_of, failed_check, field_check, first_field, has_other_remainder, is_archival, is_field, is_withdrawal, item_of, kept, miscoded_field, misshapen_field, missing_field, printed, readied, row_of, text_of, unknown_name}
+use Rattle.lei_records.specs.Items.{facts_of, failed_check, failed_field, first_field, has_other_remainder, is_archival, is_field, is_withdrawal, item_of, row_text, miscoded_field, misshapen_field, missing_field, printed, readied, row_of, text_of, unknown_name}
+use Rattle.lei_records.specs.Names.{AreRising, names}
 use Rattle.lei_records.specs.Rows.{Row}
-use Rattle.lei_records.specs.Sheets.{asked, facts_at, failed_at, first_at, printed_at, readied_by, texts_of}
+use Rattle.lei_records.specs.Sheets.{field_fails, first_unknown, facts_at, failed_at, first_at, printed_at, readied_by, texts_of}
 use Rattle.lei_records.specs.Spelled.{IsExceptionRow, IsListed, IsPrinted, IsRelationRow, IsRow, IsRowOf, is_absent, present}
 use Rattle.lei_records.proofs.Codes.{IsValid-from_shape}
+use Rattle.lei_records.proofs.NameLemmas.{least-first, none_first_of}
 use Rattle.lei_records.proofs.SheetLemmas.{find-map, length-fields_of, map-map}
 
 -- ---- by place as by name
@@ -50,11 +52,18 @@ none_first : {X : Type 0} (b : Bool) (x : X) (rest : Option X) → cond b (Some 
 none_first true x rest none = cc
 none_first false x rest none = (refl, none)
 
+none_unknown : (kind : Kind) (pairs : List (List ℕ × List ℕ)) → unknown_name kind pairs ≡ None → first_unknown kind pairs ≡ None
+none_unknown kind pairs known = none_first_of (λ name. not (is_field kind name)) (names pairs) known
+
+-- where names rise, the first that is no field's is the least
+pub unknown_name-first : (kind : Kind) (pairs : List (List ℕ × List ℕ)) → AreRising pairs → unknown_name kind pairs ≡ first_unknown kind pairs
+unknown_name-first kind pairs rising = least-first (λ name. not (is_field kind name)) (names pairs) rising
+
 -- an item that has no unknown name has no text under one
-not_sent : (kind : Kind) (name : List ℕ) (pairs : List (List ℕ × List ℕ)) → is_field kind name ≡ false → unknown_name kind pairs ≡ None → text_of pairs name ≡ []
+not_sent : (kind : Kind) (name : List ℕ) (pairs : List (List ℕ × List ℕ)) → is_field kind name ≡ false → first_unknown kind pairs ≡ None → text_of pairs name ≡ []
 not_sent kind name [] unknown known = refl
 not_sent kind name (p ∷ pairs) unknown known =
-    let parts = none_first (not (is_field kind p.0)) p.0 (unknown_name kind pairs) known in
+    let parts = none_first (not (is_field kind p.0)) p.0 (first_unknown kind pairs) known in
     elim (bytes_eq name p.0) as (λ b. bytes_eq name p.0 ≡ b → unwrap_or (cond b (Some p.1) (lookup (bytes_eq name) pairs)) [] ≡ []) [
       | true ↦ λ is. (
           let same : name ≡ p.0 = (bytes_eq-Decides name p.0).0 is in
@@ -75,11 +84,11 @@ no_status : is_field Kind.Exception (codes "Registration.RegistrationStatus") �
 unfolding exception_fields
 no_status = refl
 
-never_withdrawn : (kind : Kind) (pairs : List (List ℕ × List ℕ)) → is_field kind (codes "Action") ≡ false → unknown_name kind pairs ≡ None → false ≡ is_withdrawal pairs
+never_withdrawn : (kind : Kind) (pairs : List (List ℕ × List ℕ)) → is_field kind (codes "Action") ≡ false → first_unknown kind pairs ≡ None → false ≡ is_withdrawal pairs
 never_withdrawn kind pairs none known = sym (ap (λ text. bytes_eq text (codes "WITHDRAW")) (not_sent kind (codes "Action") pairs none known))
 
 -- what the needs depend on, by place as by name
-facts_at-texts_of : (kind : Kind) (pairs : List (List ℕ × List ℕ)) → unknown_name kind pairs ≡ None → facts_at kind (texts_of kind pairs) ≡ facts_of pairs
+facts_at-texts_of : (kind : Kind) (pairs : List (List ℕ × List ℕ)) → first_unknown kind pairs ≡ None → facts_at kind (texts_of kind pairs) ≡ facts_of pairs
 unfolding fields relation_fields exception_fields
 facts_at-texts_of Kind.Record pairs known =
     let same = never_withdrawn Kind.Record pairs no_action known in
@@ -95,26 +104,27 @@ name_of_found : {Y : Type 0} (g : Field → Y) (found : Option Field) → option
 name_of_found g None = refl
 name_of_found g (Some field) = refl
 
-pub first_at-texts_of : (ask : Ask) (kind : Kind) (pairs : List (List ℕ × List ℕ)) → unknown_name kind pairs ≡ None → first_at ask kind (texts_of kind pairs) ≡ first_field (asked ask (facts_of pairs)) kind pairs
+pub first_at-texts_of : (check : FieldCheck) (kind : Kind) (pairs : List (List ℕ × List ℕ)) → first_unknown kind pairs ≡ None → first_at check kind (texts_of kind pairs) ≡ first_field (field_fails check (facts_of pairs)) kind pairs
 unfolding first_at
-first_at-texts_of ask kind pairs known =
+first_at-texts_of check kind pairs known =
     let text : Field → List ℕ = λ field. text_of pairs field.0 in
-    let asks : Facts → Field × List ℕ → Bool = λ facts entry. asked ask facts entry.0 entry.1 in
+    let asks : Facts → Field × List ℕ → Bool = λ facts entry. field_fails check facts entry.0 entry.1 in
     ap (λ facts. option_map (λ entry. entry.0.0) (find (asks facts) (zip (fields_of kind) (texts_of kind pairs)))) (facts_at-texts_of kind pairs known)
     ∙ (ap (λ l. option_map (λ entry. entry.0.0) (find (asks (facts_of pairs)) l)) (zip-self text (fields_of kind))
     ∙ (ap (option_map (λ entry. entry.0.0)) (find-map (asks (facts_of pairs)) (λ field. (field, text field)) (fields_of kind))
-    ∙ name_of_found text (find (λ field. asked ask (facts_of pairs) field (text field)) (fields_of kind))))
+    ∙ name_of_found text (find (λ field. field_fails check (facts_of pairs) field (text field)) (fields_of kind))))
 
 pub printed_at-texts_of : (kind : Kind) (pairs : List (List ℕ × List ℕ)) → printed_at kind (texts_of kind pairs) ≡ row_of kind pairs
 unfolding printed_at row_of
 printed_at-texts_of kind pairs =
-    let make : Field × List ℕ → List ℕ = λ entry. kept entry.0.1 entry.1 in
+    let make : Field × List ℕ → List ℕ = λ entry. row_text entry.0.1 entry.1 in
     ap (map make) (zip-front (λ field. text_of pairs field.0) (row_len kind) (fields_of kind)) ∙ map-map make (λ field. (field, text_of pairs field.0)) (row_fields kind)
 
 pub failed_at-texts_of : (kind : Kind) (pairs : List (List ℕ × List ℕ)) → unknown_name kind pairs ≡ None → failed_check kind pairs ≡ failed_at kind (texts_of kind pairs)
 unfolding failed_check failed_at
 failed_at-texts_of kind pairs known =
-    rw (known, first_at-texts_of Ask.Presence kind pairs known, first_at-texts_of Ask.Shape kind pairs known, first_at-texts_of Ask.Digits kind pairs known) refl
+    let first = none_unknown kind pairs known in
+    rw (known, first_at-texts_of FieldCheck.Presence kind pairs first, first_at-texts_of FieldCheck.Shape kind pairs first, first_at-texts_of FieldCheck.Digits kind pairs first) refl
 
 -- ---- a row of texts that pass
 
@@ -164,28 +174,28 @@ within_entries (f ∷ fs) (t ∷ texts) zero first second = omega arith
 within_entries (f ∷ fs) (t ∷ texts) (suc k) first second = let rest = within_entries fs texts k (omega (arith, first)) (omega (arith, second)) in omega (arith, rest)
 
 -- what a check that finds no field says of each
-asked_at : (ask : Ask) (kind : Kind) (texts : Row) → length texts ≡ field_count kind → first_at ask kind texts ≡ None → (k : ℕ) → k < field_count kind
-    → asked ask (facts_at kind texts) (field_at kind k) (sent texts k) ≡ false
+asked_at : (check : FieldCheck) (kind : Kind) (texts : Row) → length texts ≡ field_count kind → first_at check kind texts ≡ None → (k : ℕ) → k < field_count kind
+    → field_fails check (facts_at kind texts) (field_at kind k) (sent texts k) ≡ false
 unfolding first_at
-asked_at ask kind texts len none k bound =
-    let asks : Field × List ℕ → Bool = λ entry. asked ask (facts_at kind texts) entry.0 entry.1 in
+asked_at check kind texts len none k bound =
+    let asks : Field × List ℕ → Bool = λ entry. field_fails check (facts_at kind texts) entry.0 entry.1 in
     ap asks (sym (entry_at kind texts len k bound))
     ∙ none_found asks (zip (fields_of kind) texts) k (blank, []) (unmapped (λ entry. entry.0.0) (find asks (zip (fields_of kind) texts)) none)
     (within_entries (fields_of kind) texts k (rw (length-fields_of kind) bound) (rw len bound))
 
-row_at : (kind : Kind) (texts : Row) → length texts ≡ field_count kind → (k : ℕ) → k < row_len kind → get_or (printed_at kind texts) k [] ≡ kept (field_at kind k).1 (sent texts k)
+row_at : (kind : Kind) (texts : Row) → length texts ≡ field_count kind → (k : ℕ) → k < row_len kind → get_or (printed_at kind texts) k [] ≡ row_text (field_at kind k).1 (sent texts k)
 unfolding printed_at
 row_at kind texts len k bound =
-    let make : Field × List ℕ → List ℕ = λ entry. kept entry.0.1 entry.1 in
+    let make : Field × List ℕ → List ℕ = λ entry. row_text entry.0.1 entry.1 in
     get_or-map make (zip (row_fields kind) texts) k (blank, []) [] (within_entries (row_fields kind) texts k (rw (length-row_fields kind) bound) (rw len (row-within kind k bound)))
     ∙ ap make (row_entry_at kind texts len k bound)
 
 -- what the texts at the places of a kind of item have passed
 record Passed (kind : Kind) (texts : Row) : Type 0 where
   len : length texts ≡ field_count kind
-  presence : (k : ℕ) → k < field_count kind → asked Ask.Presence (facts_at kind texts) (field_at kind k) (sent texts k) ≡ false
-  shape : (k : ℕ) → k < field_count kind → asked Ask.Shape (facts_at kind texts) (field_at kind k) (sent texts k) ≡ false
-  digits : (k : ℕ) → k < field_count kind → asked Ask.Digits (facts_at kind texts) (field_at kind k) (sent texts k) ≡ false
+  presence : (k : ℕ) → k < field_count kind → field_fails FieldCheck.Presence (facts_at kind texts) (field_at kind k) (sent texts k) ≡ false
+  shape : (k : ℕ) → k < field_count kind → field_fails FieldCheck.Shape (facts_at kind texts) (field_at kind k) (sent texts k) ≡ false
+  digits : (k : ℕ) → k < field_count kind → field_fails FieldCheck.Digits (facts_at kind texts) (field_at kind k) (sent texts k) ≡ false
 
 fit : (absent fits may : Bool) → absent ≡ false → not absent && not (fits && may) ≡ false → fits ≡ true
 fit true fits may stands passes = cc
@@ -245,7 +255,7 @@ absent_stays text stands =
 
 same_at : (kind : Kind) (texts : Row) → Passed kind texts → (k : ℕ) → k < row_len kind → (shape : Shape) → (field_at kind k).1 ≡ Content.Shaped shape
     → get_or (printed_at kind texts) k [] ≡ printed shape (sent texts k)
-same_at kind texts passed k bound shape is = row_at kind texts passed.len k bound ∙ ap (λ content. kept content (sent texts k)) is
+same_at kind texts passed k bound shape is = row_at kind texts passed.len k bound ∙ ap (λ content. row_text content (sent texts k)) is
 
 stands_at : (kind : Kind) (texts : Row) → Passed kind texts → (k : ℕ) → k < row_len kind → (field_at kind k).2 ≡ Need.Always → is_absent (sent texts k) ≡ false
 stands_at kind texts passed k bound is =
@@ -299,7 +309,7 @@ least Kind.Exception = refl
 length-printed_at : (kind : Kind) (texts : Row) → length texts ≡ field_count kind → length (printed_at kind texts) ≡ row_len kind
 unfolding printed_at
 length-printed_at kind texts len =
-    length-map (zip (row_fields kind) texts) (λ entry. kept entry.0.1 entry.1)
+    length-map (zip (row_fields kind) texts) (λ entry. row_text entry.0.1 entry.1)
     ∙ (length-zip (row_fields kind) texts ∙ rw (length-row_fields kind, len) (least kind))
 
 rowed : (texts : Row) → Passed Kind.Record texts → IsRow (printed_at Kind.Record texts)
@@ -358,14 +368,14 @@ rowed_as Kind.Relation = relation_rowed
 rowed_as Kind.Exception = exception_rowed
 
 -- texts that pass the checks are a row
-pub IsRowOf-printed_at : (kind : Kind) (texts : Row) → length texts ≡ field_count kind → first_at Ask.Presence kind texts ≡ None → first_at Ask.Shape kind texts ≡ None → first_at Ask.Digits kind texts ≡ None
+pub IsRowOf-printed_at : (kind : Kind) (texts : Row) → length texts ≡ field_count kind → first_at FieldCheck.Presence kind texts ≡ None → first_at FieldCheck.Shape kind texts ≡ None → first_at FieldCheck.Digits kind texts ≡ None
     → IsRowOf kind (printed_at kind texts)
 IsRowOf-printed_at kind texts len presence shape digits =
     rowed_as kind texts (record {
       len = len;
-      presence = asked_at Ask.Presence kind texts len presence;
-      shape = asked_at Ask.Shape kind texts len shape;
-      digits = asked_at Ask.Digits kind texts len digits;
+      presence = asked_at FieldCheck.Presence kind texts len presence;
+      shape = asked_at FieldCheck.Shape kind texts len shape;
+      digits = asked_at FieldCheck.Digits kind texts len digits;
     })
 
 none_failed : {X Y : Type 0} (a b c d : Option X) (f g h k : X → Y) → option_or (option_map f a) (option_or (option_map g b) (option_or (option_map h c) (option_map k d))) ≡ None
@@ -383,12 +393,13 @@ length-texts_of kind pairs = length-map (fields_of kind) (λ field. text_of pair
 pub IsRowOf-row_of : (kind : Kind) (pairs : List (List ℕ × List ℕ)) → failed_check kind pairs ≡ None → IsRowOf kind (row_of kind pairs)
 unfolding failed_check
 IsRowOf-row_of kind pairs is =
-    let none = none_failed (unknown_name kind pairs) (missing_field kind pairs) (misshapen_field kind pairs) (miscoded_field kind pairs) (field_check 1) (field_check 2) (field_check 3) (field_check 4) is in
+    let none = none_failed (unknown_name kind pairs) (missing_field kind pairs) (misshapen_field kind pairs) (miscoded_field kind pairs) (failed_field 1) (failed_field 2) (failed_field 3) (failed_field 4) is in
+    let first = none_unknown kind pairs none.0 in
     subst (IsRowOf kind) (printed_at-texts_of kind pairs)
     (IsRowOf-printed_at kind (texts_of kind pairs) (length-texts_of kind pairs)
-    (first_at-texts_of Ask.Presence kind pairs none.0 ∙ none.1) (first_at-texts_of Ask.Shape kind pairs none.0 ∙ none.2) (first_at-texts_of Ask.Digits kind pairs none.0 ∙ none.3))
+    (first_at-texts_of FieldCheck.Presence kind pairs first ∙ none.1) (first_at-texts_of FieldCheck.Shape kind pairs first ∙ none.2) (first_at-texts_of FieldCheck.Digits kind pairs first ∙ none.3))
 
-readied_same : (kind : Kind) (pairs : List (List ℕ × List ℕ)) (failed : Option Check) → unknown_name kind pairs ≡ None → readied_by kind (texts_of kind pairs) failed ≡ readied kind pairs failed
+readied_same : (kind : Kind) (pairs : List (List ℕ × List ℕ)) (failed : Option FailedCheck) → first_unknown kind pairs ≡ None → readied_by kind (texts_of kind pairs) failed ≡ readied kind pairs failed
 readied_same kind pairs None known =
     ap (λ row. Readied.Good (item_of kind (facts_at kind (texts_of kind pairs)).withdrawal row)) (printed_at-texts_of kind pairs)
     ∙ ap (λ (facts : Facts). Readied.Good (item_of kind facts.withdrawal (row_of kind pairs))) (facts_at-texts_of kind pairs known)
@@ -399,5 +410,12 @@ pub readied-by_place : {E : Type 0} (kind : Kind) (pairs : List (List ℕ × Lis
     → IfOk r (λ item. item ≡ readied_by kind texts (failed_at kind texts)) → IfOk r (λ item. item ≡ readied kind pairs (failed_check kind pairs))
 readied-by_place kind pairs texts (Ok item) known same is =
     is ∙ (ap (λ t. readied_by kind t (failed_at kind t)) same
-    ∙ (readied_same kind pairs (failed_at kind (texts_of kind pairs)) known ∙ ap (readied kind pairs) (sym (failed_at-texts_of kind pairs known))))
+    ∙ (readied_same kind pairs (failed_at kind (texts_of kind pairs)) (none_unknown kind pairs known) ∙ ap (readied kind pairs) (sym (failed_at-texts_of kind pairs known))))
 readied-by_place kind pairs texts (Err e) known same is = tt
+
+-- an unknown name is told before all else
+pub bad_by_name : {E : Type 0} (kind : Kind) (pairs : List (List ℕ × List ℕ)) (name : List ℕ) (r : Result Readied E) → unknown_name kind pairs ≡ Some name
+    → IfOk r (λ item. item ≡ Readied.Bad (failed_field 1 name)) → IfOk r (λ item. item ≡ readied kind pairs (failed_check kind pairs))
+unfolding failed_check
+bad_by_name kind pairs name (Ok item) unknown is = rw unknown is
+bad_by_name kind pairs name (Err e) unknown is = tt

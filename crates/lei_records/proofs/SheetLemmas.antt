@@ -14,11 +14,11 @@ use Rattle.lei_records.specs.declared.fields.Content.{Content}
 use Rattle.lei_records.specs.declared.fields.Facts.{Facts}
 use Rattle.lei_records.specs.declared.fields.Kind.{Kind}
 use Rattle.lei_records.specs.declared.fields.Need.{Need}
-use Rattle.lei_records.specs.declared.readying.Ask.{Ask}
+use Rattle.lei_records.specs.declared.readying.FieldCheck.{FieldCheck}
 use Rattle.lei_records.specs.Fields.{Field, field_count, fields, fields_of, exception_fields, names_of, read_field, relation_fields, row_fields, row_len}
-use Rattle.lei_records.specs.Items.{is_field, kept, text_of, unknown_name}
+use Rattle.lei_records.specs.Items.{is_field, row_text, text_of}
 use Rattle.lei_records.specs.Rows.{Row}
-use Rattle.lei_records.specs.Sheets.{asked, facts_at, first_at, printed_at, read_texts, texts_of}
+use Rattle.lei_records.specs.Sheets.{facts_at, field_fails, first_at, first_unknown, printed_at, read_texts, texts_of}
 
 -- the table as code lends it
 abbrev pub Lent : Type 0
@@ -153,11 +153,11 @@ texts_of-unknown kind name text rest unknown =
     ∙ (untouched name text (λ n. lookup (bytes_eq n) rest) (names_of kind) (sym (any_by_name name (fields_of kind)) ∙ unknown)
     ∙ sym (texts_by_name rest (fields_of kind)))
 
-pub unknown_name-known : (kind : Kind) (name text : List ℕ) (rest : List (List ℕ × List ℕ)) → is_field kind name ≡ true → unknown_name kind ((name, text) ∷ rest) ≡ unknown_name kind rest
-unknown_name-known kind name text rest known = rw known refl
+pub first_unknown-known : (kind : Kind) (name text : List ℕ) (rest : List (List ℕ × List ℕ)) → is_field kind name ≡ true → first_unknown kind ((name, text) ∷ rest) ≡ first_unknown kind rest
+first_unknown-known kind name text rest known = rw known refl
 
-pub unknown_name-unknown : (kind : Kind) (name text : List ℕ) (rest : List (List ℕ × List ℕ)) → is_field kind name ≡ false → unknown_name kind ((name, text) ∷ rest) ≡ Some name
-unknown_name-unknown kind name text rest unknown = rw unknown refl
+pub first_unknown-unknown : (kind : Kind) (name text : List ℕ) (rest : List (List ℕ × List ℕ)) → is_field kind name ≡ false → first_unknown kind ((name, text) ∷ rest) ≡ Some name
+first_unknown-unknown kind name text rest unknown = rw unknown refl
 
 -- no pair, no text
 pub texts_of-none : (kind : Kind)
@@ -191,15 +191,15 @@ placed_unknown kind pairs i p name texts low high is is_name unknown sofar =
 
 pub told_known : (kind : Kind) (pairs : List (List ℕ × List ℕ)) (i : ℕ) (p : List ℕ × List ℕ) (name : List ℕ) (unknown : Option (List ℕ))
     → 0 < i → i ≤ length pairs → p ≡ get_or pairs (i - 1) p → name ≡ p.0 → is_field kind name ≡ true
-    → unknown ≡ unknown_name kind (drop i pairs) → unknown ≡ unknown_name kind (drop (i - 1) pairs)
+    → unknown ≡ first_unknown kind (drop i pairs) → unknown ≡ first_unknown kind (drop (i - 1) pairs)
 told_known kind pairs i p name unknown low high is is_name known sofar =
-    sofar ∙ (sym (unknown_name-known kind p.0 p.1 (drop i pairs) (ap (is_field kind) (sym is_name) ∙ known)) ∙ ap (unknown_name kind) (sym (drop_before pairs i p low high is)))
+    sofar ∙ (sym (first_unknown-known kind p.0 p.1 (drop i pairs) (ap (is_field kind) (sym is_name) ∙ known)) ∙ ap (first_unknown kind) (sym (drop_before pairs i p low high is)))
 
 pub told_unknown : (kind : Kind) (pairs : List (List ℕ × List ℕ)) (i : ℕ) (p : List ℕ × List ℕ) (name : List ℕ)
     → 0 < i → i ≤ length pairs → p ≡ get_or pairs (i - 1) p → name ≡ p.0 → is_field kind name ≡ false
-    → Some name ≡ unknown_name kind (drop (i - 1) pairs)
+    → Some name ≡ first_unknown kind (drop (i - 1) pairs)
 told_unknown kind pairs i p name low high is is_name unknown =
-    ap Some is_name ∙ (sym (unknown_name-unknown kind p.0 p.1 (drop i pairs) (ap (is_field kind) (sym is_name) ∙ unknown)) ∙ ap (unknown_name kind) (sym (drop_before pairs i p low high is)))
+    ap Some is_name ∙ (sym (first_unknown-unknown kind p.0 p.1 (drop i pairs) (ap (is_field kind) (sym is_name) ∙ unknown)) ∙ ap (first_unknown kind) (sym (drop_before pairs i p low high is)))
 
 -- ---- the entries of the table with their texts, one by one
 
@@ -225,12 +225,12 @@ has_row_text kind n table texts i is len bound =
     omega (arith, len, short, is, row-short kind)
 
 -- the first field of which the answer is yes, and its name
-abbrev pub first_in : Ask → Facts → Lent → List (Bor (List ℕ)) → Option (List ℕ)
-first_in ask facts table texts = option_map (λ entry. entry.0.0.now) (find (λ entry. asked ask facts (read_field entry.0) entry.1.now) (zip table texts))
+abbrev pub first_in : FieldCheck → Facts → Lent → List (Bor (List ℕ)) → Option (List ℕ)
+first_in check facts table texts = option_map (λ entry. entry.0.0.now) (find (λ entry. field_fails check facts (read_field entry.0) entry.1.now) (zip table texts))
 
 -- the texts of the row
 abbrev pub printed_in : Lent → List (Bor (List ℕ)) → Row
-printed_in table texts = map (λ entry. kept entry.0.1 entry.1.now) (zip table texts)
+printed_in table texts = map (λ entry. row_text entry.0.1 entry.1.now) (zip table texts)
 
 zip-at : {X Y : Type 0} (xs : List X) (ys : List Y) (i : ℕ) (d : X) (e : Y) → i < length xs → i < length ys
     → zip (drop i xs) (drop i ys) ≡ (get_or xs i d, get_or ys i e) ∷ zip (drop (i + 1) xs) (drop (i + 1) ys)
@@ -267,42 +267,42 @@ name_of_found : (found : Option ((Bor (List ℕ) × Content × Need) × Bor (Lis
 name_of_found None = refl
 name_of_found (Some entry) = refl
 
-pub first_in-all : (ask : Ask) (kind : Kind) (table : Lent) (texts : List (Bor (List ℕ))) → map read_field table ≡ fields_of kind
-    → first_in ask (facts_at kind (read_texts texts)) table texts ≡ first_at ask kind (read_texts texts)
+pub first_in-all : (check : FieldCheck) (kind : Kind) (table : Lent) (texts : List (Bor (List ℕ))) → map read_field table ≡ fields_of kind
+    → first_in check (facts_at kind (read_texts texts)) table texts ≡ first_at check kind (read_texts texts)
 unfolding first_at
-first_in-all ask kind table texts same =
-    let asks : Field × List ℕ → Bool = λ entry. asked ask (facts_at kind (read_texts texts)) entry.0 entry.1 in
+first_in-all check kind table texts same =
+    let asks : Field × List ℕ → Bool = λ entry. field_fails check (facts_at kind (read_texts texts)) entry.0 entry.1 in
     sym (ap (λ entries. option_map (λ entry. entry.0.0) (find asks entries)) (entries-read table texts (fields_of kind) same)
     ∙ (ap (option_map (λ entry. entry.0.0)) (find-map asks read_entry (zip table texts)) ∙ name_of_found (find (λ entry. asks (read_entry entry)) (zip table texts))))
 
-pub first_in-yes : (ask : Ask) (facts : Facts) (table : Lent) (texts : List (Bor (List ℕ))) (i : ℕ) (d : Bor (List ℕ) × Content × Need) (e : Bor (List ℕ)) → i < length table → i < length texts
-    → asked ask facts (read_field (get_or table i d)) (get_or texts i e).now ≡ true → Some (get_or table i d).0.now ≡ first_in ask facts (drop i table) (drop i texts)
-first_in-yes ask facts table texts i d e first second asks =
-    sym (ap (λ entries. option_map (λ entry. entry.0.0.now) (find (λ entry. asked ask facts (read_field entry.0) entry.1.now) entries)) (zip-at table texts i d e first second) ∙ rw asks refl)
+pub first_in-yes : (check : FieldCheck) (facts : Facts) (table : Lent) (texts : List (Bor (List ℕ))) (i : ℕ) (d : Bor (List ℕ) × Content × Need) (e : Bor (List ℕ)) → i < length table → i < length texts
+    → field_fails check facts (read_field (get_or table i d)) (get_or texts i e).now ≡ true → Some (get_or table i d).0.now ≡ first_in check facts (drop i table) (drop i texts)
+first_in-yes check facts table texts i d e first second asks =
+    sym (ap (λ entries. option_map (λ entry. entry.0.0.now) (find (λ entry. field_fails check facts (read_field entry.0) entry.1.now) entries)) (zip-at table texts i d e first second) ∙ rw asks refl)
 
-pub first_in-no : (ask : Ask) (facts : Facts) (table : Lent) (texts : List (Bor (List ℕ))) (i : ℕ) (d : Bor (List ℕ) × Content × Need) (e : Bor (List ℕ)) → i < length table → i < length texts
-    → asked ask facts (read_field (get_or table i d)) (get_or texts i e).now ≡ false → first_in ask facts (drop (i + 1) table) (drop (i + 1) texts) ≡ first_in ask facts (drop i table) (drop i texts)
-first_in-no ask facts table texts i d e first second asks =
-    sym (ap (λ entries. option_map (λ entry. entry.0.0.now) (find (λ entry. asked ask facts (read_field entry.0) entry.1.now) entries)) (zip-at table texts i d e first second) ∙ rw asks refl)
+pub first_in-no : (check : FieldCheck) (facts : Facts) (table : Lent) (texts : List (Bor (List ℕ))) (i : ℕ) (d : Bor (List ℕ) × Content × Need) (e : Bor (List ℕ)) → i < length table → i < length texts
+    → field_fails check facts (read_field (get_or table i d)) (get_or texts i e).now ≡ false → first_in check facts (drop (i + 1) table) (drop (i + 1) texts) ≡ first_in check facts (drop i table) (drop i texts)
+first_in-no check facts table texts i d e first second asks =
+    sym (ap (λ entries. option_map (λ entry. entry.0.0.now) (find (λ entry. field_fails check facts (read_field entry.0) entry.1.now) entries)) (zip-at table texts i d e first second) ∙ rw asks refl)
 
-pub first_in-past : (ask : Ask) (facts : Facts) (table : Lent) (texts : List (Bor (List ℕ))) (i : ℕ) → length table ≤ i → None ≡ first_in ask facts (drop i table) (drop i texts)
-first_in-past ask facts table texts i past =
-    sym (ap (λ entries. option_map (λ entry. entry.0.0.now) (find (λ entry. asked ask facts (read_field entry.0) entry.1.now) entries)) (zip-past table (drop i texts) i past))
+pub first_in-past : (check : FieldCheck) (facts : Facts) (table : Lent) (texts : List (Bor (List ℕ))) (i : ℕ) → length table ≤ i → None ≡ first_in check facts (drop i table) (drop i texts)
+first_in-past check facts table texts i past =
+    sym (ap (λ entries. option_map (λ entry. entry.0.0.now) (find (λ entry. field_fails check facts (read_field entry.0) entry.1.now) entries)) (zip-past table (drop i texts) i past))
 
 pub printed_in-all : (kind : Kind) (table : Lent) (texts : List (Bor (List ℕ))) → map read_field table ≡ row_fields kind → printed_in table texts ≡ printed_at kind (read_texts texts)
 unfolding printed_at
 printed_in-all kind table texts same =
-    let make : Field × List ℕ → List ℕ = λ entry. kept entry.0.1 entry.1 in
+    let make : Field × List ℕ → List ℕ = λ entry. row_text entry.0.1 entry.1 in
     sym (ap (map make) (entries-read table texts (row_fields kind) same) ∙ map-map make read_entry (zip table texts))
 
 -- one text more
 pub printed_in-more : (made : Row) (text : List ℕ) (table : Lent) (texts : List (Bor (List ℕ))) (i : ℕ) (d : Bor (List ℕ) × Content × Need) (e : Bor (List ℕ)) → i < length table → i < length texts
-    → text ≡ kept (get_or table i d).1 (get_or texts i e).now → (made ++ text ∷ []) ++ printed_in (drop (i + 1) table) (drop (i + 1) texts) ≡ made ++ printed_in (drop i table) (drop i texts)
+    → text ≡ row_text (get_or table i d).1 (get_or texts i e).now → (made ++ text ∷ []) ++ printed_in (drop (i + 1) table) (drop (i + 1) texts) ≡ made ++ printed_in (drop i table) (drop i texts)
 printed_in-more made text table texts i d e first second is =
     append_assoc made (text ∷ []) (printed_in (drop (i + 1) table) (drop (i + 1) texts))
     ∙ ap (λ rest. made ++ rest) (ap (λ t. t ∷ printed_in (drop (i + 1) table) (drop (i + 1) texts)) is
-    ∙ sym (ap (map (λ entry. kept entry.0.1 entry.1.now)) (zip-at table texts i d e first second)))
+    ∙ sym (ap (map (λ entry. row_text entry.0.1 entry.1.now)) (zip-at table texts i d e first second)))
 
 pub printed_in-past : (made : Row) (table : Lent) (texts : List (Bor (List ℕ))) (i : ℕ) → length table ≤ i → made ≡ made ++ printed_in (drop i table) (drop i texts)
 printed_in-past made table texts i past =
-    sym (ap (λ entries. made ++ map (λ entry. kept entry.0.1 entry.1.now) entries) (zip-past table (drop i texts) i past) ∙ append-nil made)
+    sym (ap (λ entries. made ++ map (λ entry. row_text entry.0.1 entry.1.now) entries) (zip-past table (drop i texts) i past) ∙ append-nil made)

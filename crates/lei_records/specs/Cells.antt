@@ -1,6 +1,7 @@
--- Cells: what the rules ask of a table, by key. What a row has by its texts, and what a view answers.
-use Rattle.std.specs.Prelude.{ℕ, ℤ, pos, List, Bool, true, false, ◌&&◌, ◌||◌, if◌then◌else◌, Option, Some, None, unwrap_or, option_and_then, codes, ⊤}
+-- Cells: what the rules ask of a table, by key. What a record has by its texts, and what a view answers.
+use Rattle.std.specs.Prelude.{ℕ, ℤ, List, Bool, true, false, ◌&&◌, ◌||◌, if◌then◌else◌, Option, Some, None, unwrap_or, option_and_then, codes, ⊤}
 use Rattle.std.specs.Str.{bytes_eq}
+use Rattle.lei_code.specs.Texts.{Lei, Text}
 use Rattle.lei_shapes.specs.declared.lists.Category.{Category}
 use Rattle.lei_shapes.specs.declared.lists.EntityStatus.{EntityStatus}
 use Rattle.lei_shapes.specs.declared.lists.ExceptionCategory.{ExceptionCategory}
@@ -11,50 +12,64 @@ use Rattle.lei_shapes.specs.Moment.{read_moment}
 use Rattle.lei_records.specs.declared.view.RecCell.{RecCell}
 use Rattle.lei_records.specs.declared.view.RelCell.{RelCell}
 use Rattle.lei_records.specs.declared.view.Seen.{Seen}
+use Rattle.lei_records.specs.Places.{authority_id_place, authority_place, category_place, created_place, entity_status_place, initial_place, lei_place, manager_place, receiver_place, renewal_place, status_place, successor_place, updated_place}
 use Rattle.lei_records.specs.Rows.{Row, text_at}
-use Rattle.lei_records.specs.Spelled.{is_absent, present}
+use Rattle.lei_records.specs.Spelled.{is_absent, moment_in, present}
 
 -- ---- what a record's texts spell. Each part of a record's row can be read; of another row the value behind it is taken.
 
--- the entity's code
-abbrev pub lei_in : Row → List ℕ
-lei_in row = text_at row 1
+-- The entity's LEI.
+abbrev pub lei_in : Row → Lei
+lei_in row = text_at row lei_place
 
+-- The status of the registration.
 unfoldable pub status_in : Row → RecordStatus
-status_in row = unwrap_or (record_status_of (text_at row 24)) RecordStatus.Annulled
+status_in row = unwrap_or (record_status_of (text_at row status_place)) RecordStatus.Annulled
 
+-- Whether the entity is active, as the record says it.
 unfoldable pub entity_status_in : Row → EntityStatus
-entity_status_in row = unwrap_or (entity_status_of (text_at row 19)) EntityStatus.Null
+entity_status_in row = unwrap_or (entity_status_of (text_at row entity_status_place)) EntityStatus.Null
 
+-- What kind of entity it is.
 unfoldable pub category_in : Row → Category
-category_in row = unwrap_or (category_of (text_at row 17)) Category.General
+category_in row = unwrap_or (category_of (text_at row category_place)) Category.General
 
-unfoldable pub initial_in : Row → ℤ
-initial_in row = unwrap_or (read_moment (text_at row 22)) (pos 0)
+-- The registration authority, and the authority's id of the entity.
+abbrev pub authority_in : Row → Text
+authority_in row = text_at row authority_place
 
-unfoldable pub updated_in : Row → ℤ
-updated_in row = unwrap_or (read_moment (text_at row 23)) (pos 0)
+abbrev pub authority_id_in : Row → Text
+authority_id_in row = text_at row authority_id_place
 
-unfoldable pub renewal_in : Row → ℤ
-renewal_in row = unwrap_or (read_moment (text_at row 25)) (pos 0)
+-- When the record was first registered.
+abbrev pub initial_in : Row → ℤ
+initial_in row = moment_in row initial_place
 
--- when the entity was created, where that is said
+-- When the record was last changed.
+abbrev pub updated_in : Row → ℤ
+updated_in row = moment_in row updated_place
+
+-- When the registration is to be renewed.
+abbrev pub renewal_in : Row → ℤ
+renewal_in row = moment_in row renewal_place
+
+-- When the entity was created, where that is said.
 abbrev pub created_in : Row → Option ℤ
-created_in row = option_and_then read_moment (present (text_at row 20))
+created_in row = option_and_then read_moment (present (text_at row created_place))
 
--- the office that manages the record
-abbrev pub manager_in : Row → List ℕ
-manager_in row = text_at row 26
+-- The issuer that manages the record.
+abbrev pub manager_in : Row → Lei
+manager_in row = text_at row manager_place
 
--- the entity that followed this one
-abbrev pub successor_in : Row → Option (List ℕ)
-successor_in row = present (text_at row 21)
+-- The entity that followed this one.
+abbrev pub successor_in : Row → Option Lei
+successor_in row = present (text_at row successor_place)
 
--- the office that the record is handed over to
-abbrev pub receiver_in : Row → Option (List ℕ)
-receiver_in row = present (text_at row 28)
+-- The issuer that the record is handed over to.
+abbrev pub receiver_in : Row → Option Lei
+receiver_in row = present (text_at row receiver_place)
 
--- what the rules ask of a record that is held
+-- What the rules ask of a record that is held.
 abbrev pub rec_cell : Row → RecCell
 rec_cell row = record {
   status = status_in row;
@@ -68,7 +83,7 @@ rec_cell row = record {
 
 -- ---- live records and their authority keys
 
--- a status under which a record is live
+-- A record is live under this status: ISSUED, LAPSED, PENDING_TRANSFER and PENDING_ARCHIVAL.
 abbrev pub is_live_status : RecordStatus → Bool
 is_live_status RecordStatus.Issued = true
 is_live_status RecordStatus.Lapsed = true
@@ -78,35 +93,37 @@ is_live_status RecordStatus.Retired = false
 is_live_status RecordStatus.Duplicate = false
 is_live_status RecordStatus.Annulled = false
 
+-- The record is live.
 abbrev pub is_live : Row → Bool
 is_live row = is_live_status (status_in row)
 
--- the codes that stand where no registration authority does
-abbrev pub is_no_authority : List ℕ → Bool
+-- The text is one of the two that stand where no registration authority does.
+abbrev pub is_no_authority : Text → Bool
 is_no_authority text = bytes_eq text (codes "RA888888") || bytes_eq text (codes "RA999999")
 
--- the registration authority and its id of the entity: none where the id is absent, or where the
--- authority is none
-unfoldable pub akey : Row → Option (List ℕ × List ℕ)
-akey row = if is_absent (text_at row 15) || is_no_authority (text_at row 14) then None
-    else Some (text_at row 14, text_at row 15)
+-- A record's authority key: the registration authority and its id of the entity. None where the id is absent, or where the
+-- authority is none.
+unfoldable pub akey : Row → Option (Text × Text)
+akey row = if is_absent (authority_id_in row) || is_no_authority (authority_in row) then None
+    else Some (authority_in row, authority_id_in row)
 
-abbrev pub is_key : List ℕ → List ℕ → Option (List ℕ × List ℕ) → Bool
+-- There is a key, and it is this one.
+abbrev pub is_key : Text → Text → Option (Text × Text) → Bool
 is_key authority id None = false
 is_key authority id (Some key) = bytes_eq key.0 authority && bytes_eq key.1 id
 
--- the row is live and has this authority key
-unfoldable pub holds : List ℕ → List ℕ → Row → Bool
+-- The record is live and has this authority key.
+unfoldable pub holds : Text → Text → Row → Bool
 holds authority id row = is_live row && is_key authority id (akey row)
 
 -- ---- views
 
--- What a view answers: for a code the record; for an authority key the code of the live record that has it; for a start,
--- a type and an end the relationship; for a start and a type the end of the active relationship; and for a code and a
+-- What a view answers: for an LEI the record; for an authority key the LEI of the live record that has it; for a start, a
+-- type and an end the relationship; for a start and a type the end of the active relationship; and for an LEI and a
 -- category whether there is an exception.
 pub record Cells : Type 0 where
-  pub record_cell : List ℕ → Seen RecCell
-  pub holder : List ℕ → List ℕ → Seen (List ℕ)
-  pub relation : List ℕ → RelationType → List ℕ → Seen RelCell
-  pub active : List ℕ → RelationType → Seen (List ℕ)
-  pub exception : List ℕ → ExceptionCategory → Seen ⊤
+  pub record_cell : Lei → Seen RecCell
+  pub holder : Text → Text → Seen Lei
+  pub relation : Lei → RelationType → Lei → Seen RelCell
+  pub active : Lei → RelationType → Seen Lei
+  pub exception : Lei → ExceptionCategory → Seen ⊤

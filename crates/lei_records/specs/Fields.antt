@@ -1,94 +1,146 @@
--- The tables of the fields of the three kinds of items. This project's profile.
-use Rattle.std.specs.Prelude.{ℕ, List, map, take, Bool, true, false, not, ◌||◌, codes}
+-- The fields of the three kinds of items in order of place: how each is named, what it holds, and where it is needed. The
+-- names are those of the columns of a golden copy (level 1, level 2 and reporting exceptions), but for Register.TransferTo
+-- and Action; what they hold and where they are needed is this project's profile.
+use Rattle.std.specs.Prelude.{ℕ, List, [], ◌∷◌, map, take, Bool, true, false, not, ◌||◌, codes}
 use Rattle.std.specs.Borrow.{Bor}
 use Rattle.std.specs.Str.{bytes_eq}
+use Rattle.lei_code.specs.Texts.{Text}
 use Rattle.lei_shapes.specs.declared.shapes.Shape.{Shape}
 use Rattle.lei_shapes.specs.Shape.{fits_shape}
 use Rattle.lei_records.specs.declared.fields.Kind.{Kind}
 use Rattle.lei_records.specs.declared.fields.Content.{Content}
 use Rattle.lei_records.specs.declared.fields.Need.{Need}
 use Rattle.lei_records.specs.declared.fields.Facts.{Facts}
-use Rattle.lei_records.specs.declared.fields.TheConstants.{RECORD_FIELDS, RELATION_FIELDS, EXCEPTION_FIELDS}
+use Rattle.lei_records.specs.Places.{action_place, exception_places, record_places, relation_places}
 
--- a field's name, what it holds, and where it is needed
+-- A field: its name, what it holds, and where it is needed.
 abbrev pub Field : Type 0
-Field = List ℕ × Content × Need
+Field = Text × Content × Need
 
-abbrev pub read_field : Bor (List ℕ) × Content × Need → Field
+-- The same of a field whose name is lent.
+abbrev pub read_field : Bor Text × Content × Need → Field
 read_field field = (field.0.now, field.1, field.2)
 
--- the 28 fields of a record in order of place
+-- The 28 fields of a record in order of place.
 unfoldable pub fields : List Field
-fields = map (λ field. (field.0.now, field.1, field.2)) RECORD_FIELDS
+fields =
+    (codes "LEI", Content.Shaped Shape.Code, Need.Always)
+    ∷ (codes "Entity.LegalName", Content.Shaped Shape.Free, Need.Always)
+    ∷ (codes "Entity.LegalName.xmllang", Content.Shaped Shape.Lang, Need.Optional)
+    ∷ (codes "Entity.LegalAddress.FirstAddressLine", Content.Shaped Shape.Free, Need.Always)
+    ∷ (codes "Entity.LegalAddress.City", Content.Shaped Shape.Free, Need.Always)
+    ∷ (codes "Entity.LegalAddress.Region", Content.Shaped Shape.Free, Need.Optional)
+    ∷ (codes "Entity.LegalAddress.Country", Content.Shaped Shape.Country, Need.Always)
+    ∷ (codes "Entity.LegalAddress.PostalCode", Content.Shaped Shape.Free, Need.Optional)
+    ∷ (codes "Entity.HeadquartersAddress.FirstAddressLine", Content.Shaped Shape.Free, Need.Always)
+    ∷ (codes "Entity.HeadquartersAddress.City", Content.Shaped Shape.Free, Need.Always)
+    ∷ (codes "Entity.HeadquartersAddress.Region", Content.Shaped Shape.Free, Need.Optional)
+    ∷ (codes "Entity.HeadquartersAddress.Country", Content.Shaped Shape.Country, Need.Always)
+    ∷ (codes "Entity.HeadquartersAddress.PostalCode", Content.Shaped Shape.Free, Need.Optional)
+    ∷ (codes "Entity.RegistrationAuthority.RegistrationAuthorityID", Content.Shaped Shape.Authority, Need.Always)
+    ∷ (codes "Entity.RegistrationAuthority.RegistrationAuthorityEntityID", Content.Shaped Shape.Free, Need.Optional)
+    ∷ (codes "Entity.LegalJurisdiction", Content.Shaped Shape.Jurisdiction, Need.Always)
+    ∷ (codes "Entity.EntityCategory", Content.Shaped Shape.Category, Need.Always)
+    ∷ (codes "Entity.LegalForm.EntityLegalFormCode", Content.Shaped Shape.Form, Need.Always)
+    ∷ (codes "Entity.EntityStatus", Content.Shaped Shape.EntityStatus, Need.Always)
+    ∷ (codes "Entity.EntityCreationDate", Content.Shaped Shape.Moment, Need.Optional)
+    ∷ (codes "Entity.SuccessorEntity.1.SuccessorLEI", Content.Shaped Shape.Code, Need.Optional)
+    ∷ (codes "Registration.InitialRegistrationDate", Content.Shaped Shape.Moment, Need.Always)
+    ∷ (codes "Registration.LastUpdateDate", Content.Shaped Shape.Moment, Need.Always)
+    ∷ (codes "Registration.RegistrationStatus", Content.Shaped Shape.RecordStatus, Need.Always)
+    ∷ (codes "Registration.NextRenewalDate", Content.Shaped Shape.Moment, Need.Always)
+    ∷ (codes "Registration.ManagingLOU", Content.Shaped Shape.Code, Need.Always)
+    ∷ (codes "Registration.ValidationSources", Content.Shaped Shape.Validation, Need.Always)
+    ∷ (codes "Register.TransferTo", Content.Shaped Shape.Code, Need.WherePendingArchival)
+    ∷ []
 
--- the 11 fields of a relationship in order of place
+-- The 11 fields of a relationship in order of place.
 unfoldable pub relation_fields : List Field
-relation_fields = map (λ field. (field.0.now, field.1, field.2)) RELATION_FIELDS
+relation_fields =
+    (codes "Relationship.StartNode", Content.Shaped Shape.Code, Need.Always)
+    ∷ (codes "Relationship.RelationshipType", Content.Shaped Shape.RelationType, Need.Always)
+    ∷ (codes "Relationship.EndNode", Content.Shaped Shape.Code, Need.Always)
+    ∷ (codes "Relationship.RelationshipStatus", Content.Shaped Shape.RelationStatus, Need.Always)
+    ∷ (codes "Relationship.StartDate", Content.Shaped Shape.Moment, Need.Always)
+    ∷ (codes "Relationship.EndDate", Content.Shaped Shape.Moment, Need.Optional)
+    ∷ (codes "Registration.InitialRegistrationDate", Content.Shaped Shape.Moment, Need.Always)
+    ∷ (codes "Registration.LastUpdateDate", Content.Shaped Shape.Moment, Need.Always)
+    ∷ (codes "Registration.RegistrationStatus", Content.Shaped Shape.RelationRegistration, Need.Always)
+    ∷ (codes "Registration.ManagingLOU", Content.Shaped Shape.Code, Need.Always)
+    ∷ (codes "Registration.ValidationSources", Content.Shaped Shape.Validation, Need.Always)
+    ∷ []
 
--- the five fields of an exception: the four of its row in order of place, and Action behind them
+-- The five fields of an exception: the four of its row in order of place, and Action behind them.
 unfoldable pub exception_fields : List Field
-exception_fields = map (λ field. (field.0.now, field.1, field.2)) EXCEPTION_FIELDS
+exception_fields =
+    (codes "LEI", Content.Shaped Shape.Code, Need.Always)
+    ∷ (codes "ExceptionCategory", Content.Shaped Shape.ExceptionCategory, Need.Always)
+    ∷ (codes "ExceptionReason", Content.Shaped Shape.Reason, Need.UnlessWithdrawn)
+    ∷ (codes "ExceptionReference", Content.Shaped Shape.Free, Need.Optional)
+    ∷ (codes "Action", Content.Action, Need.Optional)
+    ∷ []
 
--- the fields of a kind of item in order of place
+-- The fields of a kind of item in order of place.
 abbrev pub fields_of : Kind → List Field
 fields_of Kind.Record = fields
 fields_of Kind.Relation = relation_fields
 fields_of Kind.Exception = exception_fields
 
--- how many they are
+-- How many they are.
 abbrev pub field_count : Kind → ℕ
-field_count Kind.Record = 28
-field_count Kind.Relation = 11
-field_count Kind.Exception = 5
+field_count Kind.Record = record_places
+field_count Kind.Relation = relation_places
+field_count Kind.Exception = action_place
 
--- how many of them, from the first, stand in a row: all but Action
+-- How many of them, from the first, stand in a row: all but Action.
 abbrev pub row_len : Kind → ℕ
-row_len Kind.Record = 28
-row_len Kind.Relation = 11
-row_len Kind.Exception = 4
+row_len Kind.Record = record_places
+row_len Kind.Relation = relation_places
+row_len Kind.Exception = exception_places
 
--- the fields that stand in a row
+-- The fields that stand in a row.
 abbrev pub row_fields : Kind → List Field
 row_fields kind = take (row_len kind) (fields_of kind)
 
--- the names of a record's fields
-abbrev pub field_names : List (List ℕ)
+-- The names of a record's fields in order of place.
+abbrev pub field_names : List Text
 field_names = map (λ field. field.0) fields
 
--- the names of the fields of a kind of item
-abbrev pub names_of : Kind → List (List ℕ)
+-- The names of the fields of a kind of item in order of place.
+abbrev pub names_of : Kind → List Text
 names_of kind = map (λ field. field.0) (fields_of kind)
 
 -- ---- what a field holds
 
--- what can be done with an exception
-abbrev pub is_action : List ℕ → Bool
+-- What can be done with an exception: it is put, or it is withdrawn.
+abbrev pub is_action : Text → Bool
 is_action text = bytes_eq text (codes "PUT") || bytes_eq text (codes "WITHDRAW")
 
--- the text is one that the field can hold
-abbrev pub fits_content : Content → List ℕ → Bool
+-- The text is one that the field can hold.
+abbrev pub fits_content : Content → Text → Bool
 fits_content (Content.Shaped shape) text = fits_shape shape text
 fits_content Content.Action text = is_action text
 
--- the shape whose texts have check digits
+-- The shape is that of an LEI, whose texts have check digits.
 abbrev pub is_code_shape : Shape → Bool
 is_code_shape Shape.Code = true
 is_code_shape other = false
 
+-- The field holds an LEI.
 abbrev pub is_code_content : Content → Bool
 is_code_content (Content.Shaped shape) = is_code_shape shape
 is_code_content Content.Action = false
 
 -- ---- where a field is needed
 
--- whether a field has to stand in an item of these facts
+-- A field of this need has to stand in an item of these facts.
 abbrev pub is_needed : Facts → Need → Bool
 is_needed facts Need.Always = true
 is_needed facts Need.Optional = false
 is_needed facts Need.WherePendingArchival = facts.archival
 is_needed facts Need.UnlessWithdrawn = not facts.withdrawal
 
--- whether a field may stand there
+-- A field of this need may stand in an item of these facts.
 abbrev pub may_stand : Facts → Need → Bool
 may_stand facts Need.Always = true
 may_stand facts Need.Optional = true

@@ -1,6 +1,8 @@
+pub mod Places
+pub mod Rows
 pub mod Names
 pub mod Fields
-pub mod Rows
+pub mod Checks
 pub mod Spelled
 pub mod Items
 pub mod Parts
@@ -8,5 +10,6 @@ pub mod Relations
 pub mod Exceptions
 pub mod Cells
 pub mod Tables
+pub mod Parents
+pub mod Walks
 pub mod Sheets
-pub mod Lines

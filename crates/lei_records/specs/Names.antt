@@ -1,13 +1,24 @@
 -- Names in a list of fields.
-use Rattle.std.specs.Prelude.{ℕ, List, map}
-use Rattle.std.specs.Ordering.{nat_cmp}
+use Rattle.std.specs.Prelude.{ℕ, List, [], ◌∷◌, map, if◌then◌else◌, Option, Some, None}
+use Rattle.std.specs.Ordering.{is_lt, nat_cmp}
 use Rattle.std.specs.Cmp.Lexicographic.{slice_cmp}
 use Rattle.std.specs.List.Sorted.{IsStrictlySortedBy}
+use Rattle.lei_code.specs.Texts.{Text}
 
--- the names of fields, each a name and a text
-abbrev pub names : List (List ℕ × List ℕ) → List (List ℕ)
+-- The names of fields, each a name and a text.
+abbrev pub names : List (Text × Text) → List Text
 names fields = map (λ field. field.0) fields
 
 -- The names rise strictly in byte order, so none stands twice.
-abbrev pub AreRising : List (List ℕ × List ℕ) → Type 0
+abbrev pub AreRising : List (Text × Text) → Type 0
 AreRising fields = IsStrictlySortedBy (slice_cmp nat_cmp) (names fields)
+
+-- Of two names the lesser in byte order, and the one where there is no other.
+abbrev pub lesser : Text → Option Text → Text
+lesser name None = name
+lesser name (Some other) = if is_lt (slice_cmp nat_cmp other name) then other else name
+
+-- The least of names in byte order, where there are any.
+abbrev pub least : List Text → Option Text
+least [] = None
+least (name ∷ names) = Some (lesser name (least names))

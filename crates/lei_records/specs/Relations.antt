@@ -1,69 +1,77 @@
 -- What the row of a relationship spells by its texts. Each part of such a row can be read; of another row the value behind
 -- it is taken.
-use Rattle.std.specs.Prelude.{ℕ, ℤ, pos, List, Bool, true, false, ◌&&◌, Option, unwrap_or, option_and_then}
+use Rattle.std.specs.Prelude.{ℕ, ℤ, List, Bool, true, false, ◌&&◌, Option, unwrap_or, option_and_then}
 use Rattle.std.specs.Str.{bytes_eq}
+use Rattle.lei_code.specs.Texts.{Lei}
 use Rattle.lei_shapes.specs.declared.lists.RelationType.{RelationType}
 use Rattle.lei_shapes.specs.declared.lists.RelationStatus.{RelationStatus}
 use Rattle.lei_shapes.specs.declared.lists.RelationRegistration.{RelationRegistration}
 use Rattle.lei_shapes.specs.Lists.{relation_type_text, relation_type_of, relation_status_of, relation_registration_of}
 use Rattle.lei_shapes.specs.Moment.{read_moment}
 use Rattle.lei_records.specs.declared.view.RelCell.{RelCell}
+use Rattle.lei_records.specs.Places.{end_place, ended_place, registration_place, relation_initial_place, relation_manager_place, relation_status_place, relation_updated_place, start_place, started_place, type_place}
 use Rattle.lei_records.specs.Rows.{Row, text_at}
-use Rattle.lei_records.specs.Spelled.{present}
+use Rattle.lei_records.specs.Spelled.{moment_in, present}
 
--- the entity that it starts at
-abbrev pub start_in : Row → List ℕ
-start_in row = text_at row 1
+-- The entity that the relationship starts at.
+abbrev pub start_in : Row → Lei
+start_in row = text_at row start_place
 
--- how the start is related to the end
+-- How the start is related to the end.
 unfoldable pub kind_in : Row → RelationType
-kind_in row = unwrap_or (relation_type_of (text_at row 2)) RelationType.IsFeederTo
+kind_in row = unwrap_or (relation_type_of (text_at row type_place)) RelationType.IsFeederTo
 
--- the entity that it ends at
-abbrev pub end_in : Row → List ℕ
-end_in row = text_at row 3
+-- The entity that the relationship ends at.
+abbrev pub end_in : Row → Lei
+end_in row = text_at row end_place
 
+-- Whether the relationship is active, as it says itself.
 unfoldable pub relation_status_in : Row → RelationStatus
-relation_status_in row = unwrap_or (relation_status_of (text_at row 4)) RelationStatus.Inactive
+relation_status_in row = unwrap_or (relation_status_of (text_at row relation_status_place)) RelationStatus.Inactive
 
--- when the relationship began: the field Relationship.StartDate
-unfoldable pub started_in : Row → ℤ
-started_in row = unwrap_or (read_moment (text_at row 5)) (pos 0)
+-- When the relationship began: its StartDate.
+abbrev pub started_in : Row → ℤ
+started_in row = moment_in row started_place
 
--- when it ended, where that is said: the field Relationship.EndDate
+-- When it ended, where that is said: its EndDate.
 abbrev pub ended_in : Row → Option ℤ
-ended_in row = option_and_then read_moment (present (text_at row 6))
+ended_in row = option_and_then read_moment (present (text_at row ended_place))
 
-unfoldable pub relation_initial_in : Row → ℤ
-relation_initial_in row = unwrap_or (read_moment (text_at row 7)) (pos 0)
+-- When the relationship was first registered.
+abbrev pub relation_initial_in : Row → ℤ
+relation_initial_in row = moment_in row relation_initial_place
 
-unfoldable pub relation_updated_in : Row → ℤ
-relation_updated_in row = unwrap_or (read_moment (text_at row 8)) (pos 0)
+-- When its registration was last changed.
+abbrev pub relation_updated_in : Row → ℤ
+relation_updated_in row = moment_in row relation_updated_place
 
+-- The status of its registration.
 unfoldable pub registration_in : Row → RelationRegistration
-registration_in row = unwrap_or (relation_registration_of (text_at row 9)) RelationRegistration.Annulled
+registration_in row = unwrap_or (relation_registration_of (text_at row registration_place)) RelationRegistration.Annulled
 
--- the office that manages the relationship
-abbrev pub relation_manager_in : Row → List ℕ
-relation_manager_in row = text_at row 10
+-- The issuer that manages the relationship.
+abbrev pub relation_manager_in : Row → Lei
+relation_manager_in row = text_at row relation_manager_place
 
--- what the rules ask of a relationship that is held
+-- What the rules ask of a relationship that is held.
 abbrev pub rel_cell : Row → RelCell
 rel_cell row = record { status = relation_status_in row; registration = registration_in row }
 
 -- ---- active relationships
 
+-- The status is ACTIVE.
 abbrev pub is_active_status : RelationStatus → Bool
 is_active_status RelationStatus.Active = true
 is_active_status RelationStatus.Inactive = false
 
+-- The relationship is active.
 abbrev pub is_active : Row → Bool
 is_active row = is_active_status (relation_status_in row)
 
--- two types of relationships are one: they have one text
+-- Two types of relationships are one: they have one text.
 abbrev pub is_same_type : RelationType → RelationType → Bool
 is_same_type a b = bytes_eq (relation_type_text a) (relation_type_text b)
 
--- the relationship is active, and has this start and this type
-unfoldable pub is_active_of : List ℕ → RelationType → Row → Bool
+-- The relationship is active, and has this start and this type.
+unfoldable pub is_active_of : Lei → RelationType → Row → Bool
 is_active_of start kind row = is_active row && (bytes_eq (start_in row) start && is_same_type (kind_in row) kind)

@@ -1,11 +1,12 @@
 -- Rows: the texts of a record, a relationship or an exception by place.
 use Rattle.std.specs.Prelude.{ℕ, ◌-◌, List, codes, ◌==◌, if◌then◌else◌, slice_index_or}
+use Rattle.lei_code.specs.Texts.{Text}
 
--- the texts in order of place, 28 of a record, 11 of a relationship and 4 of an exception: the empty text where a
--- field is absent, and moments in printed form
+-- A row is the texts of the fields in order of place, 28 of a record, 11 of a relationship and 4 of an exception: the
+-- empty text where a field is absent, and moments in printed form.
 abbrev pub Row : Type 0
-Row = List (List ℕ)
+Row = List Text
 
--- the text at a place, places counted from 1: the empty text at every other place
-abbrev pub text_at : Row → ℕ → List ℕ
+-- The text at a place, places counted from 1; the empty text at every other place.
+abbrev pub text_at : Row → ℕ → Text
 text_at row place = if place == 0 then codes "" else slice_index_or row (place - 1) (codes "")

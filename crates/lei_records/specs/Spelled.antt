@@ -1,66 +1,73 @@
 -- What a row spells by its texts, and which rows are those of records, of relationships and of exceptions.
-use Rattle.std.specs.Prelude.{◌≡◌, ℕ, ℤ, List, length, Bool, ◌==◌, if◌then◌else◌, Option, None, Some, IsSome, IfSome}
+use Rattle.std.specs.Prelude.{◌≡◌, ◌-◌, ℕ, ℤ, pos, List, length, Bool, ◌==◌, if◌then◌else◌, Option, None, Some, IsSome, IfSome, unwrap_or}
 use Rattle.lei_code.specs.Code.{IsValid}
+use Rattle.lei_code.specs.Texts.{Text}
 use Rattle.lei_shapes.specs.Clock.{moment_text}
 use Rattle.lei_shapes.specs.Lists.{record_status_of, entity_status_of, category_of, relation_type_of, relation_status_of, relation_registration_of, exception_category_of, reason_of}
 use Rattle.lei_shapes.specs.Moment.{read_moment}
 use Rattle.lei_records.specs.declared.fields.Kind.{Kind}
+use Rattle.lei_records.specs.Places.{category_place, created_place, end_place, ended_place, entity_status_place, exception_category_place, exception_places, initial_place, lei_place, manager_place, reason_place, receiver_place, record_places, registration_place, relation_initial_place, relation_manager_place, relation_places, relation_status_place, relation_updated_place, renewal_place, start_place, started_place, status_place, subject_place, successor_place, type_place, updated_place}
 use Rattle.lei_records.specs.Rows.{Row, text_at}
 
--- an empty text counts as absent
-abbrev pub is_absent : List ℕ → Bool
+-- An empty text counts as absent.
+abbrev pub is_absent : Text → Bool
 is_absent text = length text == 0
 
--- the text, and none where it is absent
-abbrev pub present : List ℕ → Option (List ℕ)
+-- The text, and none where it is absent.
+abbrev pub present : Text → Option Text
 present text = if is_absent text then None else Some text
 
--- the text is the printed form of a moment
-abbrev pub IsPrinted : List ℕ → Type 0
+-- The moment that the text at a place reads as, in seconds from 1970-01-01T00:00:00Z; that begin of 1970 where it reads as
+-- none, as in no row of an item.
+unfoldable pub moment_in : Row → ℕ → ℤ
+moment_in row place = unwrap_or (read_moment (text_at row place)) (pos 0)
+
+-- The text is the printed form of a moment.
+abbrev pub IsPrinted : Text → Type 0
 IsPrinted text = (seconds : ℤ) × (read_moment text ≡ Some seconds) × (text ≡ moment_text seconds)
 
--- the text is one of a list's values
-abbrev pub IsListed : {V : Type 0} → (List ℕ → Option V) → List ℕ → Type 0
+-- The text is one of a list's values.
+abbrev pub IsListed : {V : Type 0} → (Text → Option V) → Text → Type 0
 IsListed {V} value_of text = IsSome (value_of text)
 
--- The row is that of a record. Each part of it that is more than a text can be read: a code by its check digits, a value
--- by its list, and a moment by its printed form. A code and a moment that need not stand may be absent.
+-- The row is that of a record. Each part of it that is more than a text can be read: an LEI by its check digits, a value by
+-- its list, and a moment by its printed form. An LEI and a moment that need not stand may be absent.
 pub record IsRow (row : Row) : Type 0 where
-  pub places : length row ≡ 28
-  pub lei : IsValid (text_at row 1)
-  pub category : IsSome (category_of (text_at row 17))
-  pub entity_status : IsSome (entity_status_of (text_at row 19))
-  pub created : IfSome (present (text_at row 20)) IsPrinted
-  pub successor : IfSome (present (text_at row 21)) IsValid
-  pub initial : IsPrinted (text_at row 22)
-  pub updated : IsPrinted (text_at row 23)
-  pub status : IsSome (record_status_of (text_at row 24))
-  pub renewal : IsPrinted (text_at row 25)
-  pub manager : IsValid (text_at row 26)
-  pub transfer_to : IfSome (present (text_at row 28)) IsValid
+  pub places : length row ≡ record_places
+  pub lei : IsValid (text_at row lei_place)
+  pub category : IsSome (category_of (text_at row category_place))
+  pub entity_status : IsSome (entity_status_of (text_at row entity_status_place))
+  pub created : IfSome (present (text_at row created_place)) IsPrinted
+  pub successor : IfSome (present (text_at row successor_place)) IsValid
+  pub initial : IsPrinted (text_at row initial_place)
+  pub updated : IsPrinted (text_at row updated_place)
+  pub status : IsSome (record_status_of (text_at row status_place))
+  pub renewal : IsPrinted (text_at row renewal_place)
+  pub manager : IsValid (text_at row manager_place)
+  pub transfer_to : IfSome (present (text_at row receiver_place)) IsValid
 
 -- The row is that of a relationship.
 pub record IsRelationRow (row : Row) : Type 0 where
-  pub places : length row ≡ 11
-  pub start : IsValid (text_at row 1)
-  pub kind : IsSome (relation_type_of (text_at row 2))
-  pub end : IsValid (text_at row 3)
-  pub status : IsSome (relation_status_of (text_at row 4))
-  pub started : IsPrinted (text_at row 5)
-  pub ended : IfSome (present (text_at row 6)) IsPrinted
-  pub initial : IsPrinted (text_at row 7)
-  pub updated : IsPrinted (text_at row 8)
-  pub registration : IsSome (relation_registration_of (text_at row 9))
-  pub manager : IsValid (text_at row 10)
+  pub places : length row ≡ relation_places
+  pub start : IsValid (text_at row start_place)
+  pub kind : IsSome (relation_type_of (text_at row type_place))
+  pub end : IsValid (text_at row end_place)
+  pub status : IsSome (relation_status_of (text_at row relation_status_place))
+  pub started : IsPrinted (text_at row started_place)
+  pub ended : IfSome (present (text_at row ended_place)) IsPrinted
+  pub initial : IsPrinted (text_at row relation_initial_place)
+  pub updated : IsPrinted (text_at row relation_updated_place)
+  pub registration : IsSome (relation_registration_of (text_at row registration_place))
+  pub manager : IsValid (text_at row relation_manager_place)
 
 -- The row is that of an exception. With a withdrawal the reason may be absent.
 pub record IsExceptionRow (row : Row) : Type 0 where
-  pub places : length row ≡ 4
-  pub lei : IsValid (text_at row 1)
-  pub category : IsSome (exception_category_of (text_at row 2))
-  pub reason : IfSome (present (text_at row 3)) (IsListed reason_of)
+  pub places : length row ≡ exception_places
+  pub lei : IsValid (text_at row subject_place)
+  pub category : IsSome (exception_category_of (text_at row exception_category_place))
+  pub reason : IfSome (present (text_at row reason_place)) (IsListed reason_of)
 
--- the row is that of an item of this kind
+-- The row is that of an item of this kind.
 abbrev pub IsRowOf : Kind → Row → Type 0
 IsRowOf Kind.Record row = IsRow row
 IsRowOf Kind.Relation row = IsRelationRow row

@@ -5,6 +5,7 @@ use Rattle.std.specs.FinMap.{FinMap, get, insert, remove, len, values}
 use Rattle.std.specs.Ordering.{nat_cmp}
 use Rattle.std.specs.Str.{bytes_eq}
 use Rattle.std.specs.declared.cmp.Ordering.{Ordering}
+use Rattle.lei_code.specs.Texts.{Lei, Text}
 use Rattle.lei_shapes.specs.declared.lists.ExceptionCategory.{ExceptionCategory}
 use Rattle.lei_shapes.specs.declared.lists.RelationType.{RelationType}
 use Rattle.lei_shapes.specs.Lists.{exception_category_text, relation_type_text}
@@ -19,19 +20,19 @@ use Rattle.lei_records.specs.Relations.{end_in, is_active_of, kind_in, rel_cell,
 use Rattle.lei_records.specs.Rows.{Row}
 use Rattle.lei_records.specs.Spelled.{IsExceptionRow, IsRelationRow, IsRow}
 
--- the texts of a row's key
+-- The key of a row is a list of texts.
 abbrev pub KeyTexts : Type 0
-KeyTexts = List (List ℕ)
+KeyTexts = List Text
 
--- in byte order, text by text
+-- Keys stand in byte order, text by text.
 abbrev pub key_cmp : KeyTexts → KeyTexts → Ordering
 key_cmp = slice_cmp (slice_cmp nat_cmp)
 
--- rows under their keys, in the order of these
+-- Rows under their keys, in the order of these.
 abbrev pub Rows : Type 0
 Rows = FinMap key_cmp Row
 
--- the rows that are held: those of records, of relationships and of exceptions
+-- A table: the rows that are held, those of records, of relationships and of exceptions.
 pub record Table : Type 0 where
   pub records : Rows
   pub relations : Rows
@@ -39,27 +40,27 @@ pub record Table : Type 0 where
 
 -- ---- keys
 
--- the key of a record's row is its code
-abbrev pub record_key : List ℕ → KeyTexts
+-- The key of a record's row is its LEI.
+abbrev pub record_key : Lei → KeyTexts
 record_key lei = lei ∷ []
 
--- that of a relationship's row is its start, its type and its end
-abbrev pub relation_key : List ℕ → RelationType → List ℕ → KeyTexts
+-- The key of a relationship's row is its start, its type and its end.
+abbrev pub relation_key : Lei → RelationType → Lei → KeyTexts
 relation_key start kind end = start ∷ relation_type_text kind ∷ end ∷ []
 
--- that of an exception's row is its code and its category
-abbrev pub exception_key : List ℕ → ExceptionCategory → KeyTexts
+-- The key of an exception's row is its LEI and its category.
+abbrev pub exception_key : Lei → ExceptionCategory → KeyTexts
 exception_key lei category = lei ∷ exception_category_text category ∷ []
 
--- the key that a relationship's row has by its texts
+-- The key that a relationship's row has by its texts.
 abbrev pub relation_key_in : Row → KeyTexts
 relation_key_in row = relation_key (start_in row) (kind_in row) (end_in row)
 
--- the key that an exception's row has by its texts
+-- The key that an exception's row has by its texts.
 abbrev pub exception_key_in : Row → KeyTexts
 exception_key_in row = exception_key (subject_in row) (exception_category_in row)
 
--- the key of an item's row
+-- The key of an item's row.
 abbrev pub row_key : Item → RowKey
 row_key (Item.Record row) = RowKey.Rec (lei_in row)
 row_key (Item.Relation row) = RowKey.Rel (start_in row) (kind_in row) (end_in row)
@@ -67,108 +68,110 @@ row_key (Item.Exception item) = RowKey.Exc (subject_in item.0) (exception_catego
 
 -- ---- puts
 
+-- A table with other rows of records.
 abbrev pub with_records : Table → Rows → Table
 with_records table rows = record table { records = rows }
 
+-- A table with other rows of relationships.
 abbrev pub with_relations : Table → Rows → Table
 with_relations table rows = record table { relations = rows }
 
+-- A table with other rows of exceptions.
 abbrev pub with_exceptions : Table → Rows → Table
 with_exceptions table rows = record table { exceptions = rows }
 
--- the table with the item: in the place of the row of its key, or as a row of its own. An exception that is a withdrawal
--- takes out the row of its key. All other rows stay.
+-- The table with the item: its row takes the place of the row of its key, or stands as a row of its own. An exception that
+-- is a withdrawal takes out the row of its key. All other rows stay.
 abbrev pub put : Table → Item → Table
 put table (Item.Record row) = with_records table (insert table.records (record_key (lei_in row)) row)
 put table (Item.Relation row) = with_relations table (insert table.relations (relation_key_in row) row)
 put table (Item.Exception item) = with_exceptions table
     (if item.1 then remove table.exceptions (exception_key_in item.0) else insert table.exceptions (exception_key_in item.0) item.0)
 
--- the same of an item that may be a withdrawal; a record and a relationship are never withdrawn
+-- The table after a write: the item that is written is put, and where none is, the exception of the key is taken out. A
+-- record and a relationship are never withdrawn.
 abbrev pub put_write : Table → RowKey × Option Item → Table
 put_write table (key, Some item) = put table item
 put_write table (RowKey.Exc lei category, None) = with_exceptions table (remove table.exceptions (exception_key lei category))
 put_write table (key, None) = table
 
--- the table with these items put, from the first to the last
+-- The table after these writes, from the first to the last.
 abbrev pub put_all : List (RowKey × Option Item) → Table → Table
 put_all [] table = table
 put_all (write ∷ writes) table = put_all writes (put_write table write)
 
 -- ---- what a table has for a cell's key
 
--- the row of the record with this code
-abbrev pub row_at : Table → List ℕ → Option Row
+-- The row of the record with this LEI.
+abbrev pub row_at : Table → Lei → Option Row
 row_at table lei = get table.records (record_key lei)
 
--- all records, in the order of their codes
+-- All records, in the order of their LEIs.
 abbrev pub records_of : Table → List Row
 records_of table = values table.records
 
--- how many records are held
+-- How many records are held.
 abbrev pub record_count : Table → ℕ
 record_count table = len table.records
 
--- the record with this code, as the rules see it
-abbrev pub record_of : Table → List ℕ → Option RecCell
+-- The record with this LEI, as the rules see it.
+abbrev pub record_of : Table → Lei → Option RecCell
 record_of table lei = option_map rec_cell (row_at table lei)
 
--- the code of the live record that has this authority key, and of the first of them in the order of
--- codes
-abbrev pub holder_of : Table → List ℕ → List ℕ → Option (List ℕ)
+-- The LEI of the live record that has this authority key, and of the first of them in the order of LEIs.
+abbrev pub holder_of : Table → Text → Text → Option Lei
 holder_of table authority id = option_map lei_in (find (holds authority id) (records_of table))
 
--- the row is live and has this key, if there is one
-abbrev pub holds_key : Option (List ℕ × List ℕ) → Row → Bool
+-- There is a key, and the record is live and has it.
+abbrev pub holds_key : Option (Text × Text) → Row → Bool
 holds_key None row = false
 holds_key (Some key) row = holds key.0 key.1 row
 
--- the code of another record that is live and has the row's authority key, and of the first of them
--- in the order of codes
-abbrev pub other_holder : Table → Row → Option (List ℕ)
+-- The LEI of another record that is live and has the row's authority key, and of the first of them in the order of LEIs.
+abbrev pub other_holder : Table → Row → Option Lei
 other_holder table row =
     option_map lei_in
     (find (λ other. holds_key (akey row) other && not (bytes_eq (lei_in other) (lei_in row))) (records_of table))
 
--- all relationships, in the order of their keys
+-- All relationships, in the order of their keys.
 abbrev pub relations_of : Table → List Row
 relations_of table = values table.relations
 
--- the row of the relationship with this start, type and end
-abbrev pub relation_row : Table → List ℕ → RelationType → List ℕ → Option Row
+-- The row of the relationship with this start, type and end.
+abbrev pub relation_row : Table → Lei → RelationType → Lei → Option Row
 relation_row table start kind end = get table.relations (relation_key start kind end)
 
--- this relationship, as the rules see it
-abbrev pub relation_of : Table → List ℕ → RelationType → List ℕ → Option RelCell
+-- The relationship with this start, type and end, as the rules see it.
+abbrev pub relation_of : Table → Lei → RelationType → Lei → Option RelCell
 relation_of table start kind end = option_map rel_cell (relation_row table start kind end)
 
--- the end of the active relationship of this start and type, and of the first of them in the order of keys
-abbrev pub active_of : Table → List ℕ → RelationType → Option (List ℕ)
+-- The end of the active relationship of this start and type, and of the first of them in the order of keys.
+abbrev pub active_of : Table → Lei → RelationType → Option Lei
 active_of table start kind = option_map end_in (find (is_active_of start kind) (relations_of table))
 
--- all exceptions, in the order of their keys
+-- All exceptions, in the order of their keys.
 abbrev pub exceptions_of : Table → List Row
 exceptions_of table = values table.exceptions
 
--- the row of the exception with this code and category
-abbrev pub exception_row : Table → List ℕ → ExceptionCategory → Option Row
+-- The row of the exception with this LEI and category.
+abbrev pub exception_row : Table → Lei → ExceptionCategory → Option Row
 exception_row table lei category = get table.exceptions (exception_key lei category)
 
--- there is this exception
-abbrev pub has_exception : Table → List ℕ → ExceptionCategory → Bool
+-- There is an exception with this LEI and category.
+abbrev pub has_exception : Table → Lei → ExceptionCategory → Bool
 has_exception table lei category = is_some (exception_row table lei category)
 
--- what a view answers where a cell has this
+-- What a view answers where a cell has this, or is empty.
 abbrev pub seen : {X : Type 0} → Option X → Seen X
 seen (Some x) = Seen.Held x
 seen None = Seen.Empty
 
--- the same of a cell that has nothing but that it is there
+-- The same of a cell that has nothing but that it is there.
 abbrev pub seen_fact : Bool → Seen ⊤
 seen_fact true = Seen.Held tt
 seen_fact false = Seen.Empty
 
--- the cells of a table: none is missing
+-- The cells of a table: none is missing.
 abbrev pub cells_of : Table → Cells
 cells_of table = record {
   record_cell = λ lei. seen (record_of table lei);
@@ -180,44 +183,44 @@ cells_of table = record {
 
 -- ---- sound tables
 
--- each record's row stands under its own key
+-- Each record's row stands under its own key.
 abbrev pub IsKeyed : Table → Type 0
 IsKeyed table = (key : KeyTexts) (row : Row) → get table.records key ≡ Some row → key ≡ record_key (lei_in row)
 
--- no two live records have the same authority key
+-- No two live records have the same authority key.
 abbrev pub HasHolders : Table → Type 0
-HasHolders table = (authority id : List ℕ) (a b : List ℕ) (first second : Row)
+HasHolders table = (authority id : Text) (a b : Lei) (first second : Row)
     → row_at table a ≡ Some first → row_at table b ≡ Some second
     → IsTrue (holds authority id first) → IsTrue (holds authority id second) → a ≡ b
 
--- each record's row is that of a record
+-- Each record's row is that of a record.
 abbrev pub HasRows : Table → Type 0
 HasRows table = (key : KeyTexts) (row : Row) → get table.records key ≡ Some row → IsRow row
 
--- each relationship's row stands under its own key
+-- Each relationship's row stands under its own key.
 abbrev pub AreRelationsKeyed : Table → Type 0
 AreRelationsKeyed table = (key : KeyTexts) (row : Row) → get table.relations key ≡ Some row → key ≡ relation_key_in row
 
--- and is that of a relationship
+-- Each relationship's row is that of a relationship.
 abbrev pub HasRelationRows : Table → Type 0
 HasRelationRows table = (key : KeyTexts) (row : Row) → get table.relations key ≡ Some row → IsRelationRow row
 
--- no two active relationships have the same start and type
+-- No two active relationships have the same start and type.
 abbrev pub HasActives : Table → Type 0
-HasActives table = (start : List ℕ) (kind : RelationType) (a b : KeyTexts) (first second : Row)
+HasActives table = (start : Lei) (kind : RelationType) (a b : KeyTexts) (first second : Row)
     → get table.relations a ≡ Some first → get table.relations b ≡ Some second
     → IsTrue (is_active_of start kind first) → IsTrue (is_active_of start kind second) → a ≡ b
 
--- each exception's row stands under its own key
+-- Each exception's row stands under its own key.
 abbrev pub AreExceptionsKeyed : Table → Type 0
 AreExceptionsKeyed table = (key : KeyTexts) (row : Row) → get table.exceptions key ≡ Some row → key ≡ exception_key_in row
 
--- and is that of an exception
+-- Each exception's row is that of an exception.
 abbrev pub HasExceptionRows : Table → Type 0
 HasExceptionRows table = (key : KeyTexts) (row : Row) → get table.exceptions key ≡ Some row → IsExceptionRow row
 
--- Each row stands under its own key and is that of a record, a relationship or an exception, as its list says. No two live
--- records have the same authority key, and no two active relationships the same start and type.
+-- A sound table: each row stands under its own key and is that of a record, a relationship or an exception, as its list
+-- says. No two live records have the same authority key, and no two active relationships the same start and type.
 pub record IsSound (table : Table) : Type 0 where
   pub keyed : IsKeyed table
   pub holders : HasHolders table

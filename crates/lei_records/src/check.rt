@@ -1,25 +1,33 @@
+//! Why an item is rejected, and how that is told.
+ghost use Rattle.std.specs.Prelude.{◌≡◌, Some, option_map};
+ghost use Rattle.lei_records.specs.Checks;
+ghost use Rattle.lei_records.specs.Checks.{IsNumber, check_name, check_text};
+
+use crate::numbers::*;
 use lei_code::Lei;
 use lei_outside::Text;
 use lei_shapes::RecordStatus;
+use std::fmt;
+use std::marker::Model;
 
-/// C01: a name is no field's.
-pub const FIELD_UNKNOWN: u8 = 1;
-
-/// C02: a needed field is absent.
-pub const FIELD_MISSING: u8 = 2;
-
-/// C03: the text of a field has another shape, or a field stands where it may not.
-pub const FIELD_SHAPE: u8 = 3;
-
-/// C04: the check digits of a code are wrong.
-pub const CHECK_DIGITS: u8 = 4;
-
-/// Why an item is rejected: the first of its checks that fails. This project's profile.
+/// Why an item is rejected: the first of its checks that fails. Its number is one that a check has.
 #[derive(Debug, PartialEq, Eq, Drop)]
 pub struct Check {
     /// The check's number, as [`FIELD_UNKNOWN`].
     pub code: u8,
     pub detail: Detail,
+}
+
+impl Model for Check {
+    ghost use Rattle.lei_records.specs.Checks.{FailedCheck, IsNumber};
+
+    ghost Value = { FailedCheck };
+
+    ghost view = { λ check. record { number = check.code; detail = check.detail } };
+
+    ghost invariant = { λ check. IsNumber check.code };
+
+    ghost inverse = { λ check. record { code = check.number; detail = check.detail } };
 }
 
 /// What a check names.
@@ -32,4 +40,84 @@ pub enum Detail {
     Status(RecordStatus),
     /// A code that stands in the way.
     Code(Lei),
+}
+
+impl Check {
+    /// The check's number and what it is called, as `C05 STATUS_ENTITY`.
+    pub fn name(&self) -> &'static str
+        ensures { check_name self.now.number ≡ Some result.now }
+    {
+        name_of(self.code)
+    }
+}
+
+impl Detail {
+    /// What is named, as a text: a status and a code by their texts.
+    pub fn text(&self) -> Option<&str>
+        ensures { option_map (λ text. text.now) result ≡ Checks.detail_text self.now }
+    {
+        match self {
+            Detail::None => None,
+            Detail::Field(name) => Some(name.as_str()),
+            Detail::Status(status) => Some(status.text()),
+            Detail::Code(lei) => Some(lei.as_str()),
+        }
+    }
+}
+
+impl fmt::Display for Check {
+    ghost output = { check_text };
+
+    fn fmt<W: fmt::Write>(&self, f: &mut fmt::Formatter<W>) -> fmt::Result {
+        f.write_str(self.name())?;
+        match self.detail.text() {
+            Some(named) => write!(f, " {named}"),
+            None => Ok(()),
+        }
+    }
+}
+
+// What the check of a number is called.
+fn name_of(number: u8) -> &'static str
+    requires { IsNumber number }
+    ensures { check_name number ≡ Some result.now }
+{
+    match number {
+        FIELD_UNKNOWN => "C01 FIELD_UNKNOWN",
+        FIELD_MISSING => "C02 FIELD_MISSING",
+        FIELD_SHAPE => "C03 FIELD_SHAPE",
+        CHECK_DIGITS => "C04 CHECK_DIGITS",
+        STATUS_ENTITY => "C05 STATUS_ENTITY",
+        DATES_ORDER => "C06 DATES_ORDER",
+        DATE_FUTURE => "C07 DATE_FUTURE",
+        SUCCESSOR_SHAPE => "C08 SUCCESSOR_SHAPE",
+        MANAGER_NOT_UPLOADER => "C09 MANAGER_NOT_UPLOADER",
+        NOT_ISSUED => "C10 NOT_ISSUED",
+        TRANSITION => "C11 TRANSITION",
+        NOT_MANAGER => "C12 NOT_MANAGER",
+        INITIAL_DATE_CHANGED => "C13 INITIAL_DATE_CHANGED",
+        UPDATE_EARLIER => "C14 UPDATE_EARLIER",
+        RENEWAL_DATE => "C15 RENEWAL_DATE",
+        SUCCESSOR_UNKNOWN => "C16 SUCCESSOR_UNKNOWN",
+        SUCCESSOR_CYCLE => "C17 SUCCESSOR_CYCLE",
+        SUCCESSOR_CHAIN_LONG => "C18 SUCCESSOR_CHAIN_LONG",
+        AUTHORITY_KEY_TAKEN => "C19 AUTHORITY_KEY_TAKEN",
+        REGISTER_FULL => "C20 REGISTER_FULL",
+        SAME_NODE => "C30 SAME_NODE",
+        PERIOD_ORDER => "C31 PERIOD_ORDER",
+        START_UNKNOWN => "C32 START_UNKNOWN",
+        END_UNKNOWN => "C33 END_UNKNOWN",
+        START_NOT_MANAGED => "C34 START_NOT_MANAGED",
+        START_CATEGORY => "C35 START_CATEGORY",
+        RELATION_TRANSITION => "C36 RELATION_TRANSITION",
+        ACTIVE_TAKEN => "C37 ACTIVE_TAKEN",
+        PARENT_CYCLE => "C38 PARENT_CYCLE",
+        PARENT_CHAIN_LONG => "C39 PARENT_CHAIN_LONG",
+        EXCEPTION_STANDS => "C40 EXCEPTION_STANDS",
+        LEI_UNKNOWN => "C50 LEI_UNKNOWN",
+        NOT_MANAGED => "C51 NOT_MANAGED",
+        PARENT_STANDS => "C52 PARENT_STANDS",
+        NOTHING_TO_WITHDRAW => "C53 NOTHING_TO_WITHDRAW",
+        _ => unreachable!(),
+    }
 }

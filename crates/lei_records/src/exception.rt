@@ -1,8 +1,10 @@
-ghost use Rattle.std.specs.Prelude.{◌≡◌, ◌≤◌, length, IfOk, IsSome, Some, option_and_then};
-ghost use Rattle.lei_shapes.specs.Lists.{exception_category_of, reason_of};
+ghost use Rattle.std.specs.Prelude.{◌≡◌, ◌≤◌, IfOk};
+ghost use Rattle.lei_records.specs.Exceptions;
+ghost use Rattle.lei_records.specs.Places.{exception_places};
 ghost use Rattle.lei_records.specs.Rows.{text_at};
-ghost use Rattle.lei_records.specs.Spelled.{IsExceptionRow, present};
+ghost use Rattle.lei_records.specs.Spelled.{IsExceptionRow};
 
+use crate::places;
 use crate::texts::{code_at, copied, text_at};
 use lei_code::Lei;
 use lei_outside::{NoMemory, Text};
@@ -66,9 +68,9 @@ impl ExceptionItem {
         ensures { result ≡ (texts.items, withdraws) }
     {
         ExceptionItem {
-            lei: code_at(&texts, 1),
-            category: category_at(&texts, 2),
-            reason: present_reason_at(&texts, 3),
+            lei: code_at(&texts, places::SUBJECT),
+            category: category_of(&texts),
+            reason: reason_of(&texts),
             texts,
             withdraws,
         }
@@ -77,7 +79,7 @@ impl ExceptionItem {
     /// The text of a field, by its place from 1 to 4: the empty text where the field is absent.
     pub fn field(&self, place: u8) -> &str
         requires first { 1 ≤ place }
-        requires last { place ≤ 4 }
+        requires last { place ≤ exception_places }
         ensures value { result.now ≡ text_at self.now.0 place }
         ensures row { IsExceptionRow self.now.0 }
     {
@@ -86,7 +88,7 @@ impl ExceptionItem {
 
     /// The entity that reports no parent: the field LEI.
     pub fn lei(&self) -> Lei
-        ensures value { result ≡ text_at self.now.0 1 }
+        ensures value { result ≡ Exceptions.subject_in self.now.0 }
         ensures row { IsExceptionRow self.now.0 }
     {
         self.lei
@@ -94,14 +96,14 @@ impl ExceptionItem {
 
     /// Which parent it doesn't report: the field ExceptionCategory.
     pub fn category(&self) -> ExceptionCategory
-        ensures { exception_category_of (text_at self.now.0 2) ≡ Some result }
+        ensures { result ≡ Exceptions.exception_category_in self.now.0 }
     {
         self.category
     }
 
     /// Why it doesn't: the field ExceptionReason.
     pub fn reason(&self) -> Option<Reason>
-        ensures { result ≡ option_and_then reason_of (present (text_at self.now.0 3)) }
+        ensures { result ≡ Exceptions.reason_in self.now.0 }
     {
         self.reason
     }
@@ -128,25 +130,23 @@ impl ExceptionItem {
     }
 }
 
-fn category_at(texts: &[Text], place: usize) -> ExceptionCategory
-    requires first { 1 ≤ place }
-    requires last { place ≤ length texts.now }
-    requires listed { IsSome (exception_category_of (text_at texts.now place)) }
-    ensures { exception_category_of (text_at texts.now place) ≡ Some result }
+#[tactic(auto, unfolding(crate::specs::Exceptions::exception_category_in))]
+fn category_of(texts: &[Text]) -> ExceptionCategory
+    requires { IsExceptionRow texts.now }
+    ensures { result ≡ Exceptions.exception_category_in texts.now }
 {
-    match ExceptionCategory::read(text_at(texts, place)) {
-        Some(category) => category,
+    match ExceptionCategory::read(text_at(texts, places::EXCEPTION_CATEGORY)) {
+        Some(value) => value,
         None => unreachable!(),
     }
 }
 
-// The reason that the text at a place reads as, and none where the text is absent.
-fn present_reason_at(texts: &[Text], place: usize) -> Option<Reason>
-    requires first { 1 ≤ place }
-    requires last { place ≤ length texts.now }
-    ensures { result ≡ option_and_then reason_of (present (text_at texts.now place)) }
+// The reason that the text at its place reads as, and none where the text is absent.
+fn reason_of(texts: &[Text]) -> Option<Reason>
+    requires { IsExceptionRow texts.now }
+    ensures { result ≡ Exceptions.reason_in texts.now }
 {
-    let text = text_at(texts, place);
+    let text = text_at(texts, places::REASON);
     if text.is_empty() {
         return None;
     }

@@ -1,8 +1,9 @@
 ghost use Rattle.std.specs.Prelude.{◌≡◌, map};
 ghost use Rattle.lei_records.specs.Fields;
-ghost use Rattle.lei_records.specs.Fields.{field_count, is_needed, may_stand, read_field};
+ghost use Rattle.lei_records.specs.Fields.{is_needed, may_stand, read_field};
 
-use crate::fields::Content::{Action, Shaped};
+use crate::places::{ACTION, EXCEPTION_PLACES, RECORD_PLACES, RELATION_PLACES};
+use crate::tables;
 use lei_shapes::{Shape, fits};
 
 /// The kinds of items. Each has fields of its own.
@@ -51,235 +52,28 @@ pub struct Facts {
 /// A field's name, what it holds, and where it is needed.
 pub type Field = (&'static str, Content, Need);
 
-/// The fields of a record in order of place. The names are those of the columns of a golden copy of
-/// level 1 data, but for the last one; shapes and needs are this project's profile.
-pub const RECORD_FIELDS: [Field; 28] = [
-    ("LEI", Shaped(Shape::Code), Need::Always),
-    ("Entity.LegalName", Shaped(Shape::Free), Need::Always),
-    (
-        "Entity.LegalName.xmllang",
-        Shaped(Shape::Lang),
-        Need::Optional,
-    ),
-    (
-        "Entity.LegalAddress.FirstAddressLine",
-        Shaped(Shape::Free),
-        Need::Always,
-    ),
-    (
-        "Entity.LegalAddress.City",
-        Shaped(Shape::Free),
-        Need::Always,
-    ),
-    (
-        "Entity.LegalAddress.Region",
-        Shaped(Shape::Free),
-        Need::Optional,
-    ),
-    (
-        "Entity.LegalAddress.Country",
-        Shaped(Shape::Country),
-        Need::Always,
-    ),
-    (
-        "Entity.LegalAddress.PostalCode",
-        Shaped(Shape::Free),
-        Need::Optional,
-    ),
-    (
-        "Entity.HeadquartersAddress.FirstAddressLine",
-        Shaped(Shape::Free),
-        Need::Always,
-    ),
-    (
-        "Entity.HeadquartersAddress.City",
-        Shaped(Shape::Free),
-        Need::Always,
-    ),
-    (
-        "Entity.HeadquartersAddress.Region",
-        Shaped(Shape::Free),
-        Need::Optional,
-    ),
-    (
-        "Entity.HeadquartersAddress.Country",
-        Shaped(Shape::Country),
-        Need::Always,
-    ),
-    (
-        "Entity.HeadquartersAddress.PostalCode",
-        Shaped(Shape::Free),
-        Need::Optional,
-    ),
-    (
-        "Entity.RegistrationAuthority.RegistrationAuthorityID",
-        Shaped(Shape::Authority),
-        Need::Always,
-    ),
-    (
-        "Entity.RegistrationAuthority.RegistrationAuthorityEntityID",
-        Shaped(Shape::Free),
-        Need::Optional,
-    ),
-    (
-        "Entity.LegalJurisdiction",
-        Shaped(Shape::Jurisdiction),
-        Need::Always,
-    ),
-    (
-        "Entity.EntityCategory",
-        Shaped(Shape::Category),
-        Need::Always,
-    ),
-    (
-        "Entity.LegalForm.EntityLegalFormCode",
-        Shaped(Shape::Form),
-        Need::Always,
-    ),
-    (
-        "Entity.EntityStatus",
-        Shaped(Shape::EntityStatus),
-        Need::Always,
-    ),
-    (
-        "Entity.EntityCreationDate",
-        Shaped(Shape::Moment),
-        Need::Optional,
-    ),
-    (
-        "Entity.SuccessorEntity.1.SuccessorLEI",
-        Shaped(Shape::Code),
-        Need::Optional,
-    ),
-    (
-        "Registration.InitialRegistrationDate",
-        Shaped(Shape::Moment),
-        Need::Always,
-    ),
-    (
-        "Registration.LastUpdateDate",
-        Shaped(Shape::Moment),
-        Need::Always,
-    ),
-    (
-        "Registration.RegistrationStatus",
-        Shaped(Shape::RecordStatus),
-        Need::Always,
-    ),
-    (
-        "Registration.NextRenewalDate",
-        Shaped(Shape::Moment),
-        Need::Always,
-    ),
-    (
-        "Registration.ManagingLOU",
-        Shaped(Shape::Code),
-        Need::Always,
-    ),
-    (
-        "Registration.ValidationSources",
-        Shaped(Shape::Validation),
-        Need::Always,
-    ),
-    (
-        "Register.TransferTo",
-        Shaped(Shape::Code),
-        Need::WherePendingArchival,
-    ),
-];
-
-/// The fields of a relationship in order of place. The names are those of the columns of a golden copy of level 2
-/// data; shapes and needs are this project's profile.
-pub const RELATION_FIELDS: [Field; 11] = [
-    ("Relationship.StartNode", Shaped(Shape::Code), Need::Always),
-    (
-        "Relationship.RelationshipType",
-        Shaped(Shape::RelationType),
-        Need::Always,
-    ),
-    ("Relationship.EndNode", Shaped(Shape::Code), Need::Always),
-    (
-        "Relationship.RelationshipStatus",
-        Shaped(Shape::RelationStatus),
-        Need::Always,
-    ),
-    (
-        "Relationship.StartDate",
-        Shaped(Shape::Moment),
-        Need::Always,
-    ),
-    (
-        "Relationship.EndDate",
-        Shaped(Shape::Moment),
-        Need::Optional,
-    ),
-    (
-        "Registration.InitialRegistrationDate",
-        Shaped(Shape::Moment),
-        Need::Always,
-    ),
-    (
-        "Registration.LastUpdateDate",
-        Shaped(Shape::Moment),
-        Need::Always,
-    ),
-    (
-        "Registration.RegistrationStatus",
-        Shaped(Shape::RelationRegistration),
-        Need::Always,
-    ),
-    (
-        "Registration.ManagingLOU",
-        Shaped(Shape::Code),
-        Need::Always,
-    ),
-    (
-        "Registration.ValidationSources",
-        Shaped(Shape::Validation),
-        Need::Always,
-    ),
-];
-
-/// The fields of an exception in order of place: the four of its row, and what is to be done with it. The names are
-/// those of the columns of a golden copy of reporting exceptions, but for the last one; shapes and needs are this
-/// project's profile.
-pub const EXCEPTION_FIELDS: [Field; 5] = [
-    ("LEI", Shaped(Shape::Code), Need::Always),
-    (
-        "ExceptionCategory",
-        Shaped(Shape::ExceptionCategory),
-        Need::Always,
-    ),
-    (
-        "ExceptionReason",
-        Shaped(Shape::Reason),
-        Need::UnlessWithdrawn,
-    ),
-    ("ExceptionReference", Shaped(Shape::Free), Need::Optional),
-    ("Action", Action, Need::Optional),
-];
-
-// The fields of a kind of item, lent.
-#[tactic(auto, unfolding(crate::specs::Fields::fields, crate::specs::Fields::relation_fields, crate::specs::Fields::exception_fields))]
-pub fn fields_of(kind: Kind) -> &'static [Field]
-    ensures { map read_field result.now ≡ Fields.fields_of kind }
-{
-    match kind {
-        Kind::Record => &RECORD_FIELDS,
-        Kind::Relation => &RELATION_FIELDS,
-        Kind::Exception => &EXCEPTION_FIELDS,
-    }
-}
-
 impl Kind {
-    /// How many fields an item of this kind may have.
-    pub fn field_count(self) -> usize
-        ensures { result ≡ field_count self }
+    /// The fields that an item of this kind may have, in order of place.
+    #[tactic(auto, unfolding(crate::specs::Fields::fields, crate::specs::Fields::relation_fields, crate::specs::Fields::exception_fields))]
+    pub fn fields(self) -> &'static [Field]
+        ensures table { map read_field result.now ≡ Fields.fields_of self }
+        ensures names { map (λ field. field.0.now) result.now ≡ Fields.names_of self }
     {
         match self {
-            Kind::Record => 28,
-            Kind::Relation => 11,
-            Kind::Exception => 5,
+            Kind::Record => &tables::record::FIELDS,
+            Kind::Relation => &tables::relation::FIELDS,
+            Kind::Exception => &tables::exception::FIELDS,
+        }
+    }
+
+    /// How many they are.
+    pub fn field_count(self) -> usize
+        ensures { result ≡ Fields.field_count self }
+    {
+        match self {
+            Kind::Record => RECORD_PLACES,
+            Kind::Relation => RELATION_PLACES,
+            Kind::Exception => ACTION,
         }
     }
 
@@ -288,9 +82,9 @@ impl Kind {
         ensures { result ≡ Fields.row_len self }
     {
         match self {
-            Kind::Record => 28,
-            Kind::Relation => 11,
-            Kind::Exception => 4,
+            Kind::Record => RECORD_PLACES,
+            Kind::Relation => RELATION_PLACES,
+            Kind::Exception => EXCEPTION_PLACES,
         }
     }
 }

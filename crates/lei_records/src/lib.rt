@@ -8,22 +8,23 @@ mod exception;
 mod fields;
 mod item;
 mod laws;
+pub mod numbers;
+mod places;
 mod readying;
 mod record;
 mod relation;
 mod sheet;
+mod tables;
 #[cfg(test)]
 mod tests;
 mod texts;
 mod view;
 
-pub use check::{CHECK_DIGITS, Check, Detail, FIELD_MISSING, FIELD_SHAPE, FIELD_UNKNOWN};
+pub use check::{Check, Detail};
 pub use exception::ExceptionItem;
-pub use fields::{
-    Content, EXCEPTION_FIELDS, Facts, Field, Kind, Need, RECORD_FIELDS, RELATION_FIELDS,
-};
+pub use fields::{Content, Facts, Field, Kind, Need};
 pub use item::{Fields, Item, RawItem, Readied, Upload};
-pub use laws::{good_items_have_rows, least_unknown_name};
+pub use laws::good_items_have_rows;
 pub use readying::ready;
 pub use record::Record;
 pub use relation::Relation;

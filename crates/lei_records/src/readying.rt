@@ -3,18 +3,22 @@ ghost use Rattle.std.specs.Str.{bytes_eq};
 ghost use Rattle.std.specs.Option.{option_copied};
 ghost use Rattle.lei_shapes.specs.Clock.{moment_text};
 ghost use Rattle.lei_shapes.specs.Moment.{read_moment};
+ghost use Rattle.lei_records.specs.Checks.{IsNumber};
 ghost use Rattle.lei_records.specs.Fields.{field_count, read_field};
 ghost use Rattle.lei_records.specs.Items;
-ghost use Rattle.lei_records.specs.Items.{field_check, failed_check, readied, ready_as};
+ghost use Rattle.lei_records.specs.Items.{failed_check, failed_field, ready_as};
+ghost use Rattle.lei_records.specs.Names.{AreRising};
 ghost use Rattle.lei_records.specs.Sheets;
-ghost use Rattle.lei_records.specs.Sheets.{archival_at, asked, failed_at, first_at, printed_at, read_texts, readied_by};
+ghost use Rattle.lei_records.specs.Sheets.{failed_at, field_fails, first_at, printed_at, read_texts, readied_by};
 ghost use Rattle.lei_records.specs.Spelled.{IsRowOf};
-ghost use Rattle.lei_records.specs.declared.readying.Ask.{Ask};
+ghost use Rattle.lei_records.specs.declared.readying.FieldCheck.{FieldCheck};
 
-use crate::check::{CHECK_DIGITS, Check, Detail, FIELD_MISSING, FIELD_SHAPE, FIELD_UNKNOWN};
+use crate::check::{Check, Detail};
 use crate::exception::ExceptionItem;
-use crate::fields::{Content, Facts, Field, Kind, fields_of};
+use crate::fields::{Content, Facts, Field, Kind};
 use crate::item::{Item, RawItem, Readied};
+use crate::numbers::{CHECK_DIGITS, FIELD_MISSING, FIELD_SHAPE, FIELD_UNKNOWN};
+use crate::places;
 use crate::record::Record;
 use crate::relation::Relation;
 use crate::sheet::sheet_of;
@@ -38,6 +42,7 @@ pub fn ready(alloc: Global, raw: &RawItem) -> Result<Readied, NoMemory>
 // C01, and then the checks after it.
 #[tactic(auto, unfolding(crate::specs::Items::failed_check))]
 fn by_names(alloc: Global, kind: Kind, pairs: &[(Text, Text)]) -> Result<Readied, NoMemory>
+    requires { AreRising pairs.now }
     ensures { IfOk result (λ item. item ≡ ready_as kind pairs.now) }
 {
     let sheet = sheet_of(kind, pairs);
@@ -53,7 +58,7 @@ fn by_presence(alloc: Global, kind: Kind, texts: &[&str]) -> Result<Readied, NoM
     requires { length texts.now ≡ field_count kind }
     ensures { let row = read_texts texts.now in IfOk result (λ item. item ≡ readied_by kind row (failed_at kind row)) }
 {
-    match first_failing(Ask::Presence, kind, texts) {
+    match first_failing(FieldCheck::Presence, kind, texts) {
         Some(name) => bad(alloc, FIELD_MISSING, name),
         None => by_shapes(alloc, kind, texts),
     }
@@ -63,10 +68,10 @@ fn by_presence(alloc: Global, kind: Kind, texts: &[&str]) -> Result<Readied, NoM
 #[tactic(auto, unfolding(crate::specs::Sheets::failed_at))]
 fn by_shapes(alloc: Global, kind: Kind, texts: &[&str]) -> Result<Readied, NoMemory>
     requires places { length texts.now ≡ field_count kind }
-    requires present { first_at Ask.Presence kind (read_texts texts.now) ≡ None }
+    requires present { first_at FieldCheck.Presence kind (read_texts texts.now) ≡ None }
     ensures { let row = read_texts texts.now in IfOk result (λ item. item ≡ readied_by kind row (failed_at kind row)) }
 {
-    match first_failing(Ask::Shape, kind, texts) {
+    match first_failing(FieldCheck::Shape, kind, texts) {
         Some(name) => bad(alloc, FIELD_SHAPE, name),
         None => by_digits(alloc, kind, texts),
     }
@@ -76,18 +81,19 @@ fn by_shapes(alloc: Global, kind: Kind, texts: &[&str]) -> Result<Readied, NoMem
 #[tactic(auto, unfolding(crate::specs::Sheets::failed_at))]
 fn by_digits(alloc: Global, kind: Kind, texts: &[&str]) -> Result<Readied, NoMemory>
     requires places { length texts.now ≡ field_count kind }
-    requires present { first_at Ask.Presence kind (read_texts texts.now) ≡ None }
-    requires shaped { first_at Ask.Shape kind (read_texts texts.now) ≡ None }
+    requires present { first_at FieldCheck.Presence kind (read_texts texts.now) ≡ None }
+    requires shaped { first_at FieldCheck.Shape kind (read_texts texts.now) ≡ None }
     ensures { let row = read_texts texts.now in IfOk result (λ item. item ≡ readied_by kind row (failed_at kind row)) }
 {
-    match first_failing(Ask::Digits, kind, texts) {
+    match first_failing(FieldCheck::Digits, kind, texts) {
         Some(name) => bad(alloc, CHECK_DIGITS, name),
         None => good(alloc, kind, texts),
     }
 }
 
 fn bad(alloc: Global, code: u8, name: &str) -> Result<Readied, NoMemory>
-    ensures { IfOk result (λ item. item ≡ Readied.Bad (field_check code name.now)) }
+    requires { IsNumber code }
+    ensures { IfOk result (λ item. item ≡ Readied.Bad (failed_field code name.now)) }
 {
     let detail = Detail::Field(Text::copy_of(alloc, name)?);
     Ok(Readied::Bad(Check { code, detail }))
@@ -95,9 +101,9 @@ fn bad(alloc: Global, code: u8, name: &str) -> Result<Readied, NoMemory>
 
 fn good(alloc: Global, kind: Kind, texts: &[&str]) -> Result<Readied, NoMemory>
     requires places { length texts.now ≡ field_count kind }
-    requires present { first_at Ask.Presence kind (read_texts texts.now) ≡ None }
-    requires shaped { first_at Ask.Shape kind (read_texts texts.now) ≡ None }
-    requires checked { first_at Ask.Digits kind (read_texts texts.now) ≡ None }
+    requires present { first_at FieldCheck.Presence kind (read_texts texts.now) ≡ None }
+    requires shaped { first_at FieldCheck.Shape kind (read_texts texts.now) ≡ None }
+    requires checked { first_at FieldCheck.Digits kind (read_texts texts.now) ≡ None }
     ensures { let row = read_texts texts.now in IfOk result (λ item. item ≡ readied_by kind row None) }
 {
     let row = printed_texts(alloc, kind, texts)?;
@@ -116,27 +122,27 @@ fn item_of(kind: Kind, withdraws: bool, row: Vec<Text>) -> Item
     }
 }
 
-// What a check of single fields asks of one.
+// The checks of single fields, C02 to C04.
 #[derive(Clone, Copy)]
-pub enum Ask {
-    /// Whether a needed field is absent.
+pub enum FieldCheck {
+    /// A needed field is absent.
     Presence,
-    /// Whether a field stands, and has another shape or may not stand there.
+    /// A field stands, and has another shape or may not stand there.
     Shape,
-    /// Whether a code has wrong check digits.
+    /// A code has wrong check digits.
     Digits,
 }
 
-// The first field of which the answer is yes.
+// The first field that fails the check.
 #[tactic(auto, unfolding(crate::specs::Sheets::first_at))]
-fn first_failing(ask: Ask, kind: Kind, texts: &[&str]) -> Option<&'static str>
+fn first_failing(check: FieldCheck, kind: Kind, texts: &[&str]) -> Option<&'static str>
     requires { length texts.now ≡ field_count kind }
-    ensures { option_copied result ≡ first_at ask kind (read_texts texts.now) }
+    ensures { option_copied result ≡ first_at check kind (read_texts texts.now) }
 {
     let facts = facts_at(kind, texts);
-    let table = fields_of(kind);
+    let table = kind.fields();
     for (index, field) in table.iter().enumerate() {
-        if fails(ask, facts, field, texts[index]) {
+        if fails(check, facts, field, texts[index]) {
             return Some(field.0);
         }
     }
@@ -150,16 +156,16 @@ fn facts_at(kind: Kind, texts: &[&str]) -> Facts
 {
     match kind {
         Kind::Record => Facts {
-            archival: is_archival(texts[23]),
+            archival: is_archival(texts[places::STATUS - 1]),
             withdrawal: false,
         },
         Kind::Relation => Facts {
-            archival: is_archival(texts[8]),
+            archival: is_archival(texts[places::REGISTRATION - 1]),
             withdrawal: false,
         },
         Kind::Exception => Facts {
             archival: false,
-            withdrawal: texts[4] == "WITHDRAW",
+            withdrawal: texts[places::ACTION - 1] == "WITHDRAW",
         },
     }
 }
@@ -171,13 +177,13 @@ fn is_archival(status: &str) -> bool
     status == "PENDING_ARCHIVAL"
 }
 
-fn fails(ask: Ask, facts: Facts, field: &Field, text: &str) -> bool
-    ensures { result ≡ asked ask facts (read_field field.now) text.now }
+fn fails(check: FieldCheck, facts: Facts, field: &Field, text: &str) -> bool
+    ensures { result ≡ field_fails check facts (read_field field.now) text.now }
 {
-    match ask {
-        Ask::Presence => field.2.is_needed(facts) && text.is_empty(),
-        Ask::Shape => !text.is_empty() && !(field.1.fits(text) && field.2.may_stand(facts)),
-        Ask::Digits => field.1.is_code() && has_other_remainder(text),
+    match check {
+        FieldCheck::Presence => field.2.is_needed(facts) && text.is_empty(),
+        FieldCheck::Shape => !text.is_empty() && !(field.1.fits(text) && field.2.may_stand(facts)),
+        FieldCheck::Digits => field.1.is_code() && has_other_remainder(text),
     }
 }
 
@@ -193,17 +199,17 @@ fn printed_texts(alloc: Global, kind: Kind, texts: &[&str]) -> Result<Vec<Text>,
     requires { length texts.now ≡ field_count kind }
     ensures { IfOk result (λ row. row.items ≡ printed_at kind (read_texts texts.now)) }
 {
-    let table = &fields_of(kind)[..kind.row_len()];
+    let table = &kind.fields()[..kind.row_len()];
     let mut row = Vec::with_capacity(alloc, table.len())?;
     for (index, field) in table.iter().enumerate() {
-        row.push(kept(alloc, field.1, texts[index])?)?;
+        row.push(row_text(alloc, field.1, texts[index])?)?;
     }
     Ok(row)
 }
 
 // The text of a field as a row has it.
-fn kept(alloc: Global, content: Content, text: &str) -> Result<Text, NoMemory>
-    ensures { IfOk result (λ made. made ≡ Items.kept content text.now) }
+fn row_text(alloc: Global, content: Content, text: &str) -> Result<Text, NoMemory>
+    ensures { IfOk result (λ made. made ≡ Items.row_text content text.now) }
 {
     match content {
         Content::Shaped(Shape::Moment) if !text.is_empty() => moment_text(alloc, text),

@@ -1,9 +1,10 @@
-ghost use Rattle.std.specs.Prelude.{◌≡◌, ◌≤◌, length, IfOk, IsSome, Some, option_and_then};
-ghost use Rattle.lei_shapes.specs.Lists.{record_status_of, entity_status_of, category_of};
-ghost use Rattle.lei_shapes.specs.Moment.{read_moment};
+ghost use Rattle.std.specs.Prelude.{◌≡◌, ◌≤◌, IfOk};
+ghost use Rattle.lei_records.specs.Cells;
+ghost use Rattle.lei_records.specs.Places.{record_places};
 ghost use Rattle.lei_records.specs.Rows.{text_at};
-ghost use Rattle.lei_records.specs.Spelled.{IsRow, present};
+ghost use Rattle.lei_records.specs.Spelled.{IsRow};
 
+use crate::places;
 use crate::texts::{code_at, copied, moment_at, present_code_at, present_moment_at, text_at};
 use lei_code::Lei;
 use lei_outside::{NoMemory, Text};
@@ -70,17 +71,17 @@ impl Record {
         ensures { result ≡ texts.items }
     {
         Record {
-            lei: code_at(&texts, 1),
-            category: category_at(&texts, 17),
-            entity_status: entity_status_at(&texts, 19),
-            created: present_moment_at(&texts, 20),
-            successor: present_code_at(&texts, 21),
-            initial: moment_at(&texts, 22),
-            updated: moment_at(&texts, 23),
-            status: status_at(&texts, 24),
-            renewal: moment_at(&texts, 25),
-            manager: code_at(&texts, 26),
-            transfer_to: present_code_at(&texts, 28),
+            lei: code_at(&texts, places::LEI),
+            category: category_of(&texts),
+            entity_status: entity_status_of(&texts),
+            created: present_moment_at(&texts, places::CREATED),
+            successor: present_code_at(&texts, places::SUCCESSOR),
+            initial: moment_at(&texts, places::INITIAL),
+            updated: moment_at(&texts, places::UPDATED),
+            status: status_of(&texts),
+            renewal: moment_at(&texts, places::RENEWAL),
+            manager: code_at(&texts, places::MANAGER),
+            transfer_to: present_code_at(&texts, places::TRANSFER_TO),
             texts,
         }
     }
@@ -88,7 +89,7 @@ impl Record {
     /// The text of a field, by its place from 1 to 28: the empty text where the field is absent.
     pub fn field(&self, place: u8) -> &str
         requires first { 1 ≤ place }
-        requires last { place ≤ 28 }
+        requires last { place ≤ record_places }
         ensures value { result.now ≡ text_at self.now place }
         ensures row { IsRow self.now }
     {
@@ -97,7 +98,7 @@ impl Record {
 
     /// The entity's code: the field LEI.
     pub fn lei(&self) -> Lei
-        ensures value { result ≡ text_at self.now 1 }
+        ensures value { result ≡ Cells.lei_in self.now }
         ensures row { IsRow self.now }
     {
         self.lei
@@ -105,70 +106,85 @@ impl Record {
 
     /// The status of its registration: the field Registration.RegistrationStatus.
     pub fn status(&self) -> RecordStatus
-        ensures { record_status_of (text_at self.now 24) ≡ Some result }
+        ensures { result ≡ Cells.status_in self.now }
     {
         self.status
     }
 
     /// Whether the entity is active: the field Entity.EntityStatus.
     pub fn entity_status(&self) -> EntityStatus
-        ensures { entity_status_of (text_at self.now 19) ≡ Some result }
+        ensures { result ≡ Cells.entity_status_in self.now }
     {
         self.entity_status
     }
 
     /// What kind of entity it is: the field Entity.EntityCategory.
     pub fn category(&self) -> Category
-        ensures { category_of (text_at self.now 17) ≡ Some result }
+        ensures { result ≡ Cells.category_in self.now }
     {
         self.category
     }
 
-    /// The office that manages the record: the field Registration.ManagingLOU.
+    /// The registration authority: the field Entity.RegistrationAuthority.RegistrationAuthorityID.
+    pub fn authority(&self) -> &str
+        ensures { result.now ≡ Cells.authority_in self.now }
+    {
+        text_at(&self.texts, places::AUTHORITY)
+    }
+
+    /// The authority's id of the entity: the field Entity.RegistrationAuthority.RegistrationAuthorityEntityID. The empty
+    /// text where it is absent.
+    pub fn authority_id(&self) -> &str
+        ensures { result.now ≡ Cells.authority_id_in self.now }
+    {
+        text_at(&self.texts, places::AUTHORITY_ID)
+    }
+
+    /// The issuer that manages the record: the field Registration.ManagingLOU.
     pub fn manager(&self) -> Lei
-        ensures { result ≡ text_at self.now 26 }
+        ensures { result ≡ Cells.manager_in self.now }
     {
         self.manager
     }
 
     /// The entity that followed this one: the field Entity.SuccessorEntity.1.SuccessorLEI.
     pub fn successor(&self) -> Option<Lei>
-        ensures { result ≡ present (text_at self.now 21) }
+        ensures { result ≡ Cells.successor_in self.now }
     {
         self.successor
     }
 
-    /// The office that the record is handed over to: the field Register.TransferTo.
+    /// The issuer that the record is handed over to: the field Register.TransferTo.
     pub fn transfer_to(&self) -> Option<Lei>
-        ensures { result ≡ present (text_at self.now 28) }
+        ensures { result ≡ Cells.receiver_in self.now }
     {
         self.transfer_to
     }
 
     /// When it was first registered: the field Registration.InitialRegistrationDate.
     pub fn initial(&self) -> Moment
-        ensures { read_moment (text_at self.now 22) ≡ Some result }
+        ensures { result ≡ Cells.initial_in self.now }
     {
         self.initial
     }
 
     /// When it was last changed: the field Registration.LastUpdateDate.
     pub fn updated(&self) -> Moment
-        ensures { read_moment (text_at self.now 23) ≡ Some result }
+        ensures { result ≡ Cells.updated_in self.now }
     {
         self.updated
     }
 
     /// When its registration is to be renewed: the field Registration.NextRenewalDate.
     pub fn renewal(&self) -> Moment
-        ensures { read_moment (text_at self.now 25) ≡ Some result }
+        ensures { result ≡ Cells.renewal_in self.now }
     {
         self.renewal
     }
 
     /// When the entity was created: the field Entity.EntityCreationDate.
     pub fn created(&self) -> Option<Moment>
-        ensures { result ≡ option_and_then read_moment (present (text_at self.now 20)) }
+        ensures { result ≡ Cells.created_in self.now }
     {
         self.created
     }
@@ -195,38 +211,35 @@ impl Record {
     }
 }
 
-fn status_at(texts: &[Text], place: usize) -> RecordStatus
-    requires first { 1 ≤ place }
-    requires last { place ≤ length texts.now }
-    requires listed { IsSome (record_status_of (text_at texts.now place)) }
-    ensures { record_status_of (text_at texts.now place) ≡ Some result }
+#[tactic(auto, unfolding(crate::specs::Cells::status_in))]
+fn status_of(texts: &[Text]) -> RecordStatus
+    requires { IsRow texts.now }
+    ensures { result ≡ Cells.status_in texts.now }
 {
-    match RecordStatus::read(text_at(texts, place)) {
-        Some(status) => status,
+    match RecordStatus::read(text_at(texts, places::STATUS)) {
+        Some(value) => value,
         None => unreachable!(),
     }
 }
 
-fn entity_status_at(texts: &[Text], place: usize) -> EntityStatus
-    requires first { 1 ≤ place }
-    requires last { place ≤ length texts.now }
-    requires listed { IsSome (entity_status_of (text_at texts.now place)) }
-    ensures { entity_status_of (text_at texts.now place) ≡ Some result }
+#[tactic(auto, unfolding(crate::specs::Cells::entity_status_in))]
+fn entity_status_of(texts: &[Text]) -> EntityStatus
+    requires { IsRow texts.now }
+    ensures { result ≡ Cells.entity_status_in texts.now }
 {
-    match EntityStatus::read(text_at(texts, place)) {
-        Some(status) => status,
+    match EntityStatus::read(text_at(texts, places::ENTITY_STATUS)) {
+        Some(value) => value,
         None => unreachable!(),
     }
 }
 
-fn category_at(texts: &[Text], place: usize) -> Category
-    requires first { 1 ≤ place }
-    requires last { place ≤ length texts.now }
-    requires listed { IsSome (category_of (text_at texts.now place)) }
-    ensures { category_of (text_at texts.now place) ≡ Some result }
+#[tactic(auto, unfolding(crate::specs::Cells::category_in))]
+fn category_of(texts: &[Text]) -> Category
+    requires { IsRow texts.now }
+    ensures { result ≡ Cells.category_in texts.now }
 {
-    match Category::read(text_at(texts, place)) {
-        Some(category) => category,
+    match Category::read(text_at(texts, places::CATEGORY)) {
+        Some(value) => value,
         None => unreachable!(),
     }
 }

@@ -1,9 +1,10 @@
-ghost use Rattle.std.specs.Prelude.{◌≡◌, ◌≤◌, length, IfOk, IsSome, Some, option_and_then};
-ghost use Rattle.lei_shapes.specs.Lists.{relation_type_of, relation_status_of, relation_registration_of};
-ghost use Rattle.lei_shapes.specs.Moment.{read_moment};
+ghost use Rattle.std.specs.Prelude.{◌≡◌, ◌≤◌, IfOk};
+ghost use Rattle.lei_records.specs.Places.{relation_places};
+ghost use Rattle.lei_records.specs.Relations;
 ghost use Rattle.lei_records.specs.Rows.{text_at};
-ghost use Rattle.lei_records.specs.Spelled.{IsRelationRow, present};
+ghost use Rattle.lei_records.specs.Spelled.{IsRelationRow};
 
+use crate::places;
 use crate::texts::{code_at, copied, moment_at, present_moment_at, text_at};
 use lei_code::Lei;
 use lei_outside::{NoMemory, Text};
@@ -69,16 +70,16 @@ impl Relation {
         ensures { result ≡ texts.items }
     {
         Relation {
-            start: code_at(&texts, 1),
-            kind: kind_at(&texts, 2),
-            end: code_at(&texts, 3),
-            status: status_at(&texts, 4),
-            start_date: moment_at(&texts, 5),
-            end_date: present_moment_at(&texts, 6),
-            initial: moment_at(&texts, 7),
-            updated: moment_at(&texts, 8),
-            registration: registration_at(&texts, 9),
-            manager: code_at(&texts, 10),
+            start: code_at(&texts, places::START),
+            kind: kind_of(&texts),
+            end: code_at(&texts, places::END),
+            status: status_of(&texts),
+            start_date: moment_at(&texts, places::START_DATE),
+            end_date: present_moment_at(&texts, places::END_DATE),
+            initial: moment_at(&texts, places::RELATION_INITIAL),
+            updated: moment_at(&texts, places::RELATION_UPDATED),
+            registration: registration_of(&texts),
+            manager: code_at(&texts, places::RELATION_MANAGER),
             texts,
         }
     }
@@ -86,7 +87,7 @@ impl Relation {
     /// The text of a field, by its place from 1 to 11: the empty text where the field is absent.
     pub fn field(&self, place: u8) -> &str
         requires first { 1 ≤ place }
-        requires last { place ≤ 11 }
+        requires last { place ≤ relation_places }
         ensures value { result.now ≡ text_at self.now place }
         ensures row { IsRelationRow self.now }
     {
@@ -95,7 +96,7 @@ impl Relation {
 
     /// The entity that it starts at: the field Relationship.StartNode.
     pub fn start(&self) -> Lei
-        ensures value { result ≡ text_at self.now 1 }
+        ensures value { result ≡ Relations.start_in self.now }
         ensures row { IsRelationRow self.now }
     {
         self.start
@@ -103,63 +104,70 @@ impl Relation {
 
     /// How the start is related to the end: the field Relationship.RelationshipType.
     pub fn kind(&self) -> RelationType
-        ensures { relation_type_of (text_at self.now 2) ≡ Some result }
+        ensures { result ≡ Relations.kind_in self.now }
     {
         self.kind
     }
 
     /// The entity that it ends at: the field Relationship.EndNode.
     pub fn end(&self) -> Lei
-        ensures { result ≡ text_at self.now 3 }
+        ensures { result ≡ Relations.end_in self.now }
     {
         self.end
     }
 
     /// Whether the relationship is active: the field Relationship.RelationshipStatus.
     pub fn status(&self) -> RelationStatus
-        ensures { relation_status_of (text_at self.now 4) ≡ Some result }
+        ensures { result ≡ Relations.relation_status_in self.now }
     {
         self.status
     }
 
+    /// The same as a yes or no.
+    pub fn is_active(&self) -> bool
+        ensures { result ≡ Relations.is_active self.now }
+    {
+        is_active_status(self.status)
+    }
+
     /// When the relationship began: the field Relationship.StartDate.
     pub fn start_date(&self) -> Moment
-        ensures { read_moment (text_at self.now 5) ≡ Some result }
+        ensures { result ≡ Relations.started_in self.now }
     {
         self.start_date
     }
 
     /// When it ended: the field Relationship.EndDate.
     pub fn end_date(&self) -> Option<Moment>
-        ensures { result ≡ option_and_then read_moment (present (text_at self.now 6)) }
+        ensures { result ≡ Relations.ended_in self.now }
     {
         self.end_date
     }
 
     /// When it was first registered: the field Registration.InitialRegistrationDate.
     pub fn initial(&self) -> Moment
-        ensures { read_moment (text_at self.now 7) ≡ Some result }
+        ensures { result ≡ Relations.relation_initial_in self.now }
     {
         self.initial
     }
 
     /// When it was last changed: the field Registration.LastUpdateDate.
     pub fn updated(&self) -> Moment
-        ensures { read_moment (text_at self.now 8) ≡ Some result }
+        ensures { result ≡ Relations.relation_updated_in self.now }
     {
         self.updated
     }
 
     /// The status of its registration: the field Registration.RegistrationStatus.
     pub fn registration(&self) -> RelationRegistration
-        ensures { relation_registration_of (text_at self.now 9) ≡ Some result }
+        ensures { result ≡ Relations.registration_in self.now }
     {
         self.registration
     }
 
-    /// The office that manages it: the field Registration.ManagingLOU.
+    /// The issuer that manages it: the field Registration.ManagingLOU.
     pub fn manager(&self) -> Lei
-        ensures { result ≡ text_at self.now 10 }
+        ensures { result ≡ Relations.relation_manager_in self.now }
     {
         self.manager
     }
@@ -185,38 +193,41 @@ impl Relation {
     }
 }
 
-fn kind_at(texts: &[Text], place: usize) -> RelationType
-    requires first { 1 ≤ place }
-    requires last { place ≤ length texts.now }
-    requires listed { IsSome (relation_type_of (text_at texts.now place)) }
-    ensures { relation_type_of (text_at texts.now place) ≡ Some result }
+fn is_active_status(status: RelationStatus) -> bool
+    ensures { result ≡ Relations.is_active_status status }
 {
-    match RelationType::read(text_at(texts, place)) {
-        Some(kind) => kind,
+    status == RelationStatus::Active
+}
+
+#[tactic(auto, unfolding(crate::specs::Relations::kind_in))]
+fn kind_of(texts: &[Text]) -> RelationType
+    requires { IsRelationRow texts.now }
+    ensures { result ≡ Relations.kind_in texts.now }
+{
+    match RelationType::read(text_at(texts, places::TYPE)) {
+        Some(value) => value,
         None => unreachable!(),
     }
 }
 
-fn status_at(texts: &[Text], place: usize) -> RelationStatus
-    requires first { 1 ≤ place }
-    requires last { place ≤ length texts.now }
-    requires listed { IsSome (relation_status_of (text_at texts.now place)) }
-    ensures { relation_status_of (text_at texts.now place) ≡ Some result }
+#[tactic(auto, unfolding(crate::specs::Relations::relation_status_in))]
+fn status_of(texts: &[Text]) -> RelationStatus
+    requires { IsRelationRow texts.now }
+    ensures { result ≡ Relations.relation_status_in texts.now }
 {
-    match RelationStatus::read(text_at(texts, place)) {
-        Some(status) => status,
+    match RelationStatus::read(text_at(texts, places::RELATION_STATUS)) {
+        Some(value) => value,
         None => unreachable!(),
     }
 }
 
-fn registration_at(texts: &[Text], place: usize) -> RelationRegistration
-    requires first { 1 ≤ place }
-    requires last { place ≤ length texts.now }
-    requires listed { IsSome (relation_registration_of (text_at texts.now place)) }
-    ensures { relation_registration_of (text_at texts.now place) ≡ Some result }
+#[tactic(auto, unfolding(crate::specs::Relations::registration_in))]
+fn registration_of(texts: &[Text]) -> RelationRegistration
+    requires { IsRelationRow texts.now }
+    ensures { result ≡ Relations.registration_in texts.now }
 {
-    match RelationRegistration::read(text_at(texts, place)) {
-        Some(status) => status,
+    match RelationRegistration::read(text_at(texts, places::REGISTRATION)) {
+        Some(value) => value,
         None => unreachable!(),
     }
 }

@@ -1,17 +1,19 @@
 ghost use Rattle.std.specs.Prelude.{◌≡◌, ◌<◌, is_some, take, IfSome, slice_index_or};
 ghost use Rattle.std.specs.Option.{option_copied};
-ghost use Rattle.lei_records.specs.Items.{is_field, unknown_name};
+ghost use Rattle.lei_records.specs.Items.{is_field};
 ghost use Rattle.lei_records.specs.Fields.{field_count, names_of};
-ghost use Rattle.lei_records.specs.Sheets.{read_texts, texts_of};
+ghost use Rattle.lei_records.specs.Places.{record_places};
+ghost use Rattle.lei_records.specs.Sheets.{first_unknown, read_texts, texts_of};
 
-use crate::fields::{Kind, fields_of};
+use crate::fields::Kind;
+use crate::places::RECORD_PLACES;
 use lei_outside::Text;
 
 // What an item has under the names of fields, and the name that it should not have.
 #[derive(Drop)]
 pub struct Sheet<'a> {
     // The texts of the fields in order of place: the empty text where a field is absent, and behind the last field.
-    pub texts: [&'a str; 28],
+    pub texts: [&'a str; RECORD_PLACES],
     // The first name that is no field's.
     pub unknown: Option<&'a str>,
 }
@@ -19,15 +21,15 @@ pub struct Sheet<'a> {
 // Puts each text at the place of its name. From the last pair to the first, so that the first stands.
 pub fn sheet_of(kind: Kind, pairs: &[(Text, Text)]) -> Sheet<'_>
     ensures texts { take (field_count kind) (read_texts result.texts) ≡ texts_of kind pairs.now }
-    ensures unknown { option_copied result.unknown ≡ unknown_name kind pairs.now }
+    ensures unknown { option_copied result.unknown ≡ first_unknown kind pairs.now }
 {
-    let mut texts = [""; 28];
+    let mut texts = [""; RECORD_PLACES];
     let mut unknown = None;
     for index in (0..pairs.len()).rev() {
         let pair = &pairs[index];
         let name = pair.0.as_str();
-        match place_of(kind, name) {
-            Some(place) => texts[place] = pair.1.as_str(),
+        match index_of(kind, name) {
+            Some(at) => texts[at] = pair.1.as_str(),
             None => unknown = Some(name),
         }
     }
@@ -35,12 +37,12 @@ pub fn sheet_of(kind: Kind, pairs: &[(Text, Text)]) -> Sheet<'_>
 }
 
 // The index of the field with this name.
-fn place_of(kind: Kind, name: &str) -> Option<usize>
+fn index_of(kind: Kind, name: &str) -> Option<usize>
     ensures known { is_some result ≡ is_field kind name.now }
-    ensures place { IfSome result (λ index. (index < field_count kind) × (slice_index_or (names_of kind) index name.now ≡ name.now)) }
-    ensures bound { IfSome result (λ index. index < 28) }
+    ensures index { IfSome result (λ index. (index < field_count kind) × (slice_index_or (names_of kind) index name.now ≡ name.now)) }
+    ensures bound { IfSome result (λ index. index < record_places) }
 {
-    let table = fields_of(kind);
+    let table = kind.fields();
     for (index, field) in table.iter().enumerate() {
         if field.0 == name {
             return Some(index);

@@ -1,9 +1,9 @@
 //! What the texts of a row spell, by place.
-ghost use Rattle.std.specs.Prelude.{◌≡◌, ◌≤◌, length, IfOk, IfSome, Some, option_and_then};
+ghost use Rattle.std.specs.Prelude.{◌≡◌, ◌≤◌, length, IfOk, IfSome, option_and_then};
 ghost use Rattle.lei_code.specs.Code.{IsValid};
 ghost use Rattle.lei_shapes.specs.Moment.{read_moment};
 ghost use Rattle.lei_records.specs.Rows.{text_at};
-ghost use Rattle.lei_records.specs.Spelled.{IsPrinted, present};
+ghost use Rattle.lei_records.specs.Spelled.{IsPrinted, moment_in, present};
 
 use lei_code::Lei;
 use lei_outside::{NoMemory, Text};
@@ -57,11 +57,12 @@ pub fn present_code_at(texts: &[Text], place: usize) -> Option<Lei>
 }
 
 // The moment that the text at a place reads as.
+#[tactic(auto, unfolding(crate::specs::Spelled::moment_in))]
 pub fn moment_at(texts: &[Text], place: usize) -> Moment
     requires first { 1 ≤ place }
     requires last { place ≤ length texts.now }
     requires printed { IsPrinted (text_at texts.now place) }
-    ensures { read_moment (text_at texts.now place) ≡ Some result }
+    ensures { result ≡ moment_in texts.now place }
 {
     match Moment::read(text_at(texts, place)) {
         Some(moment) => moment,

@@ -84,7 +84,7 @@ impl<W> StdSink<W> {
 }
 
 impl<W: Write> Sink for StdSink<W> {
-    ghost taken = { λ _. None };
+    ghost written = { λ _. None };
 
     ghost faults = { λ sink. sink.1 };
 

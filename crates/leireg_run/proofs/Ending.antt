@@ -3,7 +3,7 @@ use Rattle.std.proofs.Common.{◌≡◌, ℕ, ℤ, ◌+◌, ◌<◌, ◌≤◌, 
 use Rattle.std.proofs.lemmas.List.{append-nil, take-append-le}
 use Rattle.std.proofs.Math.Seq.{take-length}
 use Rattle.std.specs.Str.Lines.{lines}
-use Rattle.lei_outside.specs.Told.{Grows, Loses, IsAtEnd, TakesFront}
+use Rattle.lei_outside.specs.Told.{Grows, Loses, IsAtEnd, WritesFront}
 use Rattle.lei_outside.specs.declared.faults.SinkFault.{SinkFault}
 use Rattle.lei_outside.proofs.Told.{Grows-none, Grows-join, Loses-none, Loses-join}
 use Rattle.lei_office.specs.declared.request.Asked.{Asked}
@@ -193,18 +193,18 @@ pub takes_in : (begin : Outside) (mid left : Option (List ℕ)) (count n most se
     → seen ≡ length held → Midway begin mid count now skips held → Fills mid left held window n most → count + n < input_limit
     → Goes {E = SinkFault} seen skips window now (Ok (tt {0})) then skips_now held_now → Midway begin left (count + n) then skips_now held_now
 takes_in begin mid left count n most seen now then skips skips_now held window held_now same at fills below goes =
-    let taken = goes_so begin mid left count n most seen now then skips skips_now held window held_now (Ok (tt {0})) same at fills goes in
-    let all = further begin mid left count n most seen now then skips held window (Ok (tt {0})) taken.0 taken.1 same at fills taken.2 taken.3 taken.4 in
+    let went = goes_so begin mid left count n most seen now then skips skips_now held window held_now (Ok (tt {0})) same at fills goes in
+    let all = further begin mid left count n most seen now then skips held window (Ok (tt {0})) went.0 went.1 same at fills went.2 went.3 went.4 in
     record {
       read = all.read;
       front = all.front;
-      part = taken.1;
+      part = went.1;
       long = all.long;
       below = below;
       loses = all.loses;
       parts = all.parts;
       answered = record { closed = all.closed; done = all.done };
-      holds = taken.5;
+      holds = went.5;
     }
 
 -- what the lines are
@@ -241,14 +241,14 @@ record Stopped (before after : Option (List ℕ)) (moments : List ℤ) (all : Li
   answers : AnswersFront all moments written
 
 stopped_at : (before after : Option (List ℕ)) (answered left : List Line) (moments : List ℤ) (texts : List ℕ) (new : OfficeState)
-    → Answers first_office answered moments texts new → TakesFront before after texts → Stopped before after moments (answered ++ left)
+    → Answers first_office answered moments texts new → WritesFront before after texts → Stopped before after moments (answered ++ left)
 stopped_at before after answered left moments texts new run front =
     record { written = take front.0 texts; grows = front.2; answers = AnswersFront-of answered left moments texts new front.0 run }
 
 -- what a run that the output stopped has read, and which of the lines that ended were answered
 stops_within : (begin : Outside) (left : Option (List ℕ)) (now : Progress) (written : Option (List ℕ)) (status : ℕ) (read front rest : List ℕ) (moments : List ℤ) (texts : List ℕ)
     → IsCause status → length read < input_limit → Loses begin.left left read → read ≡ front ++ rest → IsClosed front → Gives begin.given now.given moments
-    → Answers first_office (lines front) moments texts now.office → TakesFront begin.written written texts → RunsLines begin (left_so left now written) status
+    → Answers first_office (lines front) moments texts now.office → WritesFront begin.written written texts → RunsLines begin (left_so left now written) status
 stops_within begin left now written status read front rest moments texts cause below loses parts closed gives answers took =
     let S : List Line → Type 0 = λ ls. Stopped begin.written written moments ls in
     let stopped = subst S (sym (lines-behind read front rest parts closed)) (stopped_at begin.written written (lines front) (lines (whole_part rest)) moments texts now.office answers took) in
@@ -283,10 +283,10 @@ ends_at_once begin status cause =
 
 -- the output refused what waited
 pub stops_waiting : (begin : Outside) (left : Option (List ℕ)) (count : ℕ) (now : Progress) (written : Option (List ℕ)) (skips : Bool) (held : List ℕ) (status : ℕ) → IsCause status
-    → Midway begin left count now skips held → TakesFront now.written written now.waits → RunsLines begin (left_so left now written) status
+    → Midway begin left count now skips held → WritesFront now.written written now.waits → RunsLines begin (left_so left now written) status
 stops_waiting begin left count now written skips held status cause at front =
     let done = at.answered.done in
-    let T : List ℕ → Type 0 = λ xs. TakesFront begin.written written xs in
+    let T : List ℕ → Type 0 = λ xs. WritesFront begin.written written xs in
     let took = subst T (sym done.puts.2) (Grows-front begin.written now.written written done.puts.0 now.waits done.puts.1 front) in
     let below : length at.read < input_limit = omega (arith, at.long, at.below) in
     stops_within begin left now written status at.read at.front at.part done.moments done.texts cause below at.loses at.parts at.answered.closed done.gives done.answers took
@@ -296,10 +296,10 @@ pub stops_in : (begin : Outside) (mid left : Option (List ℕ)) (count n most se
     (fault : SinkFault) (status : ℕ) → IsCause status → seen ≡ length held → Midway begin mid count now skips held → Fills mid left held window n most → count + n < input_limit
     → Goes seen skips window now (Err fault) then skips_now held_now → RunsLines begin (left_so left then then.written) status
 stops_in begin mid left count n most seen now then skips skips_now held window held_now fault status cause same at fills below goes =
-    let taken = goes_so begin mid left count n most seen now then skips skips_now held window held_now (Err fault) same at fills goes in
-    let all = further begin mid left count n most seen now then skips held window (Err fault) taken.0 taken.1 same at fills taken.2 taken.3 taken.4 in
+    let went = goes_so begin mid left count n most seen now then skips skips_now held window held_now (Err fault) same at fills goes in
+    let all = further begin mid left count n most seen now then skips held window (Err fault) went.0 went.1 same at fills went.2 went.3 went.4 in
     let short : length all.read < input_limit = omega (arith, all.long) in
-    stops_within begin left then then.written status all.read all.front taken.1 all.done.moments all.done.texts cause short all.loses all.parts all.closed all.done.gives all.done.answers all.done.puts
+    stops_within begin left then then.written status all.read all.front went.1 all.done.moments all.done.texts cause short all.loses all.parts all.closed all.done.gives all.done.answers all.done.puts
 
 -- all replies to the lines in front were written
 all_sent : (before after : Option (List ℕ)) (texts waits : List ℕ) → waits ≡ [] → Sends before after texts waits → Grows before after texts
@@ -397,7 +397,7 @@ all_answered begin left now then skips held result end goes =
 
 stops_at_end : (begin : Outside) (left : Option (List ℕ)) (now then : Progress) (written : Option (List ℕ)) (skips : Bool) (held : List ℕ) (status : ℕ) (moments : List ℤ) (texts : List ℕ)
     → IsCause status → (end : AtEnd begin left now skips held) → Gives begin.given then.given moments
-    → Answers first_office (lines end.midway.read) moments texts then.office → TakesFront begin.written written texts → RunsLines begin (left_so left then written) status
+    → Answers first_office (lines end.midway.read) moments texts then.office → WritesFront begin.written written texts → RunsLines begin (left_so left then written) status
 stops_at_end begin left now then written skips held status moments texts cause end gives answers took =
     let at = end.midway in
     let S : List Line → Type 0 = λ ls. Stopped begin.written written moments ls in
@@ -419,11 +419,11 @@ stops_last begin left now then skips held fault status cause end goes =
 
 -- the output refused what waited at the end
 pub stops_sending : (begin : Outside) (left : Option (List ℕ)) (now then : Progress) (written : Option (List ℕ)) (skips : Bool) (held : List ℕ) (status : ℕ) → IsCause status
-    → AtEnd begin left now skips held → AnswersLast {E = SinkFault} skips held now (Ok (tt {0})) then → TakesFront then.written written then.waits
+    → AtEnd begin left now skips held → AnswersLast {E = SinkFault} skips held now (Ok (tt {0})) then → WritesFront then.written written then.waits
     → RunsLines begin (left_so left then written) status
 stops_sending begin left now then written skips held status cause end goes front =
     let all = all_answered {E = SinkFault} begin left now then skips held (Ok (tt {0})) end goes in
-    let T : List ℕ → Type 0 = λ xs. TakesFront begin.written written xs in
+    let T : List ℕ → Type 0 = λ xs. WritesFront begin.written written xs in
     let took = subst T (sym all.puts.2) (Grows-front begin.written then.written written all.puts.0 then.waits all.puts.1 front) in
     stops_at_end begin left now then written skips held status all.moments all.texts cause end all.gives all.answers took
 

@@ -4,10 +4,10 @@ use Rattle.std.proofs.lemmas.List.{append-nil, take-append-le, take-append-drop,
 use Rattle.std.proofs.lemmas.List.Concat.{flat_map-append}
 use Rattle.std.proofs.Math.Seq.{take-append-add}
 use Rattle.lei_outside.proofs.Told.{Grows-none, Grows-join}
-use Rattle.lei_outside.specs.Told.{Grows, TakesFront}
+use Rattle.lei_outside.specs.Told.{Grows, WritesFront}
 use Rattle.leireg_run.specs.Outbox.{Sends, Puts}
 
-pub Grows-front : (a b c : Option (List ℕ)) (xs ys : List ℕ) → Grows a b xs → TakesFront b c ys → TakesFront a c (xs ++ ys)
+pub Grows-front : (a b c : Option (List ℕ)) (xs ys : List ℕ) → Grows a b xs → WritesFront b c ys → WritesFront a c (xs ++ ys)
 Grows-front a b c xs ys first front =
     let n = front.0 in
     let within : length xs + n < length (xs ++ ys) = omega (arith, length-append xs ys, front.1) in
@@ -15,8 +15,8 @@ Grows-front a b c xs ys first front =
     (length xs + n, within, subst P (sym (take-append-add xs ys n)) (Grows-join a b c xs (take n ys) first front.2))
 
 -- a front of a list is a front of a longer one
-pub TakesFront-longer : (a c : Option (List ℕ)) (xs ys : List ℕ) → TakesFront a c xs → TakesFront a c (xs ++ ys)
-TakesFront-longer a c xs ys front =
+pub WritesFront-longer : (a c : Option (List ℕ)) (xs ys : List ℕ) → WritesFront a c xs → WritesFront a c (xs ++ ys)
+WritesFront-longer a c xs ys front =
     let n = front.0 in
     let P : List ℕ → Type 0 = λ zs. Grows a c zs in
     (n, omega (arith, length-append xs ys, front.1), subst P (sym (take-append-le n xs ys (omega (arith, front.1)))) front.2)
@@ -30,9 +30,9 @@ Sends-then a b c all waits piece more first second = (
   ap (λ xs. xs ++ piece) first.2 ∙ (append_assoc first.0 waits piece ∙ (ap (λ xs. first.0 ++ xs) second.2 ∙ sym (append_assoc first.0 second.0 more))),
 )
 
-pub Sends-front : (a b c : Option (List ℕ)) (all waits piece : List ℕ) → Sends a b all waits → TakesFront b c (waits ++ piece) → TakesFront a c (all ++ piece)
+pub Sends-front : (a b c : Option (List ℕ)) (all waits piece : List ℕ) → Sends a b all waits → WritesFront b c (waits ++ piece) → WritesFront a c (all ++ piece)
 Sends-front a b c all waits piece first front =
-    let P : List ℕ → Type 0 = λ xs. TakesFront a c xs in
+    let P : List ℕ → Type 0 = λ xs. WritesFront a c xs in
     subst P (sym (append_assoc first.0 waits piece) ∙ ap (λ xs. xs ++ piece) (sym first.2)) (Grows-front a b c first.0 (waits ++ piece) first.1 front)
 
 pub Puts-then : {T E : Type 0} (a b c : Option (List ℕ)) (all waits piece more : List ℕ) (result : Result T E) → Sends a b all waits → Puts b c (waits ++ piece) result more → Puts a c (all ++ piece) result more
@@ -55,16 +55,16 @@ pieces_rest pieces i = sym (flat_map-append (λ (piece : Bor (List ℕ)). piece.
 
 -- a piece that was refused, and the pieces that were to come after it
 pub refused : (a b c : Option (List ℕ)) (pieces : List (Bor (List ℕ))) (i : ℕ) (d : Bor (List ℕ)) (held waits : List ℕ) → i < length pieces
-    → Sends a b (held ++ flat_map (λ piece. piece.now) (take i pieces)) waits → TakesFront b c (waits ++ (get_or pieces i d).now) → TakesFront a c (held ++ flat_map (λ piece. piece.now) pieces)
+    → Sends a b (held ++ flat_map (λ piece. piece.now) (take i pieces)) waits → WritesFront b c (waits ++ (get_or pieces i d).now) → WritesFront a c (held ++ flat_map (λ piece. piece.now) pieces)
 refused a b c pieces i d held waits within sent front =
     let done = flat_map (λ (piece : Bor (List ℕ)). piece.now) (take i pieces) in
     let here = (get_or pieces i d).now in
     let rest = flat_map (λ (piece : Bor (List ℕ)). piece.now) (drop (i + 1) pieces) in
-    let P : List ℕ → Type 0 = λ xs. TakesFront a c xs in
+    let P : List ℕ → Type 0 = λ xs. WritesFront a c xs in
     let whole : ((held ++ done) ++ here) ++ rest ≡ held ++ flat_map (λ piece. piece.now) pieces =
     ap (λ xs. xs ++ rest) (append_assoc held done here) ∙ (append_assoc held (done ++ here) rest
     ∙ ap (λ xs. held ++ xs) (ap (λ xs. xs ++ rest) (sym (pieces_more pieces i d within)) ∙ pieces_rest pieces (i + 1))) in
-    subst P whole (TakesFront-longer a c ((held ++ done) ++ here) rest (Sends-front a b c (held ++ done) waits here sent front))
+    subst P whole (WritesFront-longer a c ((held ++ done) ++ here) rest (Sends-front a b c (held ++ done) waits here sent front))
 
 -- ---- where nothing waits
 

@@ -5,46 +5,46 @@ use Rattle.lei_code.specs.Fault.{fault_of, character_fault}
 use Rattle.lei_code.specs.Texts.{Text}
 use Rattle.lei_code.specs.declared.fault.LeiFault.{LeiFault}
 use Rattle.lei_code.specs.declared.fault.LeiFault.TheVariants.{Length, Character, CheckDigits}
-use Rattle.lei_outside.specs.Told.{Grows, TakesFront}
+use Rattle.lei_outside.specs.Told.{Grows, WritesFront}
 
--- the words of a fault, with the position of a character that may not stand there, counted from 1
+-- The words of a fault, with the position of a character that may not stand there, counted from 1.
 abbrev pub fault_words : LeiFault → Text
 fault_words Length = codes "LENGTH"
 fault_words (Character position) = codes "CHARACTER " ++ decimal position
 fault_words CheckDigits = codes "CHECK_DIGITS"
 
--- the line of a text, or of the fault that stands in its way
+-- The line of a text, or of the fault that stands in its way.
 abbrev pub line_or : Text → Option LeiFault → Text
 line_or text None = text ++ 10 ∷ []
 line_or text (Some fault) = (codes "refused " ++ fault_words fault) ++ 10 ∷ []
 
--- whether the text is an LEI, or why it is none
+-- Whether the text is an LEI, or why it is none.
 abbrev pub check_line : Text → Text
 check_line text = line_or (codes "valid") (fault_of text)
 
--- Why no check digits are made of a text: it hasn't 18 bytes, or some of them are no characters of an LEI, of which the
--- first is told.
+-- Why no check digits are made of a text: it hasn't 18 bytes, or some of them are no characters of an LEI, of which
+-- the first is told.
 abbrev pub digits_fault : Text → Option LeiFault
 digits_fault text = if length text == 18 then character_fault text else Some Length
 
--- the two check digits that make an LEI of the text (ISO/IEC 7064), or why there are none
+-- The two check digits that make an LEI of the text (ISO/IEC 7064), or why there are none.
 abbrev pub digits_line : Text → Text
 digits_line text = line_or (digits text) (digits_fault text)
 
--- a text was written whole; or the output refused, and took a front of it and not all
+-- A text was written whole; or the output refused, and took a front of it and not all.
 abbrev pub IsWritten : {E : Type 0} → Option (List ℕ) → Option (List ℕ) → Text → Result (Unit {0}) E → Type 0
 IsWritten before after text result =
-    MatchResult result (λ _. Grows before after text) (λ _. TakesFront before after text)
+    MatchResult result (λ _. Grows before after text) (λ _. WritesFront before after text)
 
--- the status where a line is written: 0, or 2 where it tells a fault
+-- The status where a line is written: 0, or 2 where it tells a fault.
 abbrev pub told_status : Option LeiFault → ℕ
 told_status None = 0
 told_status (Some fault) = 2
 
--- how a command that writes this line ends, by its status: the line was written whole; a write failed, or memory was
--- wanted, and a front of the line was written and not all
+-- How a command that writes this line ends, by its status: the line was written whole; a write failed, or memory was
+-- wanted, and a front of the line was written and not all.
 abbrev pub TellsLine : Option LeiFault → Text → Option (List ℕ) → Option (List ℕ) → ℕ → Type 0
 TellsLine fault line before after status =
     ((status ≡ told_status fault) × Grows before after line)
-    ⊎ ((status ≡ 4) × TakesFront before after line)
-    ⊎ ((status ≡ 6) × TakesFront before after line)
+    ⊎ ((status ≡ 4) × WritesFront before after line)
+    ⊎ ((status ≡ 6) × WritesFront before after line)

@@ -19,17 +19,17 @@ use Rattle.leireg_run.specs.Words.{Meant, to_answer_lines, to_check, to_make_dig
 
 -- ---- a run over lines, status by status
 
--- the lines were answered at the moments of the run, from an office without entries, and what was written are the texts
--- of the replies in order
+-- The lines were answered at the moments of the run, from an office without entries, and what was written are the
+-- texts of the replies in order.
 abbrev pub AnswersLines : List Line → Course → Type 0
 AnswersLines asked_lines course =
     (office : OfficeState) × Answers first_office asked_lines course.moments course.written office
 
--- a front of the lines was answered so, and what was written is a front of the texts of the replies
+-- A front of the lines was answered so, and what was written is a front of the texts of the replies.
 abbrev pub AnswersSome : List Line → Course → Type 0
 AnswersSome some_lines course = AnswersFront some_lines course.moments course.written
 
--- fewer bytes were read than end a run
+-- Fewer bytes were read than end a run.
 abbrev pub IsShort : Course → Type 0
 IsShort course = length course.read < input_limit
 
@@ -48,14 +48,14 @@ StopsWriting course after =
     IsShort course × (AnswersSome (lines (whole_part course.read)) course
     ⊎ (IsAtEnd after.left × AnswersSome (lines course.read) course))
 
--- Status 8, the input is too long: as many bytes were read as end a run, and the lines that had ended before the last
--- read were answered.
+-- Status 8, the input is too long: as many bytes were read as end a run, and the lines that had ended before the
+-- last read were answered.
 abbrev pub StopsAtLimit : Course → Type 0
 StopsAtLimit course =
     (before : List ℕ) × (last : List ℕ) × (course.read ≡ before ++ last) × (length course.read ≡ input_limit)
     × (0 < length last) × (length last ≤ read_limit) × AnswersLines (lines (whole_part before)) course
 
--- how a run over lines ends, by its status
+-- How a run over lines ends, by its status.
 abbrev pub EndsWith : ℕ → Course → Outside → Type 0
 EndsWith status course after =
     ((status ≡ 0) × ReadsAll course after)
@@ -64,7 +64,7 @@ EndsWith status course after =
     ⊎ ((status ≡ 6) × StopsWriting course after)
     ⊎ ((status ≡ 8) × StopsAtLimit course)
 
--- what a run over lines does to the outside, and how it ends
+-- What a run over lines does to the outside, and how it ends.
 pub record RunsLines (before after : Outside) (status : ℕ) : Type 0 where
   pub course : Course
   pub leads : Leads before course after
@@ -72,7 +72,8 @@ pub record RunsLines (before after : Outside) (status : ℕ) : Type 0 where
 
 -- ---- any command
 
--- What was meant was done, with this status: the lines of the input were answered, or the line of a text was written.
+-- What was meant was done, with this status: the lines of the input were answered, or the line of a text was
+-- written.
 abbrev pub Does : Meant → Outside → Outside → ℕ → Type 0
 Does to_answer_lines before after status = RunsLines before after status
 Does (to_check text) before after status =
@@ -80,8 +81,8 @@ Does (to_check text) before after status =
 Does (to_make_digits text) before after status =
     TellsLine (digits_fault text) (digits_line text) before.written after.written status
 
--- All of these bytes were read, their lines answered at moments of the clock, and the replies written, with status 0.
--- Where memory is never wanting, the replies are those that the lines and the moments determine.
+-- All of these bytes were read, their lines answered at moments of the clock, and the replies written, with status
+-- 0. Where memory is never wanting, the replies are those that the lines and the moments determine.
 pub record IsComplete (bytes : List ℕ) (before after : Outside) (status : ℕ) : Type 0 where
   pub ok : status ≡ 0
   pub ended : IsAtEnd after.left
@@ -93,8 +94,8 @@ pub record IsComplete (bytes : List ℕ) (before after : Outside) (status : ℕ)
   pub writes : Grows before.written after.written (reply_texts replies)
   pub exact : ¬ (Contains replies (Words NoMemory)) → replies ≡ replies_to first_office (asks_of (lines bytes)) moments
 
--- Where nothing fails and no memory is wanting, all is done: an input that is told and short enough is answered whole,
--- and a text is told, with status 0 or 2.
+-- Where nothing fails and no memory is wanting, all is done: an input that is told and short enough is answered
+-- whole, and a text is told, with status 0 or 2.
 abbrev pub Completes : Meant → Outside → Outside → ℕ → Type 0
 Completes to_answer_lines before after status =
     (bytes : List ℕ) → before.left ≡ Some bytes → length bytes < input_limit → IsComplete bytes before after status

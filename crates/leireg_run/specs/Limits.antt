@@ -7,10 +7,10 @@ use Rattle.lei_office.specs.Limits.{body_limit}
 abbrev pub line_limit : ℕ
 line_limit = body_limit + 36
 
--- one read gives at most 65,536 bytes (64 KiB)
+-- One read gives at most 65,536 bytes (64 KiB).
 abbrev pub read_limit : ℕ
 read_limit = 65_536
 
--- a run ends where it has read 4,294,967,296 bytes (4 GiB)
+-- A run ends where it has read 4,294,967,296 bytes (4 GiB).
 abbrev pub input_limit : ℕ
 input_limit = 4_294_967_296

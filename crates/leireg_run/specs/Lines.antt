@@ -1,48 +1,48 @@
--- The lines of bytes. A line ends at LF, the byte 10, or at the end of the bytes, and one CR, the byte 13, before the
--- LF belongs to the end: std's `lines` lists them. Behind the last LF stands no line where there is no byte.
+-- The lines of bytes. A line ends at LF, the byte 10, or at the end of the bytes, and one CR, the byte 13, before
+-- the LF belongs to the end: std's `lines` lists them. Behind the last LF stands no line where there is no byte.
 use Rattle.std.specs.Prelude.{◌≡◌, ◌≢◌, ℕ, ◌⊎◌, ◌==◌, Bool, List, [], ◌∷◌, ◌++◌, if◌then◌else◌}
 use Rattle.std.specs.List.{All, list_any}
 use Rattle.std.specs.Str.Lines.{strip_carriage_return}
 
--- a line without its end, byte by byte
+-- A line without its end, byte by byte.
 abbrev pub Line : Type 0
 Line = List ℕ
 
--- LF, the end of a line
+-- LF, the end of a line.
 abbrev pub line_feed : List ℕ
 line_feed = 10 ∷ []
 
--- CR, which may stand before an LF
+-- CR, which may stand before an LF.
 abbrev pub carriage_return : List ℕ
 carriage_return = 13 ∷ []
 
--- no byte ends a line
+-- No byte ends a line.
 abbrev pub HasNoEnd : List ℕ → Type 0
 HasNoEnd bytes = All (λ byte. byte ≢ 10) bytes
 
--- these are whole lines with their ends: there is no byte, or the last is LF
+-- These are whole lines with their ends: there is no byte, or the last is LF.
 abbrev pub IsClosed : List ℕ → Type 0
 IsClosed bytes = (bytes ≡ []) ⊎ ((before : List ℕ) × (bytes ≡ before ++ 10 ∷ []))
 
--- the line that has these bytes before its LF
+-- The line that has these bytes before its LF.
 abbrev pub line_of : List ℕ → Line
 line_of part = strip_carriage_return part
 
--- the bytes are a part before the first LF, the LF, and what comes after it
+-- The bytes are a part before the first LF, the LF, and what comes after it.
 pub record Ends (bytes part after : List ℕ) : Type 0 where
   pub parts : bytes ≡ (part ++ 10 ∷ []) ++ after
   pub none : HasNoEnd part
 
--- a byte ends a line
+-- A byte ends a line.
 abbrev pub has_end : List ℕ → Bool
 has_end bytes = list_any (λ byte. byte == 10) bytes
 
--- the bytes up to the last LF, with it
+-- The bytes up to the last LF, with it.
 unfoldable pub whole_part : List ℕ → List ℕ
 whole_part [] = []
 whole_part (byte ∷ bytes) = if has_end (byte ∷ bytes) then byte ∷ whole_part bytes else []
 
--- the bytes behind the last LF
+-- The bytes behind the last LF.
 unfoldable pub last_part : List ℕ → List ℕ
 last_part [] = []
 last_part (byte ∷ bytes) = if has_end (byte ∷ bytes) then last_part bytes else byte ∷ bytes

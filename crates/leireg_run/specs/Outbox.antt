@@ -1,6 +1,6 @@
 -- What a box of waiting bytes does to an output.
 use Rattle.std.specs.Prelude.{◌≡◌, ℕ, List, ◌++◌, Option, Result, MatchResult}
-use Rattle.lei_outside.specs.Told.{Grows, TakesFront}
+use Rattle.lei_outside.specs.Told.{Grows, WritesFront}
 
 -- Of all these bytes a front was written, and the rest waits.
 abbrev pub Sends : Option (List ℕ) → Option (List ℕ) → List ℕ → List ℕ → Type 0
@@ -9,4 +9,4 @@ Sends before after all waits = (sent : List ℕ) × Grows before after sent × (
 -- All these bytes are written or wait; or the output refused, and took a front of them and not all.
 abbrev pub Puts : {T E : Type 0} → Option (List ℕ) → Option (List ℕ) → List ℕ → Result T E → List ℕ → Type 0
 Puts before after all result waits =
-    MatchResult result (λ _. Sends before after all waits) (λ _. TakesFront before after all)
+    MatchResult result (λ _. Sends before after all waits) (λ _. WritesFront before after all)

@@ -11,8 +11,8 @@ abbrev pub Holds : Bool → List ℕ → List ℕ → Type 0
 Holds false held part = HasNoEnd part × (held ≡ part) × (length part ≤ line_limit + 1)
 Holds true held part = HasNoEnd part × (held ≡ []) × (line_limit + 1 < length part)
 
--- Where a line has begun with these bytes, more came. The lines that are whole now were answered, and what follows them
--- is held; or the output refused, and a front of the lines was answered.
+-- Where a line has begun with these bytes, more came. The lines that are whole now were answered, and what follows
+-- them is held; or the output refused, and a front of the lines was answered.
 abbrev pub TakesIn : {T E : Type 0} → List ℕ → List ℕ → Progress → Result T E → Progress → Bool → List ℕ → Type 0
 TakesIn part more before result after skips held =
     (front : List ℕ) × (rest : List ℕ) × (part ++ more ≡ front ++ rest) × IsClosed front

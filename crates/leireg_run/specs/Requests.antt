@@ -16,40 +16,41 @@ use Rattle.leireg_run.specs.Lines.{Line}
 use Rattle.leireg_run.specs.declared.requests.FirstWord.{FirstWord}
 use Rattle.leireg_run.specs.declared.requests.FirstWord.TheVariants.{Accredit, Upload, Show}
 
--- the value that comes of the first, where there is one, and of what is made of it
 infixl 10 ◌>>=◌
+
+-- What is made of a value, where there is one.
 abbrev pub ◌>>=◌ : {A B : Type 0} → Option A → (A → Option B) → Option B
 o >>= f = option_and_then f o
 
 -- ---- words
 
--- the bytes before the first space and those behind it, where there is a space
+-- The bytes before the first space and those behind it, where there is a space.
 abbrev pub cut : List ℕ → Option (List ℕ × List ℕ)
 cut bytes = option_map (λ n. (take n bytes, drop (n + 1) bytes)) (position (λ b. b == 32) bytes)
 
--- the bytes, where they are an LEI
+-- The bytes, where they are an LEI.
 abbrev pub code_of : List ℕ → Option Lei
 code_of bytes = if is_none (fault_of bytes) then Some bytes else None
 
--- the number, where it lies from 1 to its limit and the bytes are just its decimal text
+-- The number, where it lies from 1 to its limit and the bytes are just its decimal text.
 abbrev pub plain_number : List ℕ → ℕ → Option ℕ
 plain_number bytes n = if nat_le 1 n && nat_le n number_limit && bytes_eq (decimal n) bytes then Some n else None
 
--- the number from 1 to its limit that is written so in decimal, without sign or leading zero
+-- The number from 1 to its limit that is written so in decimal, without sign or leading zero.
 unfoldable pub number_of : List ℕ → Option ℕ
 number_of bytes = plain_number bytes (digits_value 10 bytes)
 
 -- ---- requests, by what stands behind the first word and its space
 
--- ACCREDIT: the rest is an LEI
+-- ACCREDIT: the rest is an LEI.
 abbrev pub accreditation_of : List ℕ → Option Request
 accreditation_of rest = option_map requests.Accredit (code_of rest)
 
--- SHOW: the rest is an LEI
+-- SHOW: the rest is an LEI.
 abbrev pub show_of : List ℕ → Option Request
 show_of rest = option_map requests.Show (code_of rest)
 
--- UPLOAD: an LEI, a number, and all that follows the space behind it as the body
+-- UPLOAD: an LEI, a number, and all that follows the space behind it as the body.
 unfoldable pub upload_of : List ℕ → Option Request
 upload_of rest = do
   first ← cut rest
@@ -65,7 +66,7 @@ first_word word =
     else (if bytes_eq word (codes "UPLOAD") then Some Upload
     else (if bytes_eq word (codes "SHOW") then Some Show else None))
 
--- the request that a first word makes with what stands behind its space, where there is a space
+-- The request that a first word makes with what stands behind its space, where there is a space.
 abbrev pub request_by : FirstWord → Option (List ℕ) → Option Request
 request_by Accredit rest = rest >>= accreditation_of
 request_by Upload rest = rest >>= upload_of
@@ -73,27 +74,27 @@ request_by Show rest = rest >>= show_of
 
 -- ---- lines
 
--- a request is asked, or the words behind the first one are not those of a request
+-- A request is asked, or the words behind the first one are not those of a request.
 abbrev pub or_path : Option Request → Asked
 or_path None = Refuse Path
 or_path (Some request) = Ask request
 
--- what is asked by a first word and what stands behind its space
+-- What is asked by a first word and what stands behind its space.
 abbrev pub asked_by : Option FirstWord → Option (List ℕ) → Asked
 asked_by None rest = Refuse NoRoute
 asked_by (Some word) rest = or_path (request_by word rest)
 
--- the same, of a line that was cut at its first space if it has one
+-- The same, of a line that was cut at its first space if it has one.
 abbrev pub asked_in : Line → Option (List ℕ × List ℕ) → Asked
 asked_in line None = asked_by (first_word line) None
 asked_in line (Some parts) = asked_by (first_word parts.0) (Some parts.1)
 
--- The first of these: the line is too long; its first word is unknown; its other words are not those of a request; or
--- what it asks.
+-- The first of these: the line is too long; its first word is unknown; its other words are not those of a request;
+-- or what it asks.
 unfoldable pub asked : Line → Asked
 asked line = if nat_lt line_limit (length line) then Refuse TooLong else asked_in line (cut line)
 
--- a request is asked whose reading takes memory
+-- A request is asked whose reading takes memory.
 abbrev pub MayWantMemory : Asked → Type 0
 MayWantMemory (Refuse refusal) = ⊥
 MayWantMemory (Ask request) = TakesMemoryToRead request

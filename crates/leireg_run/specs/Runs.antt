@@ -12,11 +12,11 @@ use Rattle.leireg_run.specs.Outbox.{Puts}
 use Rattle.leireg_run.specs.Requests.{asked}
 use Rattle.leireg_run.specs.Replies.{reply_text, reply_texts}
 
--- the office that a run begins with: it has the standard limits, and took nothing yet
+-- The office that a run begins with: it has the standard limits, and took nothing yet.
 abbrev pub first_office : OfficeState
 first_office = opened standard
 
--- what lines ask, in order; an empty line asks nothing
+-- What lines ask, in order; an empty line asks nothing.
 abbrev pub asks_of : List Line → List Asked
 asks_of [] = []
 asks_of (line ∷ others) = if length line == 0 then asks_of others else asked line ∷ asks_of others
@@ -40,7 +40,7 @@ pub record AnswersFront (all : List Line) (moments : List ℤ) (written : List �
   pub front : ℕ
   pub texts : written ≡ take front (reply_texts replies)
 
--- the texts of replies in order, of the last one a front
+-- The texts of replies in order, of the last one a front.
 abbrev pub AreTextsOf : List Reply → List ℕ → Type 0
 AreTextsOf [] written = written ≡ []
 AreTextsOf (reply ∷ []) written = (n : ℕ) × (written ≡ take n (reply_text reply))
@@ -71,7 +71,7 @@ pub record Progress : Type 0 where
   pub given : Option (List ℤ)
   pub written : Option (List ℕ)
 
--- the progress of these four
+-- The progress of these four.
 abbrev pub progress : OfficeState → List ℕ → Option (List ℤ) → Option (List ℕ) → Progress
 progress office waits given written = record { office = office; waits = waits; given = given; written = written }
 
@@ -81,8 +81,8 @@ abbrev pub AnswersLine : OfficeState → Line → Option (List ℤ) → Option (
 AnswersLine old line before after answered new =
     (moments : List ℤ) × Gives before after moments × AskStep old (asked line) moments answered new
 
--- Lines were answered, and the texts of their replies were put behind what waited: all of them are written or wait, or
--- the output refused and took a front of them.
+-- Lines were answered, and the texts of their replies were put behind what waited: all of them are written or wait,
+-- or the output refused and took a front of them.
 pub record AnswersAndPuts {T E : Type 0} (before : Progress) (asked_lines : List Line) (result : Result T E)
     (after : Progress) : Type 0 where
   pub moments : List ℤ
@@ -91,8 +91,8 @@ pub record AnswersAndPuts {T E : Type 0} (before : Progress) (asked_lines : List
   pub answers : Answers before.office asked_lines moments texts after.office
   pub puts : Puts before.written after.written (before.waits ++ texts) result after.waits
 
--- The whole lines in front of a block were answered so. Where nothing was refused, they are all of its whole lines, and
--- the result is how many bytes they take.
+-- The whole lines in front of a block were answered so. Where nothing was refused, they are all of its whole lines,
+-- and the result is how many bytes they take.
 abbrev pub AnswersWhole : {E : Type 0} → Progress → List ℕ → Result ℕ E → Progress → Type 0
 AnswersWhole before block result after =
     (front : List ℕ) × (rest : List ℕ) × (block ≡ front ++ rest) × IsClosed front

@@ -6,7 +6,7 @@ use Rattle.lei_outside.specs.declared.faults.SinkFault.TheVariants.{Failed, NoMe
 use Rattle.leireg_run.specs.declared.status.Stop.{Stop}
 use Rattle.leireg_run.specs.declared.status.Stop.TheVariants as stop
 
--- the status of a command that is stopped so
+-- The status of a command that is stopped so.
 abbrev pub stop_status : Stop → ℕ
 stop_status stop.Refused = 2
 stop_status stop.ReadFault = 3
@@ -14,17 +14,17 @@ stop_status stop.WriteFault = 4
 stop_status stop.NoMemory = 6
 stop_status stop.InputTooLong = 8
 
--- what a fault of the output stops a command as
+-- What a fault of the output stops a command as.
 abbrev pub stop_of : SinkFault → Stop
 stop_of Failed = stop.WriteFault
 stop_of NoMemory = stop.NoMemory
 
--- the status of a command, which is 0 where nothing stopped it
+-- The status of a command, which is 0 where nothing stopped it.
 abbrev pub end_status : Result (Unit {0}) Stop → ℕ
 end_status (Ok done) = 0
 end_status (Err stopped) = stop_status stopped
 
--- the words of the statuses from 0 on
+-- The words of the statuses from 0 on.
 abbrev pub status_words : List Text
 status_words =
     codes "OK"
@@ -39,6 +39,6 @@ status_words =
     ∷ codes "DOOR_FAULT"
     ∷ []
 
--- the word of a status
+-- The word of a status.
 abbrev pub status_text : ℕ → Text
 status_text status = get_or status_words status (codes "UNKNOWN")

@@ -6,33 +6,33 @@ use Rattle.lei_code.specs.Texts.{Text}
 use Rattle.leireg_run.specs.declared.command.Command.{Command}
 use Rattle.leireg_run.specs.declared.command.Command.TheVariants as commands
 
--- to answer the lines of the input, to say whether a text is an LEI, or to make the check digits of a text
+-- To answer the lines of the input, to say whether a text is an LEI, or to make the check digits of a text.
 pub data Meant : Type 0 where
   to_answer_lines : Meant
   to_check : Text → Meant
   to_make_digits : Text → Meant
 
--- one word: `lines`
+-- One word: `lines`.
 abbrev pub meant_alone : Text → Option Meant
 meant_alone word = if bytes_eq word (codes "lines") then Some to_answer_lines else None
 
--- two words: `check` or `digits`, and any text, the empty one too
+-- Two words: `check` or `digits`, and any text, the empty one too.
 abbrev pub meant_with : Text → Text → Option Meant
 meant_with word text = if bytes_eq word (codes "check") then Some (to_check text)
     else (if bytes_eq word (codes "digits") then Some (to_make_digits text) else None)
 
--- what the words ask for, and nothing where they are no command
+-- What the words ask for, and nothing where they are no command.
 abbrev pub meant : List Text → Option Meant
 meant [] = None
 meant (word ∷ []) = meant_alone word
 meant (word ∷ text ∷ []) = meant_with word text
 meant (word ∷ text ∷ other ∷ others) = None
 
--- the words of a command line mean this
+-- The words of a command line mean this.
 abbrev pub Mean : List (String Global) → Meant → Type 0
 Mean words what = meant (map string_bytes words) ≡ Some what
 
--- what a command was read for
+-- What a command was read for.
 abbrev pub meaning : Command → Meant
 meaning commands.Lines = to_answer_lines
 meaning (commands.Check code) = to_check code.now

@@ -54,10 +54,10 @@ pub fn answer_line<R: Threads + Sync, W: Sink, C: Clock>(
     out: &mut W,
 ) -> Result<(), SinkFault>
     ensures answered { AnswersAndPuts
-        (progress office.old outbox.old (C.given clock.old) (W.taken out.old)) (line.now ∷ []) result
-        (progress office.new outbox.new (C.given clock.new) (W.taken out.new)) }
+        (progress office.old outbox.old (C.given clock.old) (W.written out.old)) (line.now ∷ []) result
+        (progress office.new outbox.new (C.given clock.new) (W.written out.new)) }
     ensures kept { ¬ (IsErrOf result SinkFault.Failed) → W.faults out.new ≡ W.faults out.old }
-    ensures failed { IsErrOf result SinkFault.Failed → FailsLast W.taken W.faults out.old out.new }
+    ensures failed { IsErrOf result SinkFault.Failed → FailsLast W.written W.faults out.old out.new }
 {
     if line.is_empty() {
         return Ok(());
@@ -106,10 +106,10 @@ pub fn answer_lines<R: Threads + Sync, W: Sink, C: Clock>(
     requires within { seen ≤ length block.now }
     requires seen { HasNoEnd (take seen block.now) }
     ensures answered { AnswersWhole
-        (progress office.old outbox.old (C.given clock.old) (W.taken out.old)) block.now result
-        (progress office.new outbox.new (C.given clock.new) (W.taken out.new)) }
+        (progress office.old outbox.old (C.given clock.old) (W.written out.old)) block.now result
+        (progress office.new outbox.new (C.given clock.new) (W.written out.new)) }
     ensures kept { ¬ (IsErrOf result SinkFault.Failed) → W.faults out.new ≡ W.faults out.old }
-    ensures failed { IsErrOf result SinkFault.Failed → FailsLast W.taken W.faults out.old out.new }
+    ensures failed { IsErrOf result SinkFault.Failed → FailsLast W.written W.faults out.old out.new }
 {
     let mut rest = block;
     while let Some(end) = next_end(rest, seen) {

@@ -14,9 +14,9 @@ use lei_outside::{Sink, SinkFault, write_all};
 /// Writes whether the text is an LEI, or why it is none.
 pub fn check<W: Sink>(text: &str, out: &mut W) -> Result<(), Stop>
     ensures tells { TellsLine (fault_of text.now) (check_line text.now)
-        (W.taken out.old) (W.taken out.new) (end_status result) }
+        (W.written out.old) (W.written out.new) (end_status result) }
     ensures kept { ¬ (IsErrOf result Stop.WriteFault) → W.faults out.new ≡ W.faults out.old }
-    ensures failed { IsErrOf result Stop.WriteFault → FailsLast W.taken W.faults out.old out.new }
+    ensures failed { IsErrOf result Stop.WriteFault → FailsLast W.written W.faults out.old out.new }
 {
     match Lei::read(text.as_bytes()) {
         Ok(_) => Ok(write_pieces(out, &[b"valid", b"\n"])?),
@@ -27,9 +27,9 @@ pub fn check<W: Sink>(text: &str, out: &mut W) -> Result<(), Stop>
 /// Writes the check digits that make the text an LEI, or why there are none.
 pub fn digits<W: Sink>(text: &str, out: &mut W) -> Result<(), Stop>
     ensures tells { TellsLine (digits_fault text.now) (digits_line text.now)
-        (W.taken out.old) (W.taken out.new) (end_status result) }
+        (W.written out.old) (W.written out.new) (end_status result) }
     ensures kept { ¬ (IsErrOf result Stop.WriteFault) → W.faults out.new ≡ W.faults out.old }
-    ensures failed { IsErrOf result Stop.WriteFault → FailsLast W.taken W.faults out.old out.new }
+    ensures failed { IsErrOf result Stop.WriteFault → FailsLast W.written W.faults out.old out.new }
 {
     match digits_of(text.as_bytes()) {
         Ok(digits) => Ok(write_pieces(out, &[&digits, b"\n"])?),
@@ -50,18 +50,18 @@ fn digits_of(text: &[u8]) -> Result<[u8; 2], LeiFault>
 // Writes the refusal of a text.
 fn refuse<W: Sink>(fault: LeiFault, out: &mut W) -> Result<(), Stop>
     ensures tells { TellsLine (Some fault) (line_or [] (Some fault))
-        (W.taken out.old) (W.taken out.new) (end_status result) }
+        (W.written out.old) (W.written out.new) (end_status result) }
     ensures kept { ¬ (IsErrOf result Stop.WriteFault) → W.faults out.new ≡ W.faults out.old }
-    ensures failed { IsErrOf result Stop.WriteFault → FailsLast W.taken W.faults out.old out.new }
+    ensures failed { IsErrOf result Stop.WriteFault → FailsLast W.written W.faults out.old out.new }
 {
     write_refusal(fault, out)?;
     Err(Stop::Refused)
 }
 
 fn write_refusal<W: Sink>(fault: LeiFault, out: &mut W) -> Result<(), SinkFault>
-    ensures written { IsWritten (W.taken out.old) (W.taken out.new) (line_or [] (Some fault)) result }
+    ensures written { IsWritten (W.written out.old) (W.written out.new) (line_or [] (Some fault)) result }
     ensures kept { ¬ (IsErrOf result SinkFault.Failed) → W.faults out.new ≡ W.faults out.old }
-    ensures failed { IsErrOf result SinkFault.Failed → FailsLast W.taken W.faults out.old out.new }
+    ensures failed { IsErrOf result SinkFault.Failed → FailsLast W.written W.faults out.old out.new }
 {
     match fault {
         LeiFault::Length => write_pieces(out, &[b"refused LENGTH", b"\n"]),
@@ -75,9 +75,9 @@ fn write_refusal<W: Sink>(fault: LeiFault, out: &mut W) -> Result<(), SinkFault>
 }
 
 fn write_pieces<W: Sink>(out: &mut W, pieces: &[&[u8]]) -> Result<(), SinkFault>
-    ensures written { IsWritten (W.taken out.old) (W.taken out.new) (flat_map (λ piece. piece.now) pieces.now) result }
+    ensures written { IsWritten (W.written out.old) (W.written out.new) (flat_map (λ piece. piece.now) pieces.now) result }
     ensures kept { ¬ (IsErrOf result SinkFault.Failed) → W.faults out.new ≡ W.faults out.old }
-    ensures failed { IsErrOf result SinkFault.Failed → FailsLast W.taken W.faults out.old out.new }
+    ensures failed { IsErrOf result SinkFault.Failed → FailsLast W.written W.faults out.old out.new }
 {
     for piece in pieces {
         write_all(out, piece)?;

@@ -1,6 +1,6 @@
 //! Replies that wait to be written, so that writing goes by blocks.
 ghost use Rattle.std.specs.Prelude.{◌≡◌, ◌≤◌, ◌+◌, ◌++◌, [], length, vec_len, vec_capacity, IfOk, OnOk, OnErr, IsErrOf};
-ghost use Rattle.lei_outside.specs.Told.{Grows, TakesFront};
+ghost use Rattle.lei_outside.specs.Told.{Grows, WritesFront};
 ghost use Rattle.lei_outside.specs.Faults.{FailsLast};
 ghost use Rattle.leireg_run.specs.Outbox.{Sends};
 
@@ -40,10 +40,10 @@ impl Outbox {
 
     /// Puts a piece behind what waits, and sends what has no room. A piece of a block or more isn't copied.
     pub fn put<W: Sink>(&mut self, out: &mut W, piece: &[u8]) -> Result<(), SinkFault>
-        ensures ok { OnOk result (Sends (W.taken out.old) (W.taken out.new) (self.old ++ piece.now) self.new) }
-        ensures err { OnErr result (TakesFront (W.taken out.old) (W.taken out.new) (self.old ++ piece.now)) }
+        ensures ok { OnOk result (Sends (W.written out.old) (W.written out.new) (self.old ++ piece.now) self.new) }
+        ensures err { OnErr result (WritesFront (W.written out.old) (W.written out.new) (self.old ++ piece.now)) }
         ensures kept { ¬ (IsErrOf result SinkFault.Failed) → W.faults out.new ≡ W.faults out.old }
-        ensures failed { IsErrOf result SinkFault.Failed → FailsLast W.taken W.faults out.old out.new }
+        ensures failed { IsErrOf result SinkFault.Failed → FailsLast W.written W.faults out.old out.new }
     {
         if piece.len() <= BLOCK - self.held.len() {
             append(&mut self.held, piece);
@@ -59,11 +59,11 @@ impl Outbox {
 
     /// Sends what waits.
     pub fn flush<W: Sink>(&mut self, out: &mut W) -> Result<(), SinkFault>
-        ensures ok { OnOk result (Grows (W.taken out.old) (W.taken out.new) self.old) }
+        ensures ok { OnOk result (Grows (W.written out.old) (W.written out.new) self.old) }
         ensures empty { OnOk result (self.new ≡ []) }
-        ensures err { OnErr result (TakesFront (W.taken out.old) (W.taken out.new) self.old) }
+        ensures err { OnErr result (WritesFront (W.written out.old) (W.written out.new) self.old) }
         ensures kept { ¬ (IsErrOf result SinkFault.Failed) → W.faults out.new ≡ W.faults out.old }
-        ensures failed { IsErrOf result SinkFault.Failed → FailsLast W.taken W.faults out.old out.new }
+        ensures failed { IsErrOf result SinkFault.Failed → FailsLast W.written W.faults out.old out.new }
     {
         write_all(out, &self.held)?;
         self.held.clear();

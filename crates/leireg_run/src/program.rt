@@ -35,17 +35,17 @@ pub fn run<R: Threads + Sync, S: Source, W: Sink, C: Clock>(
     ensures unread { ¬ (Mean words.now to_answer_lines) → input.new ≡ input.old }
     ensures unasked { ¬ (Mean words.now to_answer_lines) → clock.new ≡ clock.old }
     ensures does { (what : Meant) → Mean words.now what → Does what
-        (outside (S.left input.old) (C.given clock.old) (W.taken out.old))
-        (outside (S.left input.new) (C.given clock.new) (W.taken out.new)) result }
+        (outside (S.left input.old) (C.given clock.old) (W.written out.old))
+        (outside (S.left input.new) (C.given clock.new) (W.written out.new)) result }
     ensures read_fault { result ≡ 3 → FailsLast S.left S.faults input.old input.new }
     ensures no_read_fault { result ≢ 3 → S.faults input.new ≡ S.faults input.old }
-    ensures write_fault { result ≡ 4 → FailsLast W.taken W.faults out.old out.new }
+    ensures write_fault { result ≡ 4 → FailsLast W.written W.faults out.old out.new }
     ensures no_write_fault { result ≢ 4 → W.faults out.new ≡ W.faults out.old }
     ensures complete { (what : Meant) → Mean words.now what → result ≢ 6
         → ¬ (Rose (S.faults input.old) (S.faults input.new)) → ¬ (Rose (W.faults out.old) (W.faults out.new))
         → Completes what
-        (outside (S.left input.old) (C.given clock.old) (W.taken out.old))
-        (outside (S.left input.new) (C.given clock.new) (W.taken out.new)) result }
+        (outside (S.left input.old) (C.given clock.old) (W.written out.old))
+        (outside (S.left input.new) (C.given clock.new) (W.written out.new)) result }
 {
     let Some(command) = command_of(words) else {
         return USAGE;
@@ -67,11 +67,11 @@ fn run_command<R: Threads + Sync, S: Source, W: Sink, C: Clock>(
     ensures unread { ¬ (meaning command.now ≡ to_answer_lines) → input.new ≡ input.old }
     ensures unasked { ¬ (meaning command.now ≡ to_answer_lines) → clock.new ≡ clock.old }
     ensures does { Does (meaning command.now)
-        (outside (S.left input.old) (C.given clock.old) (W.taken out.old))
-        (outside (S.left input.new) (C.given clock.new) (W.taken out.new)) (end_status result) }
+        (outside (S.left input.old) (C.given clock.old) (W.written out.old))
+        (outside (S.left input.new) (C.given clock.new) (W.written out.new)) (end_status result) }
     ensures read_fault { IsErrOf result Stop.ReadFault → FailsLast S.left S.faults input.old input.new }
     ensures no_read_fault { ¬ (IsErrOf result Stop.ReadFault) → S.faults input.new ≡ S.faults input.old }
-    ensures write_fault { IsErrOf result Stop.WriteFault → FailsLast W.taken W.faults out.old out.new }
+    ensures write_fault { IsErrOf result Stop.WriteFault → FailsLast W.written W.faults out.old out.new }
     ensures no_write_fault { ¬ (IsErrOf result Stop.WriteFault) → W.faults out.new ≡ W.faults out.old }
 {
     match command {
@@ -89,11 +89,11 @@ fn run_lines<R: Threads + Sync, S: Source, W: Sink, C: Clock>(
     clock: &mut C,
 ) -> Result<(), Stop>
     ensures runs { RunsLines
-        (outside (S.left input.old) (C.given clock.old) (W.taken out.old))
-        (outside (S.left input.new) (C.given clock.new) (W.taken out.new)) (end_status result) }
+        (outside (S.left input.old) (C.given clock.old) (W.written out.old))
+        (outside (S.left input.new) (C.given clock.new) (W.written out.new)) (end_status result) }
     ensures read_fault { IsErrOf result Stop.ReadFault → FailsLast S.left S.faults input.old input.new }
     ensures no_read_fault { ¬ (IsErrOf result Stop.ReadFault) → S.faults input.new ≡ S.faults input.old }
-    ensures write_fault { IsErrOf result Stop.WriteFault → FailsLast W.taken W.faults out.old out.new }
+    ensures write_fault { IsErrOf result Stop.WriteFault → FailsLast W.written W.faults out.old out.new }
     ensures no_write_fault { ¬ (IsErrOf result Stop.WriteFault) → W.faults out.new ≡ W.faults out.old }
 {
     let mut reader = Reader::new(alloc)?;

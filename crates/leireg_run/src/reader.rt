@@ -57,11 +57,11 @@ impl Reader {
         requires seen { HasNoEnd (take seen self.old.window) }
         ensures answered { (part : List ℕ) → Holds self.old.skips (take seen self.old.window) part
             → TakesIn part (drop seen self.old.window)
-            (progress self.old.office self.old.outbox (C.given clock.old) (W.taken out.old)) result
-            (progress self.new.office self.new.outbox (C.given clock.new) (W.taken out.new))
+            (progress self.old.office self.old.outbox (C.given clock.old) (W.written out.old)) result
+            (progress self.new.office self.new.outbox (C.given clock.new) (W.written out.new))
             self.new.skips self.new.window }
         ensures kept { ¬ (IsErrOf result SinkFault.Failed) → W.faults out.new ≡ W.faults out.old }
-        ensures failed { IsErrOf result SinkFault.Failed → FailsLast W.taken W.faults out.old out.new }
+        ensures failed { IsErrOf result SinkFault.Failed → FailsLast W.written W.faults out.old out.new }
     {
         if self.skips {
             if !self.window.skip_line() {
@@ -84,11 +84,11 @@ impl Reader {
         requires within { seen ≤ length self.old.window }
         requires seen { HasNoEnd (take seen self.old.window) }
         ensures answered { TakesIn [] self.old.window
-            (progress self.old.office self.old.outbox (C.given clock.old) (W.taken out.old)) result
-            (progress self.new.office self.new.outbox (C.given clock.new) (W.taken out.new))
+            (progress self.old.office self.old.outbox (C.given clock.old) (W.written out.old)) result
+            (progress self.new.office self.new.outbox (C.given clock.new) (W.written out.new))
             self.new.skips self.new.window }
         ensures kept { ¬ (IsErrOf result SinkFault.Failed) → W.faults out.new ≡ W.faults out.old }
-        ensures failed { IsErrOf result SinkFault.Failed → FailsLast W.taken W.faults out.old out.new }
+        ensures failed { IsErrOf result SinkFault.Failed → FailsLast W.written W.faults out.old out.new }
     {
         let block = self.window.bytes();
         let used = answer_lines(
@@ -117,10 +117,10 @@ impl Reader {
         out: &mut W,
     ) -> Result<(), SinkFault>
         ensures answered { (part : List ℕ) → Holds self.old.skips self.old.window part → AnswersAndPuts
-            (progress self.old.office self.old.outbox (C.given clock.old) (W.taken out.old)) (part ∷ []) result
-            (progress self.new.office self.new.outbox (C.given clock.new) (W.taken out.new)) }
+            (progress self.old.office self.old.outbox (C.given clock.old) (W.written out.old)) (part ∷ []) result
+            (progress self.new.office self.new.outbox (C.given clock.new) (W.written out.new)) }
         ensures kept { ¬ (IsErrOf result SinkFault.Failed) → W.faults out.new ≡ W.faults out.old }
-        ensures failed { IsErrOf result SinkFault.Failed → FailsLast W.taken W.faults out.old out.new }
+        ensures failed { IsErrOf result SinkFault.Failed → FailsLast W.written W.faults out.old out.new }
     {
         if self.skips {
             return put_too_long(&mut self.outbox, out);
@@ -140,10 +140,10 @@ impl Reader {
 
 // Puts the reply to a line that is too long.
 fn put_too_long<W: Sink>(outbox: &mut Outbox, out: &mut W) -> Result<(), SinkFault>
-    ensures puts { Puts (W.taken out.old) (W.taken out.new)
+    ensures puts { Puts (W.written out.old) (W.written out.new)
         (outbox.old ++ reply_text (Reply.Words Refusal.TooLong)) result outbox.new }
     ensures kept { ¬ (IsErrOf result SinkFault.Failed) → W.faults out.new ≡ W.faults out.old }
-    ensures failed { IsErrOf result SinkFault.Failed → FailsLast W.taken W.faults out.old out.new }
+    ensures failed { IsErrOf result SinkFault.Failed → FailsLast W.written W.faults out.old out.new }
 {
     put_reply(outbox, out, &Reply::Words(Refusal::TooLong))
 }

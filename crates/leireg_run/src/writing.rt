@@ -11,9 +11,9 @@ use lei_outside::{Sink, SinkFault};
 /// Puts a reply: its status code, a space, its text and the end of the line.
 #[tactic(auto, unfolding(crate::specs::Replies::reply_text))]
 pub fn put_reply<W: Sink>(outbox: &mut Outbox, out: &mut W, reply: &Reply) -> Result<(), SinkFault>
-    ensures puts { Puts (W.taken out.old) (W.taken out.new) (outbox.old ++ reply_text reply.now) result outbox.new }
+    ensures puts { Puts (W.written out.old) (W.written out.new) (outbox.old ++ reply_text reply.now) result outbox.new }
     ensures kept { ¬ (IsErrOf result SinkFault.Failed) → W.faults out.new ≡ W.faults out.old }
-    ensures failed { IsErrOf result SinkFault.Failed → FailsLast W.taken W.faults out.old out.new }
+    ensures failed { IsErrOf result SinkFault.Failed → FailsLast W.written W.faults out.old out.new }
 {
     let mut code = itoa::Buffer::new();
     let code = code.format(reply.status_code()).as_bytes();
@@ -32,10 +32,10 @@ pub fn put_reply<W: Sink>(outbox: &mut Outbox, out: &mut W, reply: &Reply) -> Re
 }
 
 fn put_all<W: Sink>(outbox: &mut Outbox, out: &mut W, pieces: &[&[u8]]) -> Result<(), SinkFault>
-    ensures puts { Puts (W.taken out.old) (W.taken out.new)
+    ensures puts { Puts (W.written out.old) (W.written out.new)
         (outbox.old ++ flat_map (λ piece. piece.now) pieces.now) result outbox.new }
     ensures kept { ¬ (IsErrOf result SinkFault.Failed) → W.faults out.new ≡ W.faults out.old }
-    ensures failed { IsErrOf result SinkFault.Failed → FailsLast W.taken W.faults out.old out.new }
+    ensures failed { IsErrOf result SinkFault.Failed → FailsLast W.written W.faults out.old out.new }
 {
     for piece in pieces {
         outbox.put(out, piece)?;

@@ -4,21 +4,24 @@ use Rattle.std.specs.List.{Contains}
 use Rattle.std.specs.Option.{option_to_list}
 use Rattle.std.specs.Str.{bytes_eq}
 use Rattle.std.proofs.Common.{refl, sym, ap, subst, rules, ◌∙◌}
-use Rattle.lei_records.specs.declared.check.Check.{Check}
+use Rattle.std.proofs.lemmas.Bool.{false_from_ne_true}
+use Rattle.lei_records.specs.Checks.{FailedCheck}
 use Rattle.lei_records.specs.declared.check.Detail.{Detail}
 use Rattle.lei_records.specs.declared.item.Item.{Item}
 use Rattle.lei_records.specs.declared.item.Readied.{Readied}
 use Rattle.lei_records.specs.declared.view.RecCell.{RecCell}
 use Rattle.lei_records.specs.Cells.{lei_in, rec_cell, successor_in}
-use Rattle.lei_records.specs.Lines.{fails_if, first_failing}
+use Rattle.lei_records.specs.Checks.{fails_if, first_failing}
 use Rattle.lei_records.specs.Rows.{Row}
 use Rattle.lei_records.specs.Tables.{Table, put, put_all, row_at, record_of}
 use Rattle.authority_rules.proofs.HolderLemmas.{bytes_same, bytes_itself, some_apart}
 use Rattle.authority_rules.proofs.PutLemmas.{row_at-put}
 use Rattle.successor_rules.specs.declared.walks.Walked.{Walked}
 use Rattle.successor_rules.specs.Chains.{AllEnd, IsTurned}
-use Rattle.successor_rules.specs.Successors.{HasChains, successor_of, successors_of}
-use Rattle.successor_rules.specs.Walks.{is_met, is_long, walked}
+use Rattle.lei_records.specs.Walks.{successor_of, successors_of}
+use Rattle.successor_rules.specs.Successors.{HasChains}
+use Rattle.lei_records.specs.Walks.{is_met, is_long}
+use Rattle.successor_rules.specs.Walks.{walked}
 use Rattle.successor_rules.proofs.ChainLemmas.{keeps_ends}
 use Rattle.successor_rules.proofs.WalkLemmas.{ended_walk_keeps_ends}
 use Rattle.register_judge.specs.Checks.{c16, successor_checks}
@@ -75,10 +78,6 @@ all_held table row chains passes lei other next at names =
 
 -- ---- each chain ends
 
-another : (a b : List ℕ) → a ≢ b → bytes_eq a b ≡ false
-another a b differ =
-    elim (bytes_eq a b) as (λ t. bytes_eq a b ≡ t → t ≡ false) [ true ↦ λ same. absurd (differ (bytes_same a b same)) | false ↦ λ same. refl ] refl
-
 -- a record that is put names its successor, and each other one the one that it named
 turned : (table : Table) (row : Row) (successor : Option (List ℕ)) → successor_in row ≡ successor
     → IsTurned (successors_of table) (successors_of (put table (Item.Record row))) (lei_in row) (option_to_list successor)
@@ -89,7 +88,7 @@ turned table row successor names =
     (row_at-put table row lei ∙ ap (λ b. cond b (Some row) (row_at table lei)) is) in
     record {
       here = at (lei_in row) true (bytes_itself (lei_in row)) ∙ ap option_to_list names;
-      elsewhere = λ lei differ. at lei false (another lei (lei_in row) differ);
+      elsewhere = λ lei differ. at lei false (false_from_ne_true _ (λ same. differ (bytes_same lei (lei_in row) same)));
     }
 
 none_of : (lei : List ℕ) → Contains [] lei → ⊥
@@ -113,23 +112,23 @@ chains-put table row chains passes = record {
 }
 
 -- an accepted item leaves each successor held and each chain ending: a relationship and an exception leave the records
-accepted_chains : (table : Table) (limit : ℕ) (today : ℤ) (office : List ℕ) (item : Item) → HasChains table
-    → first_failing (item_checks table limit today office item) ≡ None → HasChains (put table item)
-accepted_chains table limit today office (Item.Record row) chains passes = chains-put table row chains (successors_pass table limit today office row passes)
-accepted_chains table limit today office (Item.Relation row) chains passes = record { held = chains.held; ends = chains.ends }
-accepted_chains table limit today office (Item.Exception item) chains passes = record { held = chains.held; ends = chains.ends }
+accepted_chains : (table : Table) (limit : ℕ) (today : ℤ) (issuer : List ℕ) (item : Item) → HasChains table
+    → first_failing (item_checks table limit today issuer item) ≡ None → HasChains (put table item)
+accepted_chains table limit today issuer (Item.Record row) chains passes = chains-put table row chains (successors_pass table limit today issuer row passes)
+accepted_chains table limit today issuer (Item.Relation row) chains passes = record { held = chains.held; ends = chains.ends }
+accepted_chains table limit today issuer (Item.Exception item) chains passes = record { held = chains.held; ends = chains.ends }
 
-item_chains : (table : Table) (limit : ℕ) (today : ℤ) (office : List ℕ) (item : Item) (failed : Option Check) → HasChains table
-    → first_failing (item_checks table limit today office item) ≡ failed
+item_chains : (table : Table) (limit : ℕ) (today : ℤ) (issuer : List ℕ) (item : Item) (failed : Option FailedCheck) → HasChains table
+    → first_failing (item_checks table limit today issuer item) ≡ failed
     → HasChains (put_all (writes_of (verdict_of failed) (Readied.Good item)) table)
-item_chains table limit today office item None chains is = put-written HasChains table item (accepted_chains table limit today office item chains is)
-item_chains table limit today office item (Some check) chains is = chains
+item_chains table limit today issuer item None chains is = put-written HasChains table item (accepted_chains table limit today issuer item chains is)
+item_chains table limit today issuer item (Some check) chains is = chains
 
-pub take-chains : (table : Table) (limit : ℕ) (today : ℤ) (office : List ℕ) (items : List Readied) → HasChains table
-    → HasChains (take table limit today office items).table
-take-chains table limit today office [] chains = chains
-take-chains table limit today office (Readied.Bad check ∷ items) chains = take-chains table limit today office items chains
-take-chains table limit today office (Readied.Good item ∷ items) chains =
-    let given = verdict table limit today office (Readied.Good item) in
-    take-chains (put_all (writes_of given (Readied.Good item)) table) limit today office items
-    (item_chains table limit today office item (first_failing (item_checks table limit today office item)) chains refl)
+pub take-chains : (table : Table) (limit : ℕ) (today : ℤ) (issuer : List ℕ) (items : List Readied) → HasChains table
+    → HasChains (take table limit today issuer items).table
+take-chains table limit today issuer [] chains = chains
+take-chains table limit today issuer (Readied.Bad check ∷ items) chains = take-chains table limit today issuer items chains
+take-chains table limit today issuer (Readied.Good item ∷ items) chains =
+    let given = verdict table limit today issuer (Readied.Good item) in
+    take-chains (put_all (writes_of given (Readied.Good item)) table) limit today issuer items
+    (item_chains table limit today issuer item (first_failing (item_checks table limit today issuer item)) chains refl)

@@ -45,48 +45,48 @@ moved verdicts writes n judged item (Ok rest) = λ i. Ok (record {
 })
 
 -- what was judged with one more item, and what comes of the items left then
-pub with_front-step : (cells later : Cells) (room left : ℕ) (today : ℤ) (office : List ℕ) (verdicts verdicts' : List Verdict) (writes writes' : List (RowKey × Option Item)) (n n' : ℕ)
+pub with_front-step : (cells later : Cells) (room left : ℕ) (today : ℤ) (issuer : List ℕ) (verdicts verdicts' : List Verdict) (writes writes' : List (RowKey × Option Item)) (n n' : ℕ)
     (judged : Judged) (item : Readied) (items left_items : List Readied) (all : Result Judgement CellKey)
     → left_items ≡ item ∷ items
-    → judge_item cells (room == 0) today office item ≡ Ok judged
+    → judge_item cells (room == 0) today issuer item ≡ Ok judged
     → later ≡ put_writes (writes_of judged.verdict item) cells
     → left ≡ room - room_taken judged.verdict judged.new
     → verdicts' ≡ verdicts ++ judged.verdict ∷ []
     → writes' ≡ writes ++ writes_of judged.verdict item
     → n' ≡ n + (if judged.new then 1 else 0)
-    → with_front verdicts writes n (judge_items cells room today office left_items) ≡ all
-    → with_front verdicts' writes' n' (judge_items later left today office items) ≡ all
+    → with_front verdicts writes n (judge_items cells room today issuer left_items) ≡ all
+    → with_front verdicts' writes' n' (judge_items later left today issuer items) ≡ all
 unfolding judge_items
-with_front-step cells later room left today office verdicts verdicts' writes writes' n n' judged item items left_items all cut is put_is left_is verdicts_are writes_are n_is so_far =
+with_front-step cells later room left today issuer verdicts verdicts' writes writes' n n' judged item items left_items all cut is put_is left_is verdicts_are writes_are n_is so_far =
     let rest : Result Judged CellKey → Result Judgement CellKey =
-    λ j. before j item (judge_items (cells_after j item cells) (room_after j room) today office items) in
-    (λ i. with_front (verdicts_are i) (writes_are i) (n_is i) (judge_items (put_is i) (left_is i) today office items))
+    λ j. before j item (judge_items (cells_after j item cells) (room_after j room) today issuer items) in
+    (λ i. with_front (verdicts_are i) (writes_are i) (n_is i) (judge_items (put_is i) (left_is i) today issuer items))
     ∙ (sym (moved verdicts writes n judged item _) ∙ (sym (ap (λ j. with_front verdicts writes n (rest j)) is)
-    ∙ (sym (ap (λ xs. with_front verdicts writes n (judge_items cells room today office xs)) cut) ∙ so_far)))
+    ∙ (sym (ap (λ xs. with_front verdicts writes n (judge_items cells room today issuer xs)) cut) ∙ so_far)))
 
 -- where an item stops, all do
-pub with_front-stop : (cells : Cells) (room : ℕ) (today : ℤ) (office : List ℕ) (verdicts : List Verdict) (writes : List (RowKey × Option Item)) (n : ℕ)
+pub with_front-stop : (cells : Cells) (room : ℕ) (today : ℤ) (issuer : List ℕ) (verdicts : List Verdict) (writes : List (RowKey × Option Item)) (n : ℕ)
     (stop : JudgeStop) (item : Readied) (items left_items : List Readied) (all : Result Judgement CellKey)
     → left_items ≡ item ∷ items
-    → Stops stop (judge_item cells (room == 0) today office item)
-    → with_front verdicts writes n (judge_items cells room today office left_items) ≡ all
+    → Stops stop (judge_item cells (room == 0) today issuer item)
+    → with_front verdicts writes n (judge_items cells room today issuer left_items) ≡ all
     → Stops stop all
 unfolding judge_items
-with_front-stop cells room today office verdicts writes n JudgeStop.NoMemory item items left_items all cut stops so_far = tt
-with_front-stop cells room today office verdicts writes n (JudgeStop.NeedCell key) item items left_items all cut stops so_far =
-    sym so_far ∙ (ap (λ xs. with_front verdicts writes n (judge_items cells room today office xs)) cut ∙ ap (λ j. with_front verdicts writes n (before j item (judge_items (cells_after j item cells) (room_after j room) today office items))) stops)
+with_front-stop cells room today issuer verdicts writes n JudgeStop.NoMemory item items left_items all cut stops so_far = tt
+with_front-stop cells room today issuer verdicts writes n (JudgeStop.NeedCell key) item items left_items all cut stops so_far =
+    sym so_far ∙ (ap (λ xs. with_front verdicts writes n (judge_items cells room today issuer xs)) cut ∙ ap (λ j. with_front verdicts writes n (before j item (judge_items (cells_after j item cells) (room_after j room) today issuer items))) stops)
 
 -- at the end what was judged is the outcome
-pub with_front-end : (cells : Cells) (room : ℕ) (today : ℤ) (office : List ℕ) (verdicts : List Verdict) (writes : List (RowKey × Option Item)) (n : ℕ)
+pub with_front-end : (cells : Cells) (room : ℕ) (today : ℤ) (issuer : List ℕ) (verdicts : List Verdict) (writes : List (RowKey × Option Item)) (n : ℕ)
     (outcome : Outcome) (left_items : List Readied) (all : Result Judgement CellKey)
     → left_items ≡ []
     → Shows outcome verdicts writes n
-    → with_front verdicts writes n (judge_items cells room today office left_items) ≡ all
+    → with_front verdicts writes n (judge_items cells room today issuer left_items) ≡ all
     → Judges (Ok outcome) all
 unfolding judge_items
-with_front-end cells room today office verdicts writes n outcome left_items all none shows so_far =
+with_front-end cells room today issuer verdicts writes n outcome left_items all none shows so_far =
     let P : Result Judgement CellKey → Type 0 = λ r. Judges (Ok outcome) r in
-    subst P (sym (ap (λ xs. with_front verdicts writes n (judge_items cells room today office xs)) none) ∙ so_far) (record {
+    subst P (sym (ap (λ xs. with_front verdicts writes n (judge_items cells room today issuer xs)) none) ∙ so_far) (record {
       verdicts_are = shows.verdicts_are ∙ sym (append-nil verdicts);
       writes_are = shows.writes_are ∙ sym (append-nil writes);
       new_are = shows.new_are ∙ sym (add-zero n);

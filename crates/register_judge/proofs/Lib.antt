@@ -1,9 +1,7 @@
 pub mod MapLemmas
 pub mod OverlayLemmas
 pub mod JudgingLemmas
-pub mod CheckLemmas
 pub mod RelationLemmas
 pub mod TakingLemmas
-pub mod RisingLemmas
 pub mod ChainLemmas
 pub mod ParentLemmas

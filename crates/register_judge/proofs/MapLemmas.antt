@@ -1,4 +1,4 @@
--- Maps by codes and by texts after an insertion.
+-- Maps by LEIs and by texts after an insertion.
 use Rattle.std.specs.Prelude.{◌≡◌, ℕ, List, Bool, true, false, ◌&&◌, cond, Option, Some, None, option_and_then}
 use Rattle.std.specs.BTreeMap.{BTreeMap, Updates, UpdatesBy, get}
 use Rattle.std.specs.Cmp.{tied_then}
@@ -22,14 +22,11 @@ copied : (b : Bool) (row : Bor Row) (old : Option (Bor Row)) → option_copied (
 copied true row old = refl
 copied false row old = refl
 
-turned : (a b : List ℕ) → bytes_eq a b ≡ bytes_eq b a
-turned a b = nat_list_eq_equiv.symm a b
-
 pub record_at-insert : (old new : Records) (lei own : List ℕ) (row : Bor Row) → lei ≡ own → Updates (slice_cmp nat_cmp) old new lei (Some row)
     → (q : List ℕ) → record_at new q ≡ cond (bytes_eq q own) (Some row.now) (record_at old q)
 record_at-insert old new lei own row same updates q =
     ap option_copied (updates.0 q)
-    ∙ (ap (λ b. option_copied (cond b (Some row) (get (slice_cmp nat_cmp) old q))) (is_eq-slice_cmp lei q ∙ (turned lei q ∙ ap (bytes_eq q) same))
+    ∙ (ap (λ b. option_copied (cond b (Some row) (get (slice_cmp nat_cmp) old q))) (is_eq-slice_cmp lei q ∙ (nat_list_eq_equiv.symm lei q ∙ ap (bytes_eq q) same))
     ∙ copied (bytes_eq q own) row (get (slice_cmp nat_cmp) old q))
 
 -- the ids of an authority after one was taken out or put in
@@ -67,7 +64,7 @@ tied_texts a b c d =
 abbrev pub pair_cmp : List ℕ × Bor (List ℕ) → List ℕ × Bor (List ℕ) → Ordering
 pair_cmp a b = ordering_then (slice_cmp nat_cmp a.0 b.0) (slice_cmp nat_cmp a.1.now b.1.now)
 
--- what is found under a code and a text after an insertion
+-- what is found under an LEI and a text after an insertion
 pub pair_at-insert : {X : Type 0} (old new : BTreeMap (List ℕ × Bor (List ℕ)) X) (key : List ℕ × Bor (List ℕ)) (lei text : List ℕ) (x : X)
     → key.0 ≡ lei → key.1.now ≡ text → Updates pair_cmp old new key (Some x)
     → (q t : List ℕ) → pair_at new q t ≡ cond (bytes_eq lei q && bytes_eq text t) (Some x) (pair_at old q t)

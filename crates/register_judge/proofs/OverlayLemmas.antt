@@ -3,6 +3,7 @@ use Rattle.std.specs.Prelude.{◌≡◌, ℕ, List, Bool, true, false, ◌&&◌,
 use Rattle.std.specs.Cmp.Lexicographic.{nat_list_eq_equiv}
 use Rattle.std.specs.Str.{bytes_eq}
 use Rattle.std.proofs.Common.{refl, sym, ap, ◌∙◌}
+use Rattle.std.proofs.Math.Bool.{and-false}
 use Rattle.lei_shapes.specs.declared.lists.ExceptionCategory.{ExceptionCategory}
 use Rattle.lei_shapes.specs.declared.lists.RelationType.{RelationType}
 use Rattle.lei_records.specs.declared.view.Seen.{Seen}
@@ -13,7 +14,8 @@ use Rattle.lei_records.specs.Tables.{seen_fact}
 use Rattle.authority_rules.specs.Taken.{unless_own}
 use Rattle.authority_rules.proofs.HolderLemmas.{bytes_itself}
 use Rattle.lei_records.specs.Exceptions.{is_same_category}
-use Rattle.register_judge.specs.Overlays.{Ends, Records, Relations, Standing, Takers, end_at, has_record, is_active_row, is_between, is_from, overlaid, put_exception, put_record, put_relation, record_at, relation_at, row_holds, stands_at, taker_at, unless_replaced, with_active, with_end, with_exception, with_record, with_relation, with_taker}
+use Rattle.relation_rules.specs.Checks.{is_from}
+use Rattle.register_judge.specs.Overlays.{Ends, Records, Relations, Standing, Takers, end_at, has_record, is_active_row, is_between, overlaid, put_exception, put_record, put_relation, record_at, relation_at, row_holds, stands_at, taker_at, unless_replaced, with_active, with_end, with_exception, with_record, with_relation, with_taker}
 
 -- ---- the key that a record holds
 
@@ -21,13 +23,9 @@ pub holds-dead : (row : Row) (authority id : List ℕ) → is_live row ≡ false
 unfolding holds
 holds-dead row authority id dead = ap (λ b. b && is_key authority id (akey row)) dead
 
-and_false : (b : Bool) → (b && false) ≡ false
-and_false true = refl
-and_false false = refl
-
 pub holds-no_key : (row : Row) (authority id : List ℕ) → None ≡ akey row → holds authority id row ≡ false
 unfolding holds
-holds-no_key row authority id none = ap (λ k. is_live row && is_key authority id k) (sym none) ∙ and_false (is_live row)
+holds-no_key row authority id none = ap (λ k. is_live row && is_key authority id k) (sym none) ∙ and-false (is_live row)
 
 pub holds-key : (row : Row) (key : List ℕ × List ℕ) (authority id : List ℕ) → is_live row ≡ true → Some key ≡ akey row
     → holds authority id row ≡ bytes_eq key.0 authority && bytes_eq key.1 id
@@ -116,9 +114,6 @@ module _ (below : Cells) (records later : Records) (takers newer : Takers) (rela
 
 -- ---- relationships
 
-flipped : (a b : List ℕ) → bytes_eq a b ≡ bytes_eq b a
-flipped a b = nat_list_eq_equiv.symm a b
-
 module _ (below : Cells) (records : Records) (takers : Takers) (relations later : Relations) (ends newer : Ends) (standing : Standing) (row : Row)
     (by_key : (start : List ℕ) (kind : RelationType) (end : List ℕ) → relation_at later start kind end ≡ cond (is_between start kind end row) (Some row) (relation_at relations start kind end))
     (by_start : (start : List ℕ) (kind : RelationType) → end_at newer start kind ≡ cond (is_active row && is_from start kind row) (Some (end_in row)) (end_at ends start kind)) where
@@ -134,7 +129,7 @@ module _ (below : Cells) (records : Records) (takers : Takers) (relations later 
     at_end : (end : List ℕ) → relation_at later start kind end ≡ cond (is_from start kind row && bytes_eq end (end_in row)) (Some row) (relation_at relations start kind end)
     at_end end =
         by_key start kind end
-        ∙ ap (λ b. cond (is_from start kind row && b) (Some row) (relation_at relations start kind end)) (flipped (end_in row) end)
+        ∙ ap (λ b. cond (is_from start kind row && b) (Some row) (relation_at relations start kind end)) (nat_list_eq_equiv.symm (end_in row) end)
 
     beside : is_from start kind row ≡ false → (end : List ℕ) → relation_at later start kind end ≡ relation_at relations start kind end
     beside f end = at_end end ∙ ap (λ b. cond (b && bytes_eq end (end_in row)) (Some row) (relation_at relations start kind end)) f
@@ -205,7 +200,7 @@ module _ (below : Cells) (records : Records) (takers : Takers) (relations later 
                 | true ↦ λ active. own_end t active seen
                 | false ↦ λ idle. left_end t idle (end_at ends start kind) seen
               ] refl
-          | false ↦ λ f. ap (λ b. with_end later start kind (cond b (Some (end_in row)) (end_at ends start kind)) seen) (and_false (is_active row)) ∙ same_end f (end_at ends start kind) seen
+          | false ↦ λ f. ap (λ b. with_end later start kind (cond b (Some (end_in row)) (end_at ends start kind)) seen) (and-false (is_active row)) ∙ same_end f (end_at ends start kind) seen
         ] refl
 
   -- the cells through the maps with one more relationship are the cells with the relationship put

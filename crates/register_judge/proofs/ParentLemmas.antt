@@ -1,10 +1,10 @@
 -- What items leave of the chains of direct parents, and of exceptions beside them.
 use Rattle.std.specs.Prelude.{◌≡◌, ℕ, ℤ, List, [], ◌∷◌, Option, Some, None}
 use Rattle.std.proofs.Common.{refl}
-use Rattle.lei_records.specs.declared.check.Check.{Check}
+use Rattle.lei_records.specs.Checks.{FailedCheck}
 use Rattle.lei_records.specs.declared.item.Item.{Item}
 use Rattle.lei_records.specs.declared.item.Readied.{Readied}
-use Rattle.lei_records.specs.Lines.{first_failing}
+use Rattle.lei_records.specs.Checks.{first_failing}
 use Rattle.lei_records.specs.Tables.{IsSound, Table, put, put_all}
 use Rattle.relation_rules.specs.Parents.{AreApart, HasParents}
 use Rattle.relation_rules.proofs.ApartLemmas.{exceptions_keep_apart, relations_keep_apart}
@@ -16,40 +16,40 @@ use Rattle.register_judge.proofs.TakingLemmas.{next_sound, put-written}
 
 -- an accepted item keeps this of a sound table
 abbrev Keeps : (Table → Type 0) → Type 0
-Keeps P = (table : Table) (limit : ℕ) (today : ℤ) (office : List ℕ) (item : Item) → IsSound table → P table
-    → first_failing (item_checks table limit today office item) ≡ None → P (put table item)
+Keeps P = (table : Table) (limit : ℕ) (today : ℤ) (issuer : List ℕ) (item : Item) → IsSound table → P table
+    → first_failing (item_checks table limit today issuer item) ≡ None → P (put table item)
 
-item_keeps : (P : Table → Type 0) → Keeps P → (table : Table) (limit : ℕ) (today : ℤ) (office : List ℕ) (item : Item) (failed : Option Check) → IsSound table → P table
-    → first_failing (item_checks table limit today office item) ≡ failed
+item_keeps : (P : Table → Type 0) → Keeps P → (table : Table) (limit : ℕ) (today : ℤ) (issuer : List ℕ) (item : Item) (failed : Option FailedCheck) → IsSound table → P table
+    → first_failing (item_checks table limit today issuer item) ≡ failed
     → P (put_all (writes_of (verdict_of failed) (Readied.Good item)) table)
-item_keeps P keeps table limit today office item None sound has is = put-written P table item (keeps table limit today office item sound has is)
-item_keeps P keeps table limit today office item (Some check) sound has is = has
+item_keeps P keeps table limit today issuer item None sound has is = put-written P table item (keeps table limit today issuer item sound has is)
+item_keeps P keeps table limit today issuer item (Some check) sound has is = has
 
-take_keeps : (P : Table → Type 0) → Keeps P → (table : Table) (limit : ℕ) (today : ℤ) (office : List ℕ) (items : List Readied) → IsSound table → P table → HaveRows items
-    → P (take table limit today office items).table
-take_keeps P keeps table limit today office [] sound has rows = has
-take_keeps P keeps table limit today office (Readied.Bad check ∷ items) sound has rows = take_keeps P keeps table limit today office items sound has rows
-take_keeps P keeps table limit today office (Readied.Good item ∷ items) sound has rows =
-    let given = verdict table limit today office (Readied.Good item) in
-    take_keeps P keeps (put_all (writes_of given (Readied.Good item)) table) limit today office items (next_sound table limit today office item sound rows.0)
-    (item_keeps P keeps table limit today office item (first_failing (item_checks table limit today office item)) sound has refl) rows.1
+take_keeps : (P : Table → Type 0) → Keeps P → (table : Table) (limit : ℕ) (today : ℤ) (issuer : List ℕ) (items : List Readied) → IsSound table → P table → HaveRows items
+    → P (take table limit today issuer items).table
+take_keeps P keeps table limit today issuer [] sound has rows = has
+take_keeps P keeps table limit today issuer (Readied.Bad check ∷ items) sound has rows = take_keeps P keeps table limit today issuer items sound has rows
+take_keeps P keeps table limit today issuer (Readied.Good item ∷ items) sound has rows =
+    let given = verdict table limit today issuer (Readied.Good item) in
+    take_keeps P keeps (put_all (writes_of given (Readied.Good item)) table) limit today issuer items (next_sound table limit today issuer item sound rows.0)
+    (item_keeps P keeps table limit today issuer item (first_failing (item_checks table limit today issuer item)) sound has refl) rows.1
 
 -- ---- parents, and exceptions beside them
 
 parents_kept : Keeps HasParents
-parents_kept table limit today office (Item.Record row) sound has passes = record { ends = has.ends }
-parents_kept table limit today office (Item.Relation row) sound has passes = keeps_parents table office row sound has passes
-parents_kept table limit today office (Item.Exception item) sound has passes = record { ends = has.ends }
+parents_kept table limit today issuer (Item.Record row) sound has passes = record { ends = has.ends }
+parents_kept table limit today issuer (Item.Relation row) sound has passes = keeps_parents table issuer row sound has passes
+parents_kept table limit today issuer (Item.Exception item) sound has passes = record { ends = has.ends }
 
 apart_kept : Keeps AreApart
-apart_kept table limit today office (Item.Record row) sound apart passes = apart
-apart_kept table limit today office (Item.Relation row) sound apart passes = relations_keep_apart table office row sound apart passes
-apart_kept table limit today office (Item.Exception item) sound apart passes = exceptions_keep_apart table office item.0 item.1 apart passes
+apart_kept table limit today issuer (Item.Record row) sound apart passes = apart
+apart_kept table limit today issuer (Item.Relation row) sound apart passes = relations_keep_apart table issuer row sound apart passes
+apart_kept table limit today issuer (Item.Exception item) sound apart passes = exceptions_keep_apart table issuer item.0 item.1 apart passes
 
-pub take-parents : (table : Table) (limit : ℕ) (today : ℤ) (office : List ℕ) (items : List Readied) → IsSound table → HasParents table → HaveRows items
-    → HasParents (take table limit today office items).table
+pub take-parents : (table : Table) (limit : ℕ) (today : ℤ) (issuer : List ℕ) (items : List Readied) → IsSound table → HasParents table → HaveRows items
+    → HasParents (take table limit today issuer items).table
 take-parents = take_keeps HasParents parents_kept
 
-pub take-apart : (table : Table) (limit : ℕ) (today : ℤ) (office : List ℕ) (items : List Readied) → IsSound table → AreApart table → HaveRows items
-    → AreApart (take table limit today office items).table
+pub take-apart : (table : Table) (limit : ℕ) (today : ℤ) (issuer : List ℕ) (items : List Readied) → IsSound table → AreApart table → HaveRows items
+    → AreApart (take table limit today issuer items).table
 take-apart = take_keeps AreApart apart_kept

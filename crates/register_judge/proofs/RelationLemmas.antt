@@ -15,63 +15,13 @@ use Rattle.lei_records.specs.Relations.{end_in, is_active, is_active_of, kind_in
 use Rattle.lei_records.specs.Rows.{Row}
 use Rattle.lei_records.specs.Tables.{AreRelationsKeyed, HasActives, KeyTexts, Table, active_of, cells_of, exception_key, exception_key_in, exception_row, has_exception, key_cmp, put, relation_key, relation_key_in, relation_of, relation_row, seen, seen_fact}
 use Rattle.authority_rules.specs.Taken.{unless_own}
-use Rattle.authority_rules.proofs.HolderLemmas.{both_true, bytes_itself, bytes_same, first_true, keys_total, same_key, second_true}
-use Rattle.relation_rules.specs.Checking as checking
-use Rattle.relation_rules.specs.Checking.{check_active, check_category, check_end, check_end_taken, check_held, check_managed, check_parents, check_relation, check_start, check_walked, checked_of, on_seen, unless_failed, walk_parents}
-use Rattle.relation_rules.proofs.ActiveLemmas.{IsFitting, active_of-put, split, with_relation}
-use Rattle.relation_rules.proofs.RowLemmas.{key_itself}
-use Rattle.register_judge.specs.Overlays.{is_between, is_from, put_exception, put_relation, with_active}
-
--- ---- keys
-
-both_same : (a b : Bool) → (a ≡ true → b ≡ true) → (b ≡ true → a ≡ true) → a ≡ b
-both_same true b there back = sym (there refl)
-both_same false true there back = sym (sym (back refl))
-both_same false false there back = refl
-
-first_text : KeyTexts → List ℕ
-first_text [] = []
-first_text (a ∷ texts) = a
-
-rest_texts : KeyTexts → KeyTexts
-rest_texts [] = []
-rest_texts (a ∷ texts) = texts
-
--- two relationships have one key exactly where they have one start, one type and one end
-key_between : (start : List ℕ) (kind : RelationType) (end : List ℕ) (row : Row)
-    → eq_by_cmp key_cmp (relation_key start kind end) (relation_key_in row) ≡ is_between start kind end row
-unfolding first_text rest_texts
-key_between start kind end row =
-    let same_bytes : (a b : List ℕ) → a ≡ b → bytes_eq b a ≡ true = λ a b e. ap (λ x. bytes_eq b x) e ∙ bytes_itself b in
-    both_same _ _
-    (λ tied.
-    let same : relation_key start kind end ≡ relation_key_in row = same_key _ _ tied in
-    both_true _ _ (both_true _ _ (same_bytes _ _ (ap first_text same)) (same_bytes _ _ (ap (λ k. first_text (rest_texts k)) same)))
-    (same_bytes _ _ (ap (λ k. first_text (rest_texts (rest_texts k))) same)))
-    (λ between.
-    let from = first_true (is_from start kind row) _ between in
-    let starts = bytes_same (start_in row) start (first_true _ _ from) in
-    let types = bytes_same (relation_type_text (kind_in row)) (relation_type_text kind) (second_true (bytes_eq (start_in row) start) _ from) in
-    let ends = bytes_same (end_in row) end (second_true (is_from start kind row) _ between) in
-    let same : relation_key_in row ≡ relation_key start kind end = λ i. starts i ∷ types i ∷ ends i ∷ [] in
-    ap (λ k. eq_by_cmp key_cmp k (relation_key_in row)) (sym same) ∙ key_itself (relation_key_in row))
-
--- two exceptions have one key exactly where they have one code and one category
-key_of_exception : (lei : List ℕ) (category : ExceptionCategory) (row : Row)
-    → eq_by_cmp key_cmp (exception_key lei category) (exception_key_in row)
-    ≡ (bytes_eq (subject_in row) lei && is_same_category (exception_category_in row) category)
-unfolding first_text rest_texts
-key_of_exception lei category row =
-    let same_bytes : (a b : List ℕ) → a ≡ b → bytes_eq b a ≡ true = λ a b e. ap (λ x. bytes_eq b x) e ∙ bytes_itself b in
-    both_same _ _
-    (λ tied.
-    let same : exception_key lei category ≡ exception_key_in row = same_key _ _ tied in
-    both_true _ _ (same_bytes _ _ (ap first_text same)) (same_bytes _ _ (ap (λ k. first_text (rest_texts k)) same)))
-    (λ both.
-    let leis = bytes_same (subject_in row) lei (first_true _ _ both) in
-    let categories = bytes_same (exception_category_text (exception_category_in row)) (exception_category_text category) (second_true (bytes_eq (subject_in row) lei) _ both) in
-    let same : exception_key_in row ≡ exception_key lei category = λ i. leis i ∷ categories i ∷ [] in
-    ap (λ k. eq_by_cmp key_cmp k (exception_key_in row)) (sym same) ∙ key_itself (exception_key_in row))
+use Rattle.authority_rules.proofs.HolderLemmas.{keys_total}
+use Rattle.authority_rules.proofs.KeyLemmas.{tied-exception_key, tied-relation_key}
+use Rattle.authority_rules.proofs.PutLemmas.{other_than}
+use Rattle.relation_rules.specs.Checks.{is_from}
+use Rattle.relation_rules.proofs.ActiveLemmas.{IsFitting, active_of-put, with_relation}
+use Rattle.relation_rules.proofs.CheckLemmas.{seen_other}
+use Rattle.register_judge.specs.Overlays.{is_between, put_exception, put_relation, with_active}
 
 -- ---- a relationship is put
 
@@ -86,21 +36,16 @@ relation_cell : (table : Table) (row : Row) (start : List ℕ) (kind : RelationT
 relation_cell table row start kind end =
     let key = relation_key start kind end in
     ap (λ r. seen (option_map rel_cell r)) (get-insert keys_total table.relations (relation_key_in row) row key)
-    ∙ (ap (λ b. seen (option_map rel_cell (cond b (Some row) (relation_row table start kind end)))) (key_between start kind end row)
+    ∙ (ap (λ b. seen (option_map rel_cell (cond b (Some row) (relation_row table start kind end)))) (tied-relation_key start kind end row)
     ∙ seen_row (is_between start kind end row) row (relation_row table start kind end))
-
-seen_left : (own : List ℕ) (held : Option (List ℕ)) → seen (checking.unless_own own held) ≡ unless_own own (seen held)
-seen_left own None = refl
-seen_left own (Some end) =
-    elim (bytes_eq end own) as (λ b. seen (cond b None (Some end)) ≡ cond b Seen.Empty (Seen.Held end)) [ true ↦ refl | false ↦ refl ]
 
 -- the row's end where it is active of the start and the type, and else what is left of what was held
 seen_active : (active of_them : Bool) (end : List ℕ) (held : Option (List ℕ))
-    → seen (cond (active && of_them) (Some end) (cond of_them (checking.unless_own end held) held))
+    → seen (cond (active && of_them) (Some end) (cond of_them (other_than end held) held))
     ≡ cond of_them (cond active (Seen.Held end) (unless_own end (seen held))) (seen held)
 seen_active true true end held = refl
 seen_active true false end held = refl
-seen_active false true end held = seen_left end held
+seen_active false true end held = seen_other end held
 seen_active false false end held = refl
 
 active_by : (start : List ℕ) (kind : RelationType) (row : Row) → is_active_of start kind row ≡ (is_active row && is_from start kind row)
@@ -113,7 +58,7 @@ active_cell : (table : Table) (row : Row) (start : List ℕ) (kind : RelationTyp
 active_cell table row start kind keyed actives fits =
     let held = active_of table start kind in
     ap seen (active_of-put table row start kind keyed actives fits)
-    ∙ (ap (λ b. seen (cond b (Some (end_in row)) (cond (is_from start kind row) (checking.unless_own (end_in row) held) held))) (active_by start kind row)
+    ∙ (ap (λ b. seen (cond b (Some (end_in row)) (cond (is_from start kind row) (other_than (end_in row) held) held))) (active_by start kind row)
     ∙ seen_active (is_active row) (is_from start kind row) (end_in row) held)
 
 -- putting a fitting relationship into a table puts it over the table's cells
@@ -123,10 +68,6 @@ cells-put_relation table row keyed actives fits = λ i. record (cells_of table) 
   relation = λ start kind end. sym (relation_cell table row start kind end) i;
   active = λ start kind. sym (active_cell table row start kind keyed actives fits) i;
 }
-
-pub AreRelationsKeyed-put : (table : Table) (row : Row) → AreRelationsKeyed table → AreRelationsKeyed (put table (Item.Relation row))
-AreRelationsKeyed-put table row keyed key other at =
-    split table row key other (key ≡ relation_key_in other) at (λ own same. own ∙ ap relation_key_in same) (λ _ was. keyed key other was)
 
 -- ---- an exception is put, or withdrawn
 
@@ -144,11 +85,11 @@ exception_cell : (table : Table) (row : Row) (withdraws : Bool) (lei : List ℕ)
 exception_cell table row false lei category =
     let held = exception_row table lei category in
     ap (λ r. seen_fact (is_some r)) (get-insert keys_total table.exceptions (exception_key_in row) row (exception_key lei category))
-    ∙ (ap (λ b. seen_fact (is_some (cond b (Some row) held))) (key_of_exception lei category row) ∙ seen_put _ row held)
+    ∙ (ap (λ b. seen_fact (is_some (cond b (Some row) held))) (tied-exception_key lei category row) ∙ seen_put _ row held)
 exception_cell table row true lei category =
     let held = exception_row table lei category in
     ap (λ r. seen_fact (is_some r)) (get-remove keys_total table.exceptions (exception_key_in row) (exception_key lei category))
-    ∙ (ap (λ b. seen_fact (is_some (cond b None held))) (key_of_exception lei category row) ∙ seen_gone _ held)
+    ∙ (ap (λ b. seen_fact (is_some (cond b None held))) (tied-exception_key lei category row) ∙ seen_gone _ held)
 
 -- putting an exception into a table, or taking it out, does so over the table's cells
 pub cells-put_exception : (table : Table) (row : Row) (withdraws : Bool)

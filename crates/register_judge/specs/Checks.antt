@@ -3,142 +3,144 @@ use Rattle.std.specs.Prelude.{ℕ, ℤ, List, [], ◌∷◌, ◌++◌, Bool, fal
 use Rattle.std.specs.Option.{option_map_or}
 use Rattle.std.specs.Ordering.{int_eq}
 use Rattle.std.specs.Str.{bytes_eq}
+use Rattle.lei_code.specs.Texts.{Lei}
 use Rattle.lei_shapes.specs.declared.lists.RecordStatus.{RecordStatus}
 use Rattle.lei_shapes.specs.Moment.{day_of}
 use Rattle.lei_records.specs.declared.check.Detail.{Detail}
 use Rattle.lei_records.specs.declared.view.RecCell.{RecCell}
 use Rattle.lei_records.specs.Cells.{lei_in, status_in, entity_status_in, initial_in, updated_in, renewal_in, created_in, manager_in, successor_in, is_live}
-use Rattle.lei_records.specs.Lines.{Line, fails_if, code_detail}
+use Rattle.lei_records.specs.Checks.{Finding, fails_if, code_detail}
 use Rattle.lei_records.specs.Rows.{Row}
 use Rattle.lei_records.specs.Tables.{Table, record_of, record_count, other_holder}
+use Rattle.lei_records.specs.Walks.{Next, is_long, is_met, successor_of}
 use Rattle.status_rules.specs.declared.transitions.Party.{Party}
 use Rattle.status_rules.specs.Statuses.{entity_fits, renewal_fits, is_issued, is_retired, is_duplicate}
 use Rattle.status_rules.specs.Transitions.{party}
-use Rattle.successor_rules.specs.Successors.{successor_of}
-use Rattle.successor_rules.specs.Walks.{Next, is_met, is_long}
 
--- ---- the item alone, and the uploader
+-- ---- the item alone, and the issuer that uploads it
 
--- C05: record and entity status are no allowed pair
-abbrev pub c05 : Row → Line
+-- C05 fails where record and entity status are no allowed pair.
+abbrev pub c05 : Row → Finding
 c05 item = fails_if (not (entity_fits (status_in item) (entity_status_in item))) 5 Detail.None
 
--- C06: LastUpdateDate or NextRenewalDate is before InitialRegistrationDate
-abbrev pub c06 : Row → Line
+-- C06 fails where LastUpdateDate or NextRenewalDate is before InitialRegistrationDate.
+abbrev pub c06 : Row → Finding
 c06 item = fails_if (int_lt (updated_in item) (initial_in item) || int_lt (renewal_in item) (initial_in item)) 6 Detail.None
 
--- the moment's day is after today
+-- The moment's day is after today.
 abbrev pub is_after : ℤ → ℤ → Bool
 is_after today seconds = int_lt today (day_of seconds)
 
--- C07: the day of LastUpdateDate or of EntityCreationDate is after today
-abbrev pub c07 : ℤ → Row → Line
+-- C07 fails where the day of LastUpdateDate or of EntityCreationDate is after today.
+abbrev pub c07 : ℤ → Row → Finding
 c07 today item =
     fails_if (is_after today (updated_in item) || option_map_or (is_after today) (created_in item) false) 7 Detail.None
 
--- a successor stands on another status than RETIRED and DUPLICATE, or none stands on DUPLICATE
+-- A successor stands on another status than RETIRED and DUPLICATE, or none stands on DUPLICATE.
 abbrev pub misfits : RecordStatus → Bool → Bool
 misfits status stands = (stands && not (is_retired status || is_duplicate status)) || (not stands && is_duplicate status)
 
--- C08: the successor, or that there is none, doesn't fit the status
-abbrev pub c08 : Row → Line
+-- C08 fails where the successor, or that there is none, doesn't fit the status.
+abbrev pub c08 : Row → Finding
 c08 item = fails_if (misfits (status_in item) (is_some (successor_in item))) 8 Detail.None
 
--- C09: the item's ManagingLOU isn't the uploader
-abbrev pub c09 : List ℕ → Row → Line
-c09 office item = fails_if (not (bytes_eq (manager_in item) office)) 9 Detail.None
+-- C09 fails where the item's ManagingLOU isn't the issuer that uploads it.
+abbrev pub c09 : Lei → Row → Finding
+c09 issuer item = fails_if (not (bytes_eq (manager_in item) issuer)) 9 Detail.None
 
 -- ---- the record that is held under the item's LEI, if there is one
 
--- C10: no record is held and the status isn't ISSUED
-abbrev pub c10 : Option RecCell → Row → Line
+-- C10 fails where no record is held and the status isn't ISSUED.
+abbrev pub c10 : Option RecCell → Row → Finding
 c10 None item = fails_if (not (is_issued (status_in item))) 10 Detail.None
 c10 (Some held) item = fails_if false 10 Detail.None
 
--- C11: one is held and the pair of statuses isn't permitted; the held status is told
-abbrev pub c11 : Option RecCell → Row → Line
+-- C11 fails where one is held and the pair of statuses isn't permitted. The held status is told.
+abbrev pub c11 : Option RecCell → Row → Finding
 c11 None item = fails_if false 11 Detail.None
 c11 (Some held) item =
     fails_if (is_none (party (Some held.status) (status_in item))) 11 (Detail.Status held.status)
 
--- the party to a change of the held record isn't the office
-abbrev pub is_another : RecCell → List ℕ → Option Party → Bool
-is_another held office None = false
-is_another held office (Some Party.New) = false
-is_another held office (Some Party.Manager) = not (bytes_eq held.manager office)
-is_another held office (Some Party.Receiver) = not (option_map_or (bytes_eq office) held.transfer_to false)
+-- The party to a change of the held record is another issuer than this one.
+abbrev pub is_another : RecCell → Lei → Option Party → Bool
+is_another held issuer None = false
+is_another held issuer (Some Party.New) = false
+is_another held issuer (Some Party.Manager) = not (bytes_eq held.manager issuer)
+is_another held issuer (Some Party.Receiver) = not (option_map_or (bytes_eq issuer) held.transfer_to false)
 
--- C12: one is held, the pair is permitted to its manager (its receiver), and its ManagingLOU (its
--- TransferTo) isn't the uploader
-abbrev pub c12 : Option RecCell → List ℕ → Row → Line
-c12 None office item = fails_if false 12 Detail.None
-c12 (Some held) office item =
-    fails_if (is_another held office (party (Some held.status) (status_in item))) 12 Detail.None
+-- C12 fails where one is held, the pair is permitted to its manager (its receiver), and its ManagingLOU (its TransferTo)
+-- isn't the issuer that uploads the item.
+abbrev pub c12 : Option RecCell → Lei → Row → Finding
+c12 None issuer item = fails_if false 12 Detail.None
+c12 (Some held) issuer item =
+    fails_if (is_another held issuer (party (Some held.status) (status_in item))) 12 Detail.None
 
--- C13: one is held with another InitialRegistrationDate
-abbrev pub c13 : Option RecCell → Row → Line
+-- C13 fails where one is held with another InitialRegistrationDate.
+abbrev pub c13 : Option RecCell → Row → Finding
 c13 None item = fails_if false 13 Detail.None
 c13 (Some held) item = fails_if (not (int_eq held.initial (initial_in item))) 13 Detail.None
 
--- C14: one is held with a later LastUpdateDate
-abbrev pub c14 : Option RecCell → Row → Line
+-- C14 fails where one is held with a later LastUpdateDate.
+abbrev pub c14 : Option RecCell → Row → Finding
 c14 None item = fails_if false 14 Detail.None
 c14 (Some held) item = fails_if (int_lt (updated_in item) held.updated) 14 Detail.None
 
--- C15: the rule on renewal is broken
-abbrev pub c15 : ℤ → Row → Line
+-- C15 fails where the rule on renewal is broken.
+abbrev pub c15 : ℤ → Row → Finding
 c15 today item = fails_if (not (renewal_fits (status_in item) (day_of (renewal_in item)) today)) 15 Detail.None
 
 -- ---- the successor of an item that has one
 
--- C16: no record of the successor is held
-abbrev pub c16 : Option RecCell → Line
+-- C16 fails where no record of the successor is held.
+abbrev pub c16 : Option RecCell → Finding
 c16 found = fails_if (is_none found) 16 Detail.None
 
--- C17: one of the first 200 members of the walk from the successor is the item's own LEI
-abbrev pub c17 : Next → Row → List ℕ → Line
+-- C17 fails where one of the first 200 members of the walk from the successor is the item's own LEI.
+abbrev pub c17 : Next → Row → Lei → Finding
 c17 next item successor = fails_if (is_met next (lei_in item) successor) 17 Detail.None
 
--- C18: that walk has a 201st member
-abbrev pub c18 : Next → List ℕ → Line
+-- C18 fails where that walk has a 201st member.
+abbrev pub c18 : Next → Lei → Finding
 c18 next successor = fails_if (is_long next successor) 18 Detail.None
 
 -- ---- the other records
 
--- C19: the item is live and another live record has its authority key; that record's LEI is told
-abbrev pub c19 : Option (List ℕ) → Row → Line
+-- C19 fails where the item is live and another live record has its authority key. That record's LEI is told.
+abbrev pub c19 : Option Lei → Row → Finding
 c19 other item = fails_if (is_live item && is_some other) 19 (code_detail other)
 
--- C20: no record is held, and there are as many records as the limit
-abbrev pub c20 : Option RecCell → Bool → Line
+-- C20 fails where no record is held, and there are as many records as the limit.
+abbrev pub c20 : Option RecCell → Bool → Finding
 c20 held full = fails_if (is_none held && full) 20 Detail.None
 
--- ---- the checks in order of their numbers
+-- ---- the checks in the order of their numbers
 
-abbrev pub own_checks : ℤ → List ℕ → Row → List Line
-own_checks today office item = c05 item ∷ c06 item ∷ c07 today item ∷ c08 item ∷ c09 office item ∷ []
+-- The checks of the item alone and of the issuer that uploads it: C05 to C09.
+abbrev pub own_checks : ℤ → Lei → Row → List Finding
+own_checks today issuer item = c05 item ∷ c06 item ∷ c07 today item ∷ c08 item ∷ c09 issuer item ∷ []
 
-abbrev pub held_checks : Option RecCell → ℤ → List ℕ → Row → List Line
-held_checks held today office item =
-    c10 held item ∷ c11 held item ∷ c12 held office item ∷ c13 held item ∷ c14 held item ∷ c15 today item ∷ []
+-- The checks beside the record that is held under the item's LEI: C10 to C15.
+abbrev pub held_checks : Option RecCell → ℤ → Lei → Row → List Finding
+held_checks held today issuer item =
+    c10 held item ∷ c11 held item ∷ c12 held issuer item ∷ c13 held item ∷ c14 held item ∷ c15 today item ∷ []
 
--- C16 to C18 are asked only of an item that has a successor. The walk goes by the records of the table
-abbrev pub successor_checks : Table → Row → Option (List ℕ) → List Line
+-- The checks of the item's successor, C16 to C18: none where it has no successor. The walk goes by the records of the table.
+abbrev pub successor_checks : Table → Row → Option Lei → List Finding
 successor_checks table item None = []
 successor_checks table item (Some successor) =
     c16 (record_of table successor) ∷ c17 (successor_of table) item successor ∷ c18 (successor_of table) successor ∷ []
 
--- the checks before C20, on a table
-abbrev pub earlier_checks : Table → ℤ → List ℕ → Row → List Line
-earlier_checks table today office item =
-    own_checks today office item ++ held_checks (record_of table (lei_in item)) today office item
+-- All checks before C20 of a record on a table, for an issuer and a day.
+abbrev pub earlier_checks : Table → ℤ → Lei → Row → List Finding
+earlier_checks table today issuer item =
+    own_checks today issuer item ++ held_checks (record_of table (lei_in item)) today issuer item
     ++ successor_checks table item (successor_in item) ++ c19 (other_holder table item) item ∷ []
 
--- the table holds as many records as the limit
+-- The table holds as many records as the limit.
 abbrev pub is_full : Table → ℕ → Bool
 is_full table limit = nat_le limit (record_count table)
 
--- all checks of a record on a table, for an office and a day, where the table may hold so many records
-abbrev pub checks : Table → ℕ → ℤ → List ℕ → Row → List Line
-checks table limit today office item =
-    earlier_checks table today office item ++ c20 (record_of table (lei_in item)) (is_full table limit) ∷ []
+-- All checks of a record on a table, for an issuer and a day, where the table may hold so many records.
+abbrev pub checks : Table → ℕ → ℤ → Lei → Row → List Finding
+checks table limit today issuer item =
+    earlier_checks table today issuer item ++ c20 (record_of table (lei_in item)) (is_full table limit) ∷ []

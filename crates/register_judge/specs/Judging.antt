@@ -1,7 +1,6 @@
--- The same over any view: what a view's cells make of items, or the first cell that they need and the view lacks.
+-- Judging over any view: what a view's cells make of items, or the first cell that they need and the view lacks.
 use Rattle.std.specs.Prelude.{ℕ, ◌+◌, ◌-◌, ◌==◌, ℤ, List, [], ◌∷◌, ◌++◌, Bool, true, false, if◌then◌else◌, Option, Some, None, is_none, Result, Ok, Err}
-use Rattle.lei_records.specs.declared.check.Check.{Check}
-use Rattle.lei_records.specs.declared.check.Detail.{Detail}
+use Rattle.lei_code.specs.Texts.{Lei, Text}
 use Rattle.lei_records.specs.declared.item.Item.{Item}
 use Rattle.lei_records.specs.declared.item.Readied.{Readied}
 use Rattle.lei_records.specs.declared.view.CellKey.{CellKey}
@@ -9,125 +8,122 @@ use Rattle.lei_records.specs.declared.view.RecCell.{RecCell}
 use Rattle.lei_records.specs.declared.view.RowKey.{RowKey}
 use Rattle.lei_records.specs.declared.view.Seen.{Seen}
 use Rattle.lei_records.specs.Cells.{Cells, lei_in, successor_in, is_live, akey}
-use Rattle.lei_records.specs.Lines.{first_failing}
+use Rattle.lei_records.specs.Checks.{FailedCheck, first_failing}
 use Rattle.lei_records.specs.Rows.{Row}
 use Rattle.authority_rules.specs.Taken.{taken}
-use Rattle.relation_rules.specs.declared.checked.Checked.{Checked}
-use Rattle.relation_rules.specs.Checking.{check_relation, check_exception}
-use Rattle.successor_rules.specs.declared.walks.Walked.{Walked}
 use Rattle.successor_rules.specs.Successors.{walk}
+use Rattle.relation_rules.specs.declared.checked.Checked.{Checked}
+use Rattle.relation_rules.specs.Checking.{check_exception, check_relation, check_walked, checked_of, on_seen, unless_failed}
 use Rattle.register_judge.specs.declared.judge.Judged.{Judged}
 use Rattle.register_judge.specs.declared.outcome.Verdict.{Verdict}
 use Rattle.register_judge.specs.Checks.{own_checks, held_checks, c16, c19, c20}
 use Rattle.register_judge.specs.Overlays.{put_cells}
 use Rattle.register_judge.specs.Taking.{verdict_of, writes_of}
 
-abbrev pub rejected : Check → Judged
-rejected check = record { verdict = Verdict.Rejected check; new = false }
+-- ---- a record, from C05 to C19
 
--- the first that fails, or what comes then
-abbrev pub unless_failed : Option Check → Result Judged CellKey → Result Judged CellKey
-unless_failed None next = next
-unless_failed (Some check) next = Ok (rejected check)
-
--- what comes of what a cell has, and the cell's key where the view lacks it
-abbrev pub on_seen : {X : Type 0} → Seen X → CellKey → (Option X → Result Judged CellKey) → Result Judged CellKey
-on_seen (Seen.Held x) key next = next (Some x)
-on_seen Seen.Empty key next = next None
-on_seen Seen.Missing key next = Err key
-
--- the cell of an authority key
-abbrev pub key_cell : Option (List ℕ × List ℕ) → CellKey
+-- The cell of an authority key. A record without a key doesn't ask for one.
+abbrev pub key_cell : Option (Text × Text) → CellKey
 key_cell None = CellKey.Key [] []
 key_cell (Some key) = CellKey.Key key.0 key.1
 
--- C20, after all others
+-- C19: a record that isn't live doesn't ask for its key.
+abbrev pub check_key : Cells → Row → Checked
+check_key cells item =
+    if is_live item
+    then on_seen (taken cells item) (key_cell (akey item)) (λ other. checked_of (first_failing (c19 other item ∷ [])))
+    else Checked.Passes
+
+-- C16 to C19, with the record of the successor.
+abbrev pub check_named : Cells → Row → Lei → Option RecCell → Checked
+check_named cells item successor found =
+    unless_failed (first_failing (c16 found ∷ []))
+    (check_walked 17 18 (walk cells (lei_in item) successor) (check_key cells item))
+
+-- The same by the successor: an item without one has nothing to ask of it.
+abbrev pub check_successor : Cells → Row → Option Lei → Checked
+check_successor cells item None = check_key cells item
+check_successor cells item (Some successor) =
+    on_seen (cells.record_cell successor) (CellKey.Rec successor) (check_named cells item successor)
+
+-- C10 to C19, with the record that is held under the item's LEI.
+abbrev pub check_held : Cells → ℤ → Lei → Row → Option RecCell → Checked
+check_held cells today issuer item held =
+    unless_failed (first_failing (held_checks held today issuer item)) (check_successor cells item (successor_in item))
+
+-- What the checks C05 to C19 of a record that an issuer uploads on a day come to over a view.
+unfoldable pub check_record : Cells → ℤ → Lei → Row → Checked
+check_record cells today issuer item =
+    unless_failed (first_failing (own_checks today issuer item))
+    (on_seen (cells.record_cell (lei_in item)) (CellKey.Rec (lei_in item)) (check_held cells today issuer item))
+
+-- ---- an item
+
+-- An item is rejected by a check.
+abbrev pub rejected : FailedCheck → Judged
+rejected check = record { verdict = Verdict.Rejected check; new = false }
+
+-- An item that takes up no room is accepted.
+abbrev pub accepted : Judged
+accepted = record { verdict = Verdict.Accepted; new = false }
+
+-- A record came to C20: it fails or not, and the record is new where none is held.
 abbrev pub judge_room : Option RecCell → Bool → Judged
 judge_room held full = record { verdict = verdict_of (first_failing (c20 held full ∷ [])); new = is_none held }
 
--- C19, and then C20
-abbrev pub judge_other : Option RecCell → Bool → Row → Option (List ℕ) → Result Judged CellKey
-judge_other held full item other = unless_failed (first_failing (c19 other item ∷ [])) (Ok (judge_room held full))
+-- What comes of an item by what its checks come to, and by what comes of it where they pass.
+abbrev pub judged_by : Checked → Judged → Result Judged CellKey
+judged_by Checked.Passes passed = Ok passed
+judged_by (Checked.Fails check) passed = Ok (rejected check)
+judged_by (Checked.Missing key) passed = Err key
 
--- from C19 on: a record that isn't live doesn't ask for its key
-abbrev pub judge_key : Cells → Option RecCell → Bool → Row → Result Judged CellKey
-judge_key cells held full item =
-    if is_live item then on_seen (taken cells item) (key_cell (akey item)) (judge_other held full item)
-    else Ok (judge_room held full)
+-- What a cell has as far as the view knows.
+abbrev pub held_in : {X : Type 0} → Seen X → Option X
+held_in (Seen.Held x) = Some x
+held_in Seen.Empty = None
+held_in Seen.Missing = None
 
--- a check that tells nothing but its number
-abbrev pub plain : ℕ → Check
-plain code = record { code = code; detail = Detail.None }
+-- What comes of a record: C20 is asked last, with the record that is held under its LEI.
+abbrev pub judge_record : Cells → Bool → ℤ → Lei → Row → Result Judged CellKey
+judge_record cells full today issuer item =
+    judged_by (check_record cells today issuer item) (judge_room (held_in (cells.record_cell (lei_in item))) full)
 
--- C17 and C18, by what becomes of the walk of successors, and then from C19 on
-abbrev pub judge_walk : Cells → Option RecCell → Bool → Row → Walked → Result Judged CellKey
-judge_walk cells held full item Walked.Meets = Ok (rejected (plain 17))
-judge_walk cells held full item Walked.Long = Ok (rejected (plain 18))
-judge_walk cells held full item Walked.Ends = judge_key cells held full item
-judge_walk cells held full item (Walked.Missing key) = Err key
-
--- from C16 on, with the record of the successor
-abbrev pub judge_named : Cells → Option RecCell → Bool → Row → List ℕ → Option RecCell → Result Judged CellKey
-judge_named cells held full item successor found =
-    unless_failed (first_failing (c16 found ∷ [])) (judge_walk cells held full item (walk cells (lei_in item) successor))
-
--- from C16 on: an item without a successor has nothing to ask of one
-abbrev pub judge_successor : Cells → Option RecCell → Bool → Row → Option (List ℕ) → Result Judged CellKey
-judge_successor cells held full item None = judge_key cells held full item
-judge_successor cells held full item (Some successor) =
-    on_seen (cells.record_cell successor) (CellKey.Rec successor) (judge_named cells held full item successor)
-
--- from C10 on
-abbrev pub judge_held : Cells → Bool → ℤ → List ℕ → Row → Option RecCell → Result Judged CellKey
-judge_held cells full today office item held =
-    unless_failed (first_failing (held_checks held today office item))
-    (judge_successor cells held full item (successor_in item))
-
--- from C05 on
-unfoldable pub judge_record : Cells → Bool → ℤ → List ℕ → Row → Result Judged CellKey
-judge_record cells full today office item =
-    unless_failed (first_failing (own_checks today office item))
-    (on_seen (cells.record_cell (lei_in item)) (CellKey.Rec (lei_in item)) (judge_held cells full today office item))
-
--- a relationship or an exception, by what its checks come to: it takes up no room
-abbrev pub judged_of : Checked → Result Judged CellKey
-judged_of Checked.Passes = Ok (record { verdict = Verdict.Accepted; new = false })
-judged_of (Checked.Fails check) = Ok (rejected check)
-judged_of (Checked.Missing key) = Err key
-
-abbrev pub judge_item : Cells → Bool → ℤ → List ℕ → Readied → Result Judged CellKey
-judge_item cells full today office (Readied.Bad check) = Ok (rejected check)
-judge_item cells full today office (Readied.Good (Item.Record item)) = judge_record cells full today office item
-judge_item cells full today office (Readied.Good (Item.Relation item)) = judged_of (check_relation cells office item)
-judge_item cells full today office (Readied.Good (Item.Exception item)) = judged_of (check_exception cells office item)
+-- What comes of an item that an issuer uploads on a day, where a further record fits or not.
+abbrev pub judge_item : Cells → Bool → ℤ → Lei → Readied → Result Judged CellKey
+judge_item cells full today issuer (Readied.Bad check) = Ok (rejected check)
+judge_item cells full today issuer (Readied.Good (Item.Record item)) = judge_record cells full today issuer item
+judge_item cells full today issuer (Readied.Good (Item.Relation item)) = judged_by (check_relation cells issuer item) accepted
+judge_item cells full today issuer (Readied.Good (Item.Exception item)) = judged_by (check_exception cells issuer item) accepted
 
 -- ---- items from the first to the last
 
--- the cells after these writes
+-- The cells after these writes.
 abbrev pub put_writes : List (RowKey × Option Item) → Cells → Cells
 put_writes [] cells = cells
 put_writes (write ∷ writes) cells = put_writes writes (put_cells cells write)
 
+-- The cells after an item, by what came of it.
 abbrev pub cells_after : Result Judged CellKey → Readied → Cells → Cells
 cells_after (Err key) item cells = cells
 cells_after (Ok judged) item cells = put_writes (writes_of judged.verdict item) cells
 
--- an accepted item that is new takes up room
+-- How much room an item takes up: that of one record where it is accepted and new.
 abbrev pub room_taken : Verdict → Bool → ℕ
 room_taken Verdict.Accepted true = 1
 room_taken verdict new = 0
 
+-- The room that is left after an item, by what came of it.
 abbrev pub room_after : Result Judged CellKey → ℕ → ℕ
 room_after (Err key) room = room
 room_after (Ok judged) room = room - room_taken judged.verdict judged.new
 
--- Verdicts, writes, and how many items were new.
+-- A judgement: verdicts, writes, and how many items were new.
 pub record Judgement : Type 0 where
   pub verdicts : List Verdict
   pub writes : List (RowKey × Option Item)
   pub new_records : ℕ
 
--- one item in front of those behind it
+-- The judgement of one item in front of those behind it.
 abbrev pub item_in_front : Judged → Readied → Judgement → Judgement
 item_in_front judged item rest = record {
   verdicts = judged.verdict ∷ rest.verdicts;
@@ -135,13 +131,16 @@ item_in_front judged item rest = record {
   new_records = (if judged.new then 1 else 0) + rest.new_records;
 }
 
+-- The same where a cell may be lacking: then the first such cell is what comes of all.
 abbrev pub before : Result Judged CellKey → Readied → Result Judgement CellKey → Result Judgement CellKey
 before (Err key) item rest = Err key
 before (Ok judged) item (Err key) = Err key
 before (Ok judged) item (Ok rest) = Ok (item_in_front judged item rest)
 
-unfoldable pub judge_items : Cells → ℕ → ℤ → List ℕ → List Readied → Result Judgement CellKey
-judge_items cells room today office [] = Ok (record { verdicts = []; writes = []; new_records = 0 })
-judge_items cells room today office (item ∷ items) =
-    let judged = judge_item cells (room == 0) today office item in
-    before judged item (judge_items (cells_after judged item cells) (room_after judged room) today office items)
+-- What comes of items from the first to the last, each judged on the cells with the accepted ones before it put, where so
+-- many further records fit.
+unfoldable pub judge_items : Cells → ℕ → ℤ → Lei → List Readied → Result Judgement CellKey
+judge_items cells room today issuer [] = Ok (record { verdicts = []; writes = []; new_records = 0 })
+judge_items cells room today issuer (item ∷ items) =
+    let judged = judge_item cells (room == 0) today issuer item in
+    before judged item (judge_items (cells_after judged item cells) (room_after judged room) today issuer items)

@@ -3,5 +3,3 @@ pub mod Judging
 pub mod Outcomes
 pub mod Overlays
 pub mod Taking
-pub mod Progress
-pub mod Rising

@@ -1,9 +1,8 @@
 -- What `judge_all` answers of what came of items.
-use Rattle.std.specs.Prelude.{◌≡◌, ℕ, List, [], Result, Ok, Err, MatchResult, ⊤}
+use Rattle.std.specs.Prelude.{◌≡◌, ℕ, List, [], Option, Result, Ok, Err, MatchResult, ⊤}
 use Rattle.lei_records.specs.declared.item.Item.{Item}
 use Rattle.lei_records.specs.declared.view.CellKey.{CellKey}
 use Rattle.lei_records.specs.declared.view.RowKey.{RowKey}
-use Rattle.std.specs.Prelude.{Option}
 use Rattle.register_judge.specs.declared.judge.Judged.{Judged}
 use Rattle.register_judge.specs.declared.outcome.JudgeStop.{JudgeStop}
 use Rattle.register_judge.specs.declared.outcome.Outcome.{Outcome}
@@ -18,23 +17,24 @@ pub record Shows (outcome : Outcome) (verdicts : List Verdict) (writes : List (R
   pub new_are : outcome.new_records ≡ new_records
   pub reads_are : outcome.reads ≡ []
 
--- what was taken is shown, or memory ran out
+-- The outcome is what was taken, or memory ran out.
 abbrev pub Takes : Result Outcome JudgeStop → Taken → Type 0
 Takes result taken = MatchResult result
     (λ outcome. Shows outcome taken.verdicts taken.writes taken.new_records)
     (λ stop. stop ≡ JudgeStop.NoMemory)
 
--- it stopped for want of this cell, or memory ran out
+-- It stopped for want of the cell that is lacking, or memory ran out.
 abbrev pub Stops : {X : Type 0} → JudgeStop → Result X CellKey → Type 0
 Stops (JudgeStop.NeedCell key) judged = judged ≡ Err key
 Stops JudgeStop.NoMemory judged = ⊤
 
--- what was judged is shown, or the first cell that it needs and that the view lacks, or memory ran out
+-- The outcome is what was judged, or it stopped for want of the first cell that is needed and that the view lacks, or memory
+-- ran out.
 abbrev pub Judges : Result Outcome JudgeStop → Result Judgement CellKey → Type 0
 Judges result judged = MatchResult result
     (λ outcome. MatchResult judged (λ j. Shows outcome j.verdicts j.writes j.new_records) (λ key. ⊥))
     (λ stop. Stops stop judged)
 
--- the same of one item
+-- The same of one item.
 abbrev pub JudgesItem : Result Judged JudgeStop → Result Judged CellKey → Type 0
 JudgesItem result judged = MatchResult result (λ j. judged ≡ Ok j) (λ stop. Stops stop judged)

@@ -1,11 +1,12 @@
 -- Cells with accepted items put over them.
-use Rattle.std.specs.Prelude.{ℕ, List, Bool, false, not, ◌&&◌, Option, Some, None, if◌then◌else◌, is_some, option_and_then, ⊤}
+use Rattle.std.specs.Prelude.{List, Bool, false, not, ◌&&◌, Option, Some, None, if◌then◌else◌, is_some, option_and_then, ⊤}
 use Rattle.std.specs.BTreeMap.{BTreeMap, get_by}
 use Rattle.std.specs.Borrow.{Bor}
 use Rattle.std.specs.Cmp.Lexicographic.{slice_cmp}
 use Rattle.std.specs.Option.{option_copied}
 use Rattle.std.specs.Ordering.{nat_cmp, ordering_then}
 use Rattle.std.specs.Str.{bytes_eq}
+use Rattle.lei_code.specs.Texts.{Lei, Text}
 use Rattle.lei_shapes.specs.declared.lists.ExceptionCategory.{ExceptionCategory}
 use Rattle.lei_shapes.specs.declared.lists.RelationType.{RelationType}
 use Rattle.lei_shapes.specs.Lists.{exception_category_text, relation_type_text}
@@ -16,50 +17,48 @@ use Rattle.lei_records.specs.declared.view.RowKey.{RowKey}
 use Rattle.lei_records.specs.declared.view.Seen.{Seen}
 use Rattle.lei_records.specs.Cells.{Cells, lei_in, rec_cell, holds}
 use Rattle.lei_records.specs.Exceptions.{exception_category_in, is_same_category, subject_in}
-use Rattle.lei_records.specs.Relations.{end_in, is_active, is_same_type, kind_in, rel_cell, start_in}
+use Rattle.lei_records.specs.Relations.{end_in, is_active, kind_in, rel_cell, start_in}
 use Rattle.lei_records.specs.Rows.{Row}
 use Rattle.lei_records.specs.Tables.{seen_fact}
 use Rattle.authority_rules.specs.Taken.{unless_own}
+use Rattle.relation_rules.specs.Checks.{is_from}
+use Rattle.register_judge.specs.declared.overlay.Overlay.{Overlay}
 
 -- ---- the cells after one write
 
--- after a record was put: its own cell is the record's, a key that it holds is its own, and nobody holds a key any
--- longer that only it held
+-- The cells after a record was put: its own cell is the record's, a key that it holds is its own, and nobody holds a key any
+-- longer that only it held.
 abbrev pub put_record : Cells → Row → Cells
 put_record cells row = record cells {
   record_cell = λ lei. if bytes_eq lei (lei_in row) then Seen.Held (rec_cell row) else cells.record_cell lei;
   holder = λ authority id. if holds authority id row then Seen.Held (lei_in row) else unless_own (lei_in row) (cells.holder authority id);
 }
 
--- the relationship has this start and this type
-abbrev pub is_from : List ℕ → RelationType → Row → Bool
-is_from start kind row = bytes_eq (start_in row) start && is_same_type (kind_in row) kind
-
--- and this end
-abbrev pub is_between : List ℕ → RelationType → List ℕ → Row → Bool
+-- The relationship has this start, this type and this end.
+abbrev pub is_between : Lei → RelationType → Lei → Row → Bool
 is_between start kind end row = is_from start kind row && bytes_eq (end_in row) end
 
--- the end of the active relationship of its start and type, where the relationship is put: its own where it is active,
--- and else what was held, but for its own
-abbrev pub with_active : Row → Seen (List ℕ) → Seen (List ℕ)
+-- The end of the active relationship of its start and type, where the relationship is put: its own where it is active, and
+-- else what was held, but for its own.
+abbrev pub with_active : Row → Seen Lei → Seen Lei
 with_active row held = if is_active row then Seen.Held (end_in row) else unless_own (end_in row) held
 
--- after a relationship was put: its own cell is the relationship's, and so is that of its start and type where it is
--- active. Where it isn't, nothing is active there any longer of which it takes the place
+-- The cells after a relationship was put: its own cell is the relationship's, and so is that of its start and type where it
+-- is active. Where it isn't, nothing is active there any longer of which it takes the place.
 abbrev pub put_relation : Cells → Row → Cells
 put_relation cells row = record cells {
   relation = λ start kind end. if is_between start kind end row then Seen.Held (rel_cell row) else cells.relation start kind end;
   active = λ start kind. if is_from start kind row then with_active row (cells.active start kind) else cells.active start kind;
 }
 
--- after the exception of this code and category was put, or withdrawn: its own cell says whether it stands
-abbrev pub put_exception : Cells → List ℕ → ExceptionCategory → Bool → Cells
+-- The cells after the exception of this LEI and category was put, or withdrawn: its own cell says whether it stands.
+abbrev pub put_exception : Cells → Lei → ExceptionCategory → Bool → Cells
 put_exception cells lei category stands = record cells {
-  exception = λ code other.
-      if bytes_eq lei code && is_same_category category other then seen_fact stands else cells.exception code other;
+  exception = λ own other.
+      if bytes_eq lei own && is_same_category category other then seen_fact stands else cells.exception own other;
 }
 
--- after a write; a record and a relationship are never withdrawn
+-- The cells after a write. A record and a relationship are never withdrawn.
 abbrev pub put_cells : Cells → RowKey × Option Item → Cells
 put_cells cells (key, Some (Item.Record row)) = put_record cells row
 put_cells cells (key, Some (Item.Relation row)) = put_relation cells row
@@ -68,118 +67,128 @@ put_cells cells (key, Some (Item.Exception item)) =
 put_cells cells (RowKey.Exc lei category, None) = put_exception cells lei category false
 put_cells cells (key, None) = cells
 
--- ---- the records by two maps: the accepted record of a code, and the record that took a key last
+-- ---- the records by two maps: the accepted record of an LEI, and the record that took a key last
 
--- by its code, an accepted record
+-- Accepted records by their LEIs.
 abbrev pub Records : Type 0
-Records = BTreeMap (List ℕ) (Bor Row)
+Records = BTreeMap Lei (Bor Row)
 
-abbrev pub record_at : Records → List ℕ → Option Row
+-- The accepted record of an LEI.
+abbrev pub record_at : Records → Lei → Option Row
 record_at records lei = option_copied (get_by (slice_cmp nat_cmp lei) records)
 
--- by the id of an authority, the code of a record
+-- By the id of an authority, the LEI of a record.
 abbrev pub Ids : Type 0
-Ids = BTreeMap (Bor (List ℕ)) (List ℕ)
+Ids = BTreeMap (Bor Text) Lei
 
--- the ids of each authority
+-- The ids of each authority.
 abbrev pub Takers : Type 0
-Takers = BTreeMap (Bor (List ℕ)) Ids
+Takers = BTreeMap (Bor Text) Ids
 
-abbrev pub id_at : Ids → List ℕ → Option (List ℕ)
+-- The LEI under an id.
+abbrev pub id_at : Ids → Text → Option Lei
 id_at ids id = get_by (λ k. slice_cmp nat_cmp id k.now) ids
 
-abbrev pub ids_at : Takers → List ℕ → Option Ids
+-- The ids of an authority.
+abbrev pub ids_at : Takers → Text → Option Ids
 ids_at takers authority = get_by (λ k. slice_cmp nat_cmp authority k.now) takers
 
-abbrev pub taker_at : Takers → List ℕ → List ℕ → Option (List ℕ)
+-- The LEI of the record that took an authority key last.
+abbrev pub taker_at : Takers → Text → Text → Option Lei
 taker_at takers authority id = option_and_then (λ ids. id_at ids id) (ids_at takers authority)
 
--- a record that was put answers for its code
+-- A record that was put answers for its LEI.
 abbrev pub with_record : Option Row → Seen RecCell → Seen RecCell
 with_record None below = below
 with_record (Some row) below = Seen.Held (rec_cell row)
 
-abbrev pub has_record : Records → List ℕ → Bool
+-- A record of the LEI was put.
+abbrev pub has_record : Records → Lei → Bool
 has_record records lei = is_some (record_at records lei)
 
-abbrev pub row_holds : List ℕ → List ℕ → Option Row → Bool
+-- There is a row, and it holds this authority key.
+abbrev pub row_holds : Text → Text → Option Row → Bool
 row_holds authority id None = false
 row_holds authority id (Some row) = holds authority id row
 
--- a holder below whose record was replaced no longer holds its key
-abbrev pub unless_replaced : Records → Seen (List ℕ) → Seen (List ℕ)
+-- A holder below whose record was replaced no longer holds its key.
+abbrev pub unless_replaced : Records → Seen Lei → Seen Lei
 unless_replaced records (Seen.Held lei) = if has_record records lei then Seen.Empty else Seen.Held lei
 unless_replaced records Seen.Empty = Seen.Empty
 unless_replaced records Seen.Missing = Seen.Missing
 
--- the record that took the key last has it as long as it holds it; where none took it, the holder below has it
-abbrev pub with_taker : Records → List ℕ → List ℕ → Option (List ℕ) → Seen (List ℕ) → Seen (List ℕ)
+-- The record that took the key last has it as long as it holds it. Where none took it, the holder below has it.
+abbrev pub with_taker : Records → Text → Text → Option Lei → Seen Lei → Seen Lei
 with_taker records authority id None below = unless_replaced records below
 with_taker records authority id (Some lei) below =
     if row_holds authority id (record_at records lei) then Seen.Held lei else Seen.Empty
 
 -- ---- the relationships by two maps: the accepted relationship of a key, and the end of the one that was active last
 
--- by its start, its type's text and its end, an accepted relationship
+-- Accepted relationships by start, type's text and end.
 abbrev pub Relations : Type 0
-Relations = BTreeMap (List ℕ × Bor (List ℕ) × List ℕ) (Bor Row)
+Relations = BTreeMap (Lei × Bor Text × Lei) (Bor Row)
 
-abbrev pub relation_at : Relations → List ℕ → RelationType → List ℕ → Option Row
+-- The accepted relationship of a start, a type and an end.
+abbrev pub relation_at : Relations → Lei → RelationType → Lei → Option Row
 relation_at relations start kind end = option_copied (get_by (λ key.
     ordering_then (ordering_then (slice_cmp nat_cmp start key.0) (slice_cmp nat_cmp (relation_type_text kind) key.1.now))
     (slice_cmp nat_cmp end key.2)) relations)
 
--- by a code and a text
-abbrev pub pair_at : {X : Type 0} → BTreeMap (List ℕ × Bor (List ℕ)) X → List ℕ → List ℕ → Option X
+-- What a map by an LEI and a text has for these.
+abbrev pub pair_at : {X : Type 0} → BTreeMap (Lei × Bor Text) X → Lei → Text → Option X
 pair_at pairs lei text = get_by (λ key. ordering_then (slice_cmp nat_cmp lei key.0) (slice_cmp nat_cmp text key.1.now)) pairs
 
--- by a start and a type's text, the end of a relationship
+-- By a start and a type's text, the end of a relationship.
 abbrev pub Ends : Type 0
-Ends = BTreeMap (List ℕ × Bor (List ℕ)) (List ℕ)
+Ends = BTreeMap (Lei × Bor Text) Lei
 
-abbrev pub end_at : Ends → List ℕ → RelationType → Option (List ℕ)
+-- The end of the relationship of a start and a type that was put as an active one last.
+abbrev pub end_at : Ends → Lei → RelationType → Option Lei
 end_at ends start kind = pair_at ends start (relation_type_text kind)
 
--- a relationship that was put answers for its key
+-- A relationship that was put answers for its key.
 abbrev pub with_relation : Option Row → Seen RelCell → Seen RelCell
 with_relation None below = below
 with_relation (Some row) below = Seen.Held (rel_cell row)
 
+-- There is a row, and it is that of an active relationship.
 abbrev pub is_active_row : Option Row → Bool
 is_active_row None = false
 is_active_row (Some row) = is_active row
 
--- the active relationship below, unless it was replaced: then none was put as an active one
-abbrev pub unless_relation_put : Relations → List ℕ → RelationType → Seen (List ℕ) → Seen (List ℕ)
+-- The active relationship below, unless it was replaced: then none was put as an active one.
+abbrev pub unless_relation_put : Relations → Lei → RelationType → Seen Lei → Seen Lei
 unless_relation_put relations start kind (Seen.Held end) =
     if is_some (relation_at relations start kind end) then Seen.Empty else Seen.Held end
 unless_relation_put relations start kind Seen.Empty = Seen.Empty
 unless_relation_put relations start kind Seen.Missing = Seen.Missing
 
--- the relationship that was put as an active one last is so as long as its key has an active one; where there was none,
--- the one below is
-abbrev pub with_end : Relations → List ℕ → RelationType → Option (List ℕ) → Seen (List ℕ) → Seen (List ℕ)
+-- The relationship that was put as an active one last is so as long as its key has an active one. Where there was none, the
+-- one below is.
+abbrev pub with_end : Relations → Lei → RelationType → Option Lei → Seen Lei → Seen Lei
 with_end relations start kind None below = unless_relation_put relations start kind below
 with_end relations start kind (Some end) below =
     if is_active_row (relation_at relations start kind end) then Seen.Held end else Seen.Empty
 
 -- ---- the exceptions by a map
 
--- by its code and its category's text, whether the exception stands
+-- By an LEI and a category's text, whether the exception stands.
 abbrev pub Standing : Type 0
-Standing = BTreeMap (List ℕ × Bor (List ℕ)) Bool
+Standing = BTreeMap (Lei × Bor Text) Bool
 
-abbrev pub stands_at : Standing → List ℕ → ExceptionCategory → Option Bool
+-- Whether the exception of an LEI and a category stands, where it was put or withdrawn.
+abbrev pub stands_at : Standing → Lei → ExceptionCategory → Option Bool
 stands_at standing lei category = pair_at standing lei (exception_category_text category)
 
--- an exception that was put or withdrawn answers for its key
+-- An exception that was put or withdrawn answers for its key.
 abbrev pub with_exception : Option Bool → Seen ⊤ → Seen ⊤
 with_exception None below = below
 with_exception (Some stands) below = seen_fact stands
 
 -- ---- all of them
 
--- the cells below with what is in the maps over them
+-- The cells below with what is in the maps over them.
 abbrev pub overlaid : Cells → Records → Takers → Relations → Ends → Standing → Cells
 overlaid below records takers relations ends standing = record {
   record_cell = λ lei. with_record (record_at records lei) (below.record_cell lei);
@@ -188,3 +197,8 @@ overlaid below records takers relations ends standing = record {
   active = λ start kind. with_end relations start kind (end_at ends start kind) (below.active start kind);
   exception = λ lei category. with_exception (stands_at standing lei category) (below.exception lei category);
 }
+
+-- The cells of a view with accepted items over it.
+abbrev pub cells_in : {V : Type 0} → (V → Cells) → Overlay V → Cells
+cells_in cells overlay =
+    overlaid (cells overlay.view.now) overlay.records overlay.takers overlay.relations overlay.ends overlay.standing

@@ -1,60 +1,60 @@
--- What an upload's items do to a table, from the first to the last.
+-- Taking an upload: what its items do to a table, from the first to the last.
 use Rattle.std.specs.Prelude.{ℕ, ◌+◌, ℤ, List, [], ◌∷◌, ◌++◌, Bool, false, ◌&&◌, if◌then◌else◌, Option, Some, None, is_none, ⊤}
-use Rattle.lei_records.specs.declared.check.Check.{Check}
+use Rattle.lei_code.specs.Texts.{Lei}
 use Rattle.lei_records.specs.declared.item.Item.{Item}
 use Rattle.lei_records.specs.declared.item.Readied.{Readied}
 use Rattle.lei_records.specs.declared.view.RowKey.{RowKey}
 use Rattle.lei_records.specs.Cells.{lei_in}
-use Rattle.lei_records.specs.Lines.{Line, first_failing}
+use Rattle.lei_records.specs.Checks.{FailedCheck, Finding, first_failing}
 use Rattle.lei_records.specs.Spelled.{IsExceptionRow, IsRelationRow, IsRow}
 use Rattle.lei_records.specs.Tables.{Table, record_of, put_all, row_key}
 use Rattle.relation_rules.specs.Checks.{relation_checks, exception_checks}
 use Rattle.register_judge.specs.declared.outcome.Verdict.{Verdict}
 use Rattle.register_judge.specs.Checks.{earlier_checks, checks}
 
--- a check that failed, or none
-abbrev pub verdict_of : Option Check → Verdict
+-- The verdict by a check that failed, or by none.
+abbrev pub verdict_of : Option FailedCheck → Verdict
 verdict_of None = Verdict.Accepted
 verdict_of (Some check) = Verdict.Rejected check
 
--- the checks of an item on a table: C05 to C20 of a record, C30 to C40 of a relationship, C50 to C53 of an exception
-abbrev pub item_checks : Table → ℕ → ℤ → List ℕ → Item → List Line
-item_checks table limit today office (Item.Record row) = checks table limit today office row
-item_checks table limit today office (Item.Relation row) = relation_checks table office row
-item_checks table limit today office (Item.Exception item) = exception_checks table office item
+-- The checks of an item on a table: C05 to C20 of a record, C30 to C40 of a relationship, C50 to C53 of an exception.
+abbrev pub item_checks : Table → ℕ → ℤ → Lei → Item → List Finding
+item_checks table limit today issuer (Item.Record row) = checks table limit today issuer row
+item_checks table limit today issuer (Item.Relation row) = relation_checks table issuer row
+item_checks table limit today issuer (Item.Exception item) = exception_checks table issuer item
 
--- the verdict on an item: the first of its checks that fails, or that it is accepted. C01 to C04
--- were asked before: they need no table
-abbrev pub verdict : Table → ℕ → ℤ → List ℕ → Readied → Verdict
-verdict table limit today office (Readied.Bad check) = Verdict.Rejected check
-verdict table limit today office (Readied.Good item) = verdict_of (first_failing (item_checks table limit today office item))
+-- The verdict on an item: the first of its checks that fails, or that it is accepted. C01 to C04 were asked before, since
+-- they need no table.
+abbrev pub verdict : Table → ℕ → ℤ → Lei → Readied → Verdict
+verdict table limit today issuer (Readied.Bad check) = Verdict.Rejected check
+verdict table limit today issuer (Readied.Good item) = verdict_of (first_failing (item_checks table limit today issuer item))
 
--- what is held under an item's key where it is accepted: the item, and nothing where it is a withdrawal
+-- What is held under an item's key where it is accepted: the item, and nothing where it is a withdrawal.
 abbrev pub written : Item → Option Item
 written (Item.Record row) = Some (Item.Record row)
 written (Item.Relation row) = Some (Item.Relation row)
 written (Item.Exception item) = if item.1 then None else Some (Item.Exception item)
 
--- what an item with this verdict writes: that under its key where it is accepted
+-- What an item with this verdict writes: that under its key where it is accepted, and else nothing.
 abbrev pub writes_of : Verdict → Readied → List (RowKey × Option Item)
 writes_of Verdict.Accepted (Readied.Good item) = (row_key item, written item) ∷ []
 writes_of verdict item = []
 
--- a record that comes to C20 while none of its LEI is held
-abbrev pub is_new : Table → ℤ → List ℕ → Readied → Bool
-is_new table today office (Readied.Good (Item.Record item)) =
-    is_none (record_of table (lei_in item)) && is_none (first_failing (earlier_checks table today office item))
-is_new table today office item = false
+-- The item is a record that comes to C20 while none of its LEI is held.
+abbrev pub is_new : Table → ℤ → Lei → Readied → Bool
+is_new table today issuer (Readied.Good (Item.Record item)) =
+    is_none (record_of table (lei_in item)) && is_none (first_failing (earlier_checks table today issuer item))
+is_new table today issuer item = false
 
--- What came of items: the table behind them, a verdict for each, what the accepted ones wrote, and
--- how many of them were new.
+-- What came of items: the table behind them, a verdict for each, what the accepted ones wrote, and how many of them were
+-- new.
 pub record Taken : Type 0 where
   pub table : Table
   pub verdicts : List Verdict
   pub writes : List (RowKey × Option Item)
   pub new_records : ℕ
 
--- one item's verdict and writes in front of those of the items behind it
+-- One item's verdict and writes in front of those of the items behind it.
 abbrev pub in_front : Verdict → List (RowKey × Option Item) → Bool → Taken → Taken
 in_front verdict writes new rest = record {
   table = rest.table;
@@ -63,21 +63,22 @@ in_front verdict writes new rest = record {
   new_records = (if new then 1 else 0) + rest.new_records;
 }
 
--- from left to right: each item is judged on the table so far, and an accepted item is put, or withdrawn
-abbrev pub take : Table → ℕ → ℤ → List ℕ → List Readied → Taken
-take table limit today office [] = record { table = table; verdicts = []; writes = []; new_records = 0 }
-take table limit today office (item ∷ items) =
-    let given = verdict table limit today office item in
+-- Items that an issuer uploads on a day are taken from left to right, where the table may hold so many records: each is
+-- judged on the table so far, and an accepted one is put, or withdrawn.
+abbrev pub take : Table → ℕ → ℤ → Lei → List Readied → Taken
+take table limit today issuer [] = record { table = table; verdicts = []; writes = []; new_records = 0 }
+take table limit today issuer (item ∷ items) =
+    let given = verdict table limit today issuer item in
     let writes = writes_of given item in
-    in_front given writes (is_new table today office item) (take (put_all writes table) limit today office items)
+    in_front given writes (is_new table today issuer item) (take (put_all writes table) limit today issuer items)
 
--- the row of an item is that of a record, a relationship or an exception, as the item says
+-- The row of an item is that of a record, a relationship or an exception, as the item says.
 abbrev pub HasRow : Item → Type 0
 HasRow (Item.Record row) = IsRow row
 HasRow (Item.Relation row) = IsRelationRow row
 HasRow (Item.Exception item) = IsExceptionRow item.0
 
--- each item that passed the checks of its fields has such a row
+-- Each item that passed the checks of its fields has such a row.
 abbrev pub HaveRows : List Readied → Type 0
 HaveRows [] = ⊤
 HaveRows (Readied.Bad check ∷ items) = HaveRows items

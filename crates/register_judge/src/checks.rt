@@ -2,78 +2,23 @@
 ghost use Rattle.std.specs.Prelude.{◌≡◌, ℕ, List, [], ◌∷◌, false, Some, None};
 ghost use Rattle.std.specs.Option.{option_map_or};
 ghost use Rattle.std.specs.Str.{bytes_eq};
-ghost use Rattle.lei_records.specs.declared.check.Detail.{Detail};
-ghost use Rattle.lei_records.specs.Cells.{entity_status_in, renewal_in};
-ghost use Rattle.lei_records.specs.Lines.{first_failing};
+ghost use Rattle.lei_records.specs.Checks.{first_failing};
 ghost use Rattle.status_rules.specs.Statuses;
 ghost use Rattle.register_judge.specs.Checks;
 
 use lei_code::Lei;
+use lei_records::numbers::{
+    DATE_FUTURE, DATES_ORDER, INITIAL_DATE_CHANGED, MANAGER_NOT_UPLOADER, NOT_ISSUED, NOT_MANAGER,
+    REGISTER_FULL, RENEWAL_DATE, STATUS_ENTITY, SUCCESSOR_SHAPE, TRANSITION, UPDATE_EARLIER,
+};
 use lei_records::{Check, Detail, RecCell, Record};
-use lei_shapes::{EntityStatus, Moment, RecordStatus};
+use lei_shapes::{Moment, RecordStatus};
+use relation_rules::plain;
 use status_rules::{Party, entity_fits, renewal_fits, transition};
 
-/// C05: record and entity status are no allowed pair.
-pub const STATUS_ENTITY: u8 = 5;
-
-/// C06: the last update or the next renewal is before the first registration.
-pub const DATES_ORDER: u8 = 6;
-
-/// C07: the last update or the creation of the entity lies on a day after today.
-pub const DATE_FUTURE: u8 = 7;
-
-/// C08: a successor stands where none may, or is absent where it is needed.
-pub const SUCCESSOR_SHAPE: u8 = 8;
-
-/// C09: the item's manager isn't the uploader.
-pub const MANAGER_NOT_UPLOADER: u8 = 9;
-
-/// C10: a record that isn't held doesn't come as ISSUED.
-pub const NOT_ISSUED: u8 = 10;
-
-/// C11: the held status may not change to the item's. It tells the held status.
-pub const TRANSITION: u8 = 11;
-
-/// C12: the uploader isn't the office that may make this change.
-pub const NOT_MANAGER: u8 = 12;
-
-/// C13: the held record has another date of first registration.
-pub const INITIAL_DATE_CHANGED: u8 = 13;
-
-/// C14: the held record was updated later.
-pub const UPDATE_EARLIER: u8 = 14;
-
-/// C15: the renewal doesn't fit the status.
-pub const RENEWAL_DATE: u8 = 15;
-
-/// C16: no record of the successor is held.
-pub const SUCCESSOR_UNKNOWN: u8 = 16;
-
-/// C17: the chain of successors comes back to the item.
-pub const SUCCESSOR_CYCLE: u8 = 17;
-
-/// C18: the chain of successors has more than 200 members.
-pub const SUCCESSOR_CHAIN_LONG: u8 = 18;
-
-/// C19: another live record has the item's authority key. It tells that record's code.
-pub const AUTHORITY_KEY_TAKEN: u8 = 19;
-
-/// C20: there is no room for a further record.
-pub const REGISTER_FULL: u8 = 20;
-
-/// A check that tells nothing but its number.
-pub fn plain(code: u8) -> Check
-    ensures { result ≡ record { code = code; detail = Detail.None } }
-{
-    Check {
-        code,
-        detail: Detail::None,
-    }
-}
-
-/// C05 to C09: the item alone, and the uploader.
-pub fn own_check(office: &Lei, today: i32, item: &Record) -> Option<Check>
-    ensures { result ≡ first_failing (Checks.own_checks today office.now item.now) }
+/// C05 to C09: the item alone, and the issuer that uploads it.
+pub fn own_check(issuer: &Lei, today: i32, item: &Record) -> Option<Check>
+    ensures { result ≡ first_failing (Checks.own_checks today issuer.now item.now) }
 {
     if has_wrong_entity_status(item) {
         return Some(plain(STATUS_ENTITY));
@@ -87,42 +32,29 @@ pub fn own_check(office: &Lei, today: i32, item: &Record) -> Option<Check>
     if has_wrong_successor(item) {
         return Some(plain(SUCCESSOR_SHAPE));
     }
-    if item.manager() != *office {
+    if item.manager() != *issuer {
         return Some(plain(MANAGER_NOT_UPLOADER));
     }
     None
 }
 
-// The parts of an item that its cell lacks.
-fn entity_status(item: &Record) -> EntityStatus
-    ensures { result ≡ entity_status_in item.now }
-{
-    item.entity_status()
-}
-
-fn renewal(item: &Record) -> Moment
-    ensures { result ≡ renewal_in item.now }
-{
-    item.renewal()
-}
-
 fn has_wrong_entity_status(item: &Record) -> bool
     ensures { result ≡ (Checks.c05 item.now).fails }
 {
-    !entity_fits(item.cell().status, entity_status(item))
+    !entity_fits(item.status(), item.entity_status())
 }
 
 fn has_early_dates(item: &Record) -> bool
     ensures { result ≡ (Checks.c06 item.now).fails }
 {
-    let initial = item.cell().initial;
-    item.cell().updated < initial || renewal(item) < initial
+    let initial = item.initial();
+    item.updated() < initial || item.renewal() < initial
 }
 
 fn has_late_dates(today: i32, item: &Record) -> bool
     ensures { result ≡ (Checks.c07 today item.now).fails }
 {
-    is_after(today, item.cell().updated) || is_created_after(today, item.created())
+    is_after(today, item.updated()) || is_created_after(today, item.created())
 }
 
 fn is_created_after(today: i32, created: Option<Moment>) -> bool
@@ -143,7 +75,7 @@ fn is_after(today: i32, moment: Moment) -> bool
 fn has_wrong_successor(item: &Record) -> bool
     ensures { result ≡ (Checks.c08 item.now).fails }
 {
-    misfits(item.cell().status, item.successor().is_some())
+    misfits(item.status(), item.successor().is_some())
 }
 
 fn misfits(status: RecordStatus, stands: bool) -> bool
@@ -156,21 +88,21 @@ fn misfits(status: RecordStatus, stands: bool) -> bool
     }
 }
 
-/// C10 to C15: the record that is held under the item's code, if there is one, and the day.
-pub fn held_check(held: &Option<RecCell>, office: &Lei, today: i32, item: &Record) -> Option<Check>
-    ensures { result ≡ first_failing (Checks.held_checks held.now today office.now item.now) }
+/// C10 to C15: the record that is held under the item's LEI, if there is one, and the day.
+pub fn held_check(held: &Option<RecCell>, issuer: &Lei, today: i32, item: &Record) -> Option<Check>
+    ensures { result ≡ first_failing (Checks.held_checks held.now today issuer.now item.now) }
 {
     match held {
         None => first_check(today, item),
-        Some(held) => change_check(held, office, today, item),
+        Some(held) => change_check(held, issuer, today, item),
     }
 }
 
 // Where no record is held: C10 and C15.
 fn first_check(today: i32, item: &Record) -> Option<Check>
-    ensures { (office : List ℕ) → result ≡ first_failing (Checks.held_checks None today office item.now) }
+    ensures { (issuer : List ℕ) → result ≡ first_failing (Checks.held_checks None today issuer item.now) }
 {
-    if !is_issued(item.cell().status) {
+    if !is_issued(item.status()) {
         return Some(plain(NOT_ISSUED));
     }
     if has_wrong_renewal(today, item) {
@@ -180,23 +112,23 @@ fn first_check(today: i32, item: &Record) -> Option<Check>
 }
 
 // Where one is held: C11 to C15.
-fn change_check(held: &RecCell, office: &Lei, today: i32, item: &Record) -> Option<Check>
-    ensures { result ≡ first_failing (Checks.held_checks (Some held.now) today office.now item.now) }
+fn change_check(held: &RecCell, issuer: &Lei, today: i32, item: &Record) -> Option<Check>
+    ensures { result ≡ first_failing (Checks.held_checks (Some held.now) today issuer.now item.now) }
 {
-    let party = transition(Some(held.status), item.cell().status);
+    let party = transition(Some(held.status), item.status());
     if party.is_none() {
         return Some(Check {
             code: TRANSITION,
             detail: Detail::Status(held.status),
         });
     }
-    if is_another(held, office, party) {
+    if is_another(held, issuer, party) {
         return Some(plain(NOT_MANAGER));
     }
-    if held.initial != item.cell().initial {
+    if held.initial != item.initial() {
         return Some(plain(INITIAL_DATE_CHANGED));
     }
-    if item.cell().updated < held.updated {
+    if item.updated() < held.updated {
         return Some(plain(UPDATE_EARLIER));
     }
     if has_wrong_renewal(today, item) {
@@ -211,22 +143,22 @@ fn is_issued(status: RecordStatus) -> bool
     status == RecordStatus::Issued
 }
 
-// Whether the party to a change of the held record is another office than this one.
-fn is_another(held: &RecCell, office: &Lei, party: Option<Party>) -> bool
-    ensures { result ≡ Checks.is_another held.now office.now party }
+// Whether the party to a change of the held record is another issuer than this one.
+fn is_another(held: &RecCell, issuer: &Lei, party: Option<Party>) -> bool
+    ensures { result ≡ Checks.is_another held.now issuer.now party }
 {
     match party {
-        Some(Party::Manager) => held.manager != *office,
-        Some(Party::Receiver) => !is_receiver(&held.transfer_to, office),
+        Some(Party::Manager) => held.manager != *issuer,
+        Some(Party::Receiver) => !is_receiver(&held.transfer_to, issuer),
         _ => false,
     }
 }
 
-fn is_receiver(receiver: &Option<Lei>, office: &Lei) -> bool
-    ensures { result ≡ option_map_or (bytes_eq office.now) receiver.now false }
+fn is_receiver(receiver: &Option<Lei>, issuer: &Lei) -> bool
+    ensures { result ≡ option_map_or (bytes_eq issuer.now) receiver.now false }
 {
     match receiver {
-        Some(receiver) => *office == *receiver,
+        Some(receiver) => *issuer == *receiver,
         None => false,
     }
 }
@@ -234,20 +166,10 @@ fn is_receiver(receiver: &Option<Lei>, office: &Lei) -> bool
 fn has_wrong_renewal(today: i32, item: &Record) -> bool
     ensures { result ≡ (Checks.c15 today item.now).fails }
 {
-    !renewal_fits(item.cell().status, renewal(item).day(), today)
+    !renewal_fits(item.status(), item.renewal().day(), today)
 }
 
-/// C19 where another live record has a live item's authority key.
-pub fn key_check(other: Lei) -> Check
-    ensures { result ≡ record { code = 19; detail = Detail.Code other } }
-{
-    Check {
-        code: AUTHORITY_KEY_TAKEN,
-        detail: Detail::Code(other),
-    }
-}
-
-/// C20: whether a record is held under the item's code, and whether the table is full.
+/// C20: whether a record is held under the item's LEI, and whether the table is full.
 pub fn room_check(held: &Option<RecCell>, full: bool) -> Option<Check>
     ensures { result ≡ first_failing (Checks.c20 held.now full ∷ []) }
 {

@@ -3,7 +3,7 @@ ghost use Rattle.std.specs.Prelude.{◌≡◌, ◌==◌, ◌<◌, ◌≤◌, ◌
 ghost use Rattle.lei_records.specs.Tables.{Table, IsSound, cells_of, record_count, row_key};
 ghost use Rattle.register_judge.specs.Judging;
 ghost use Rattle.register_judge.specs.Outcomes.{Judges, Shows, Takes};
-ghost use Rattle.register_judge.specs.Progress.{Adds, cells_in};
+ghost use Rattle.register_judge.specs.Overlays.{cells_in};
 ghost use Rattle.register_judge.specs.Taking;
 ghost use Rattle.register_judge.specs.Taking.{take, writes_of, written};
 
@@ -27,36 +27,36 @@ struct Progress {
 }
 
 /// Judges the items of an upload from left to right, each on what the view answers with the accepted
-/// items before it put. `room` is the number of further records that fit, `office` the uploader, and
-/// `today` the day, counted from 1970-01-01.
+/// items before it put. `room` is the number of further records that fit, `issuer` uploads them, and
+/// `today` is the day, counted from 1970-01-01.
 pub fn judge_all<V: View>(
     alloc: Global,
     view: &V,
     room: u32,
-    office: &Lei,
+    issuer: &Lei,
     today: i32,
     items: &[Readied],
 ) -> Result<Outcome, JudgeStop>
     requires { length items.now ≤ 5000 }
-    ensures answers { Judges result (Judging.judge_items (V.cells view.now) room today office.now items.now) }
+    ensures answers { Judges result (Judging.judge_items (V.cells view.now) room today issuer.now items.now) }
 
     // Over the cells of a sound table, which has room for so many records more.
     ensures over_tables { (table : Table) → IsSound table → V.cells view.now ≡ cells_of table
-        → Takes result (take table (record_count table + room) today office.now items.now) }
+        → Takes result (take table (record_count table + room) today issuer.now items.now) }
 {
-    judge_each(alloc, view, room, office, today, items)
+    judge_each(alloc, view, room, issuer, today, items)
 }
 
 fn judge_each<V: View>(
     alloc: Global,
     view: &V,
     room: u32,
-    office: &Lei,
+    issuer: &Lei,
     today: i32,
     items: &[Readied],
 ) -> Result<Outcome, JudgeStop>
     requires { length items.now ≤ 5000 }
-    ensures { Judges result (Judging.judge_items (V.cells view.now) room today office.now items.now) }
+    ensures { Judges result (Judging.judge_items (V.cells view.now) room today issuer.now items.now) }
 {
     let mut overlay = Overlay::new(alloc, view);
     let mut progress = Progress {
@@ -67,7 +67,7 @@ fn judge_each<V: View>(
     };
     for item in items {
         let full = progress.room == 0;
-        let judged = match judge_item(alloc, &overlay, full, office, today, item) {
+        let judged = match judge_item(alloc, &overlay, full, issuer, today, item) {
             Ok(judged) => judged,
             Err(stop) => return Err(stop),
         };

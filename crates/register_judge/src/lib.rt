@@ -10,12 +10,8 @@ mod keys;
 mod laws;
 mod outcome;
 mod overlay;
+mod records;
 
-pub use checks::{
-    AUTHORITY_KEY_TAKEN, DATE_FUTURE, DATES_ORDER, INITIAL_DATE_CHANGED, MANAGER_NOT_UPLOADER,
-    NOT_ISSUED, NOT_MANAGER, REGISTER_FULL, RENEWAL_DATE, STATUS_ENTITY, SUCCESSOR_CHAIN_LONG,
-    SUCCESSOR_CYCLE, SUCCESSOR_SHAPE, SUCCESSOR_UNKNOWN, TRANSITION, UPDATE_EARLIER,
-};
 pub use judging::judge_all;
 pub use laws::{
     accepted_successors_keep_chains, items_keep_apart, items_keep_chains, items_keep_parents,
@@ -23,5 +19,3 @@ pub use laws::{
 };
 pub use outcome::{JudgeStop, Outcome, Verdict};
 
-#[cfg(test)]
-mod tests;

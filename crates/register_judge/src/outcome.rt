@@ -18,7 +18,7 @@ pub struct Outcome {
     pub verdicts: List<Verdict>,
     /// The keys of the accepted items, each with its item, and with none where it is a withdrawal.
     pub writes: Writes,
-    /// How many records came to the check of the room while none of their code was held.
+    /// How many records came to the check of the room while none of their LEI was held.
     pub new_records: u32,
     /// The cells that were read. None are listed yet.
     pub reads: Reads,

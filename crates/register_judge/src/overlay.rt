@@ -10,11 +10,11 @@ ghost use Rattle.lei_records.specs.Exceptions.{exception_category_in, is_same_ca
 ghost use Rattle.lei_records.specs.Relations.{end_in, kind_in, start_in};
 ghost use Rattle.lei_records.specs.Relations as Spelled;
 ghost use Rattle.lei_records.specs.Tables.{row_key};
+ghost use Rattle.relation_rules.specs.Checks.{is_from};
 ghost use Rattle.register_judge.specs.Overlays;
-ghost use Rattle.register_judge.specs.Progress.{cells_in};
+ghost use Rattle.register_judge.specs.Overlays.{cells_in};
 ghost use Rattle.register_judge.specs.Taking.{written};
 
-use crate::keys::{category_of, is_active, kind_of};
 use authority_rules::{holds, is_live, key_of};
 use lei_code::Lei;
 use lei_outside::NoMemory;
@@ -23,7 +23,7 @@ use lei_shapes::{ExceptionCategory, RelationType};
 use std::alloc::Global;
 use std::collections::BTreeMap;
 
-// By the id of an authority, the code of a record.
+// By the id of an authority, the LEI of a record.
 type Ids<'a> = BTreeMap<&'a str, Lei>;
 
 // The ids of each authority.
@@ -35,14 +35,14 @@ type Relations<'a> = BTreeMap<(Lei, &'static str, Lei), &'a Relation>;
 // By start and type, the end of a relationship.
 type Ends = BTreeMap<(Lei, &'static str), Lei>;
 
-// By code and category, whether the exception stands.
+// By LEI and category, whether the exception stands.
 type Standing = BTreeMap<(Lei, &'static str), bool>;
 
 // A view with accepted items over it. Each is found by the keys of its cells.
 #[derive(Drop)]
 pub struct Overlay<'a, V> {
     view: &'a V,
-    // The accepted record of each code, and of two with one code the later.
+    // The accepted record of each LEI, and of two with one LEI the later.
     records: BTreeMap<Lei, &'a Record>,
     // The record that took a key last. It may have given the key up again.
     takers: Takers<'a>,
@@ -202,7 +202,7 @@ impl<'a, V: View> Overlay<'a, V> {
             then Seen.Held end else Seen.Empty) }
     {
         match self.accepted_relation(start, kind, &end) {
-            Some(item) if is_active(item) => Seen::Held(end),
+            Some(item) if item.is_active() => Seen::Held(end),
             _ => Seen::Empty,
         }
     }
@@ -288,13 +288,13 @@ fn insert_record<'a>(
 // Notes the end of an active relationship.
 fn put_end(ends: &mut Ends, item: &Relation) -> Result<(), NoMemory>
     ensures { OnOk result ((start : List ℕ) (kind : RelationType) → Overlays.end_at ends.new start kind
-        ≡ (if Spelled.is_active item.now && Overlays.is_from start kind item.now then Some (end_in item.now)
+        ≡ (if Spelled.is_active item.now && is_from start kind item.now then Some (end_in item.now)
         else Overlays.end_at ends.old start kind)) }
 {
-    if !is_active(item) {
+    if !item.is_active() {
         return Ok(());
     }
-    match ends.insert((item.start(), kind_of(item).text()), item.end()) {
+    match ends.insert((item.start(), item.kind().text()), item.end()) {
         Ok(_) => Ok(()),
         Err(_) => Err(NoMemory),
     }
@@ -306,7 +306,7 @@ fn insert_relation<'a>(relations: &mut Relations<'a>, item: &'a Relation) -> Res
         ≡ (if Overlays.is_between start kind end item.now then Some item.now
         else Overlays.relation_at relations.old start kind end)) }
 {
-    match relations.insert((item.start(), kind_of(item).text(), item.end()), item) {
+    match relations.insert((item.start(), item.kind().text(), item.end()), item) {
         Ok(_) => Ok(()),
         Err(_) => Err(NoMemory),
     }
@@ -318,7 +318,7 @@ fn insert_standing(standing: &mut Standing, item: &ExceptionItem) -> Result<(), 
         ≡ (if bytes_eq (subject_in item.now.0) lei && is_same_category (exception_category_in item.now.0) category
         then Some (not item.now.1) else Overlays.stands_at standing.old lei category)) }
 {
-    match standing.insert((item.lei(), category_of(item).text()), !item.withdraws()) {
+    match standing.insert((item.lei(), item.category().text()), !item.withdraws()) {
         Ok(_) => Ok(()),
         Err(_) => Err(NoMemory),
     }

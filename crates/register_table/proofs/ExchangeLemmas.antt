@@ -2,19 +2,20 @@
 use Rattle.std.specs.Prelude.{◌≡◌, ℕ, Bool, List, ◌++◌, Option, None, IfSome, option_map, option_to_list, position}
 use Rattle.std.specs.FinMap.{get}
 use Rattle.std.proofs.Common.{sym, ap, subst, ◌∙◌}
+use Rattle.std.proofs.lemmas.Iterator.Adapters.{option_map_id}
 use Rattle.lei_records.specs.Rows.{Row}
 use Rattle.lei_records.specs.Tables.{KeyTexts}
 use Rattle.register_table.specs.Lists.{exchanged, remaining, rows_under, standing}
 use Rattle.register_table.specs.Undos.{with_under}
 use Rattle.register_table.proofs.KeyLemmas.{has_key}
-use Rattle.register_table.proofs.ListLemmas.{Exchange, IsOnce, exchange_exchanged, exchange_joined, get-rows_under, mapped_itself, unplaced}
+use Rattle.register_table.proofs.ListLemmas.{Exchange, IsOnce, exchange_exchanged, exchange_joined, get-rows_under, unplaced}
 
--- a place by the test of a key's parts is that by the key, where the list that was searched is the list
+-- an index by the test of a key's parts is that by the key, where the list that was searched is the list
 module _ {X : Type 0} (key : X → KeyTexts) (row : X → Row) (test : X → Bool) (k : KeyTexts) (same : test ≡ has_key key k) where
   by_key : (looked xs : List X) (at : Option ℕ) → looked ≡ xs → at ≡ position test looked → position (has_key key k) xs ≡ at
   by_key looked xs at whole is = ap (λ t. position t xs) (sym same) ∙ (ap (position test) (sym whole) ∙ sym is)
 
-  -- where no place was found, nothing is held
+  -- where no index was found, nothing is held
   pub none_held : (looked xs : List X) (at : Option ℕ) → looked ≡ xs → at ≡ position test looked → at ≡ None → get (rows_under key row xs) k ≡ None
   none_held looked xs at whole is none =
       get-rows_under key row xs k ∙ ap (option_map row) (unplaced (has_key key k) xs (by_key looked xs at whole is ∙ none))
@@ -34,7 +35,7 @@ module _ {X : Type 0} (key : X → KeyTexts) (row : X → Row) (test : X → Boo
 -- rows that are held themselves
 module _ (key : Row → KeyTexts) (k : KeyTexts) (new : Option Row) (xs ys : List Row) (out : Option Row) where
   pub rows_itself : Exchange key (λ r. r) k new xs ys out → rows_under key (λ r. r) ys ≡ with_under (rows_under key (λ r. r) xs) k new
-  rows_itself e = e.rows ∙ ap (with_under (rows_under key (λ r. r) xs) k) (mapped_itself new)
+  rows_itself e = e.rows ∙ ap (with_under (rows_under key (λ r. r) xs) k) (option_map_id new)
 
   pub held_itself : Exchange key (λ r. r) k new xs ys out → out ≡ get (rows_under key (λ r. r) xs) k
-  held_itself e = sym (mapped_itself out) ∙ e.held
+  held_itself e = sym (option_map_id out) ∙ e.held

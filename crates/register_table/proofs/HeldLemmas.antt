@@ -3,6 +3,7 @@ use Rattle.std.specs.Prelude.{◌≡◌, ℕ, zero, suc, Bool, false, List, [], 
 use Rattle.std.specs.List.{AllByRecursion}
 use Rattle.std.proofs.Common.{refl, sym, ap, subst, ◌∙◌, arith}
 use Rattle.std.proofs.lemmas.Grind.{common_steps}
+use Rattle.std.proofs.lemmas.List.{length-append}
 use Rattle.lei_records.specs.Rows.{Row}
 use Rattle.lei_records.specs.Tables.{KeyTexts}
 use Rattle.register_table.specs.Lists.{HasNoWithdrawal, exception_item_key, remaining, standing}
@@ -78,13 +79,10 @@ length_remaining : {X : Type 0} (at : Option ℕ) (xs : List X) → length (rema
 length_remaining None xs = omega arith
 length_remaining (Some at) xs = grind (arith, common_steps)
 
-length_both : {X : Type 0} (xs ys : List X) → length (xs ++ ys) ≡ length xs + length ys
-length_both xs ys = grind (arith, common_steps)
-
 -- there is at most one more
 pub length_joined : {X : Type 0} (new : Option X) (xs ys : List X) (at : Option ℕ) → ys ≡ remaining at xs ++ option_to_list new → length ys ≤ length xs + 1
 length_joined new xs ys at is =
     let one = length_option new in
     let less = length_remaining at xs in
-    let sum = ap length is ∙ length_both (remaining at xs) (option_to_list new) in
+    let sum = ap length is ∙ length-append (remaining at xs) (option_to_list new) in
     omega (arith, one, less, sum)

@@ -9,4 +9,3 @@ mod TableLemmas
 pub mod UndoLemmas
 mod WriteLemmas
 pub mod KeptLemmas
-mod TestLemmas

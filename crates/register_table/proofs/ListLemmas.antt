@@ -6,20 +6,24 @@ use Rattle.std.specs.Ordering.{eq_by_cmp}
 use Rattle.std.proofs.Common.{refl, sym, ap, subst, ◌∙◌, arith, rules, ltb}
 use Rattle.std.proofs.lemmas.Grind.{common_steps}
 use Rattle.std.proofs.lemmas.Bool.Decides.{nat_tests}
+use Rattle.std.proofs.lemmas.List.{append-nil, length-append}
 use mathlib.Core.Bool.{true≢false}
 use Rattle.lei_records.specs.Rows.{Row}
 use Rattle.lei_records.specs.Tables.{KeyTexts, Rows, key_cmp}
+use Rattle.lei_records.proofs.FindLemmas.{find-passes}
+use Rattle.lei_records.proofs.OptionLemmas.{mapped, none_there, some_mapped}
 use Rattle.authority_rules.proofs.HolderLemmas.{keys_total, same_key}
+use Rattle.authority_rules.proofs.KeyLemmas.{key_itself, keys_antisymmetric}
 use Rattle.register_table.specs.Lists.{exchanged, remaining, rows_under, standing, without}
 use Rattle.register_table.specs.Undos.{with_under}
-use Rattle.register_table.proofs.KeyLemmas.{has_key, keys_antisymmetric}
-use Rattle.register_table.proofs.MapLemmas.{get-with_under, own_key}
+use Rattle.register_table.proofs.KeyLemmas.{has_key}
+use Rattle.register_table.proofs.MapLemmas.{get-with_under}
 
--- ---- places
+-- ---- indices
 
--- the first place at which the test passes, or the length
-abbrev pub place : {X : Type 0} → (X → Bool) → List X → ℕ
-place test xs = position_or_len test xs
+-- the first index at which the test passes, or the length
+abbrev pub index : {X : Type 0} → (X → Bool) → List X → ℕ
+index test xs = position_or_len test xs
 
 behind : {X : Type 0} (b : Bool) (x : X) (n m : ℕ) → suc m ≤ cond (not b) (1 + n) 0 → b ≡ false
 behind true x n m above = absurd (omega arith)
@@ -33,30 +37,30 @@ found_nothing : (b : Bool) (n : ℕ) → cond b (Some n) None ≡ None → b ≡
 found_nothing true n is = cc
 found_nothing false n is = refl
 
--- a place that was found is the first one, within the list
-pub placed : {X : Type 0} (test : X → Bool) (xs : List X) (at : ℕ) → position test xs ≡ Some at → (place test xs ≡ at) × (place test xs < length xs)
-placed test xs at is =
-    let found = found_at (ltb (place test xs) (length xs)) (place test xs) at is in
+-- an index that was found is the first one, within the list
+pub first_at : {X : Type 0} (test : X → Bool) (xs : List X) (at : ℕ) → position test xs ≡ Some at → (index test xs ≡ at) × (index test xs < length xs)
+first_at test xs at is =
+    let found = found_at (ltb (index test xs) (length xs)) (index test xs) at is in
     (found.1, grind (arith, nat_tests, found.0))
 
-none_found : {X : Type 0} (test : X → Bool) (xs : List X) → length xs ≤ place test xs → find test xs ≡ None
+none_found : {X : Type 0} (test : X → Bool) (xs : List X) → length xs ≤ index test xs → find test xs ≡ None
 none_found test [] past = refl
 none_found test (x ∷ xs) past =
-    elim (test x) as (λ b. suc (length xs) ≤ cond (not b) (1 + place test xs) 0 → cond b (Some x) (find test xs) ≡ None) [
+    elim (test x) as (λ b. suc (length xs) ≤ cond (not b) (1 + index test xs) 0 → cond b (Some x) (find test xs) ≡ None) [
       | true ↦ λ above. absurd (omega arith)
       | false ↦ λ above. none_found test xs (omega arith)
     ] past
 
--- where no place was found, nothing is
+-- where no index was found, nothing is
 pub unplaced : {X : Type 0} (test : X → Bool) (xs : List X) → position test xs ≡ None → find test xs ≡ None
 unplaced test xs is =
-    let nowhere = found_nothing (ltb (place test xs) (length xs)) (place test xs) is in
+    let nowhere = found_nothing (ltb (index test xs) (length xs)) (index test xs) is in
     none_found test xs (grind (arith, nat_tests, nowhere))
 
-some_found : {X : Type 0} (test : X → Bool) (xs : List X) → place test xs < length xs → is_some (find test xs) ≡ true
+some_found : {X : Type 0} (test : X → Bool) (xs : List X) → index test xs < length xs → is_some (find test xs) ≡ true
 some_found test [] within = absurd (omega arith)
 some_found test (x ∷ xs) within =
-    elim (test x) as (λ b. cond (not b) (1 + place test xs) 0 < suc (length xs) → is_some (cond b (Some x) (find test xs)) ≡ true) [
+    elim (test x) as (λ b. cond (not b) (1 + index test xs) 0 < suc (length xs) → is_some (cond b (Some x) (find test xs)) ≡ true) [
       | true ↦ λ _. refl
       | false ↦ λ below. some_found test xs (omega arith)
     ] within
@@ -64,28 +68,19 @@ some_found test (x ∷ xs) within =
 get_behind : {X : Type 0} (x : X) (xs : List X) (n : ℕ) → slice_get (x ∷ xs) (1 + n) ≡ slice_get xs n
 get_behind x xs n = let e : 1 + n ≡ suc n = omega arith in ap (slice_get (x ∷ xs)) e
 
-find_place : {X : Type 0} (test : X → Bool) (xs : List X) → place test xs < length xs → find test xs ≡ slice_get xs (place test xs)
-find_place test [] within = absurd (omega arith)
-find_place test (x ∷ xs) within =
-    elim (test x) as (λ b. cond (not b) (1 + place test xs) 0 < suc (length xs)
-    → cond b (Some x) (find test xs) ≡ slice_get (x ∷ xs) (cond (not b) (1 + place test xs) 0)) [
+find_index : {X : Type 0} (test : X → Bool) (xs : List X) → index test xs < length xs → find test xs ≡ slice_get xs (index test xs)
+find_index test [] within = absurd (omega arith)
+find_index test (x ∷ xs) within =
+    elim (test x) as (λ b. cond (not b) (1 + index test xs) 0 < suc (length xs)
+    → cond b (Some x) (find test xs) ≡ slice_get (x ∷ xs) (cond (not b) (1 + index test xs) 0)) [
       | true ↦ λ _. refl
-      | false ↦ λ below. find_place test xs (omega arith) ∙ sym (get_behind x xs (place test xs))
+      | false ↦ λ below. find_index test xs (omega arith) ∙ sym (get_behind x xs (index test xs))
     ] within
 
--- what stands at the place is found
+-- what stands at the index is found
 pub standing-find : {X : Type 0} (test : X → Bool) (xs : List X) (at : Option ℕ) → position test xs ≡ at → standing at xs ≡ find test xs
 standing-find test xs None is = sym (unplaced test xs is)
-standing-find test xs (Some at) is = let p = placed test xs at is in ap (slice_get xs) (sym p.0) ∙ sym (find_place test xs p.1)
-
--- what is found passes
-pub find-passes : {X : Type 0} (test : X → Bool) (xs : List X) (x : X) → find test xs ≡ Some x → test x ≡ true
-find-passes test [] x found = cc
-find-passes test (y ∷ ys) x found =
-    elim (test y) as (λ b. test y ≡ b → cond b (Some y) (find test ys) ≡ Some x → test x ≡ true) [
-      | true ↦ λ t is. let same : y ≡ x = cc in ap test (sym same) ∙ t
-      | false ↦ λ _ is. find-passes test ys x is
-    ] refl found
+standing-find test xs (Some at) is = let p = first_at test xs at is in ap (slice_get xs) (sym p.0) ∙ sym (find_index test xs p.1)
 
 -- where one test finds what another passes, the other finds something
 pub find-other : {X : Type 0} (test other : X → Bool) (xs : List X) (x : X) → find test xs ≡ Some x → other x ≡ true → find other xs ≡ None → ⊥
@@ -100,22 +95,13 @@ find-other test other (y ∷ ys) x found passes none =
       ]
     ] found none
 
--- ---- lists and places behind their first item
+-- ---- lists and indices behind their first item
 
 set_behind : {X : Type 0} (x new : X) (xs : List X) (n : ℕ) → set (x ∷ xs) (1 + n) new ≡ x ∷ set xs n new
 set_behind x new xs n = let e : 1 + n ≡ suc n = omega arith in ap (λ k. set (x ∷ xs) k new) e
 
 without_behind : {X : Type 0} (x : X) (xs : List X) (n : ℕ) → without (x ∷ xs) (1 + n) ≡ x ∷ without xs n
 without_behind x xs n = let e : 1 + n ≡ suc n = omega arith in ap (without (x ∷ xs)) e
-
-no_more_items : {X : Type 0} (xs : List X) → xs ++ [] ≡ xs
-no_more_items [] = refl
-no_more_items (x ∷ xs) = ap (λ ys. x ∷ ys) (no_more_items xs)
-
--- there is one item more
-pub length_push : {X : Type 0} (xs : List X) (new : X) → length (xs ++ new ∷ []) ≡ length xs + 1
-length_push [] new = refl
-length_push (x ∷ xs) new = let rest = length_push xs new in omega (arith, rest)
 
 length-set : {X : Type 0} (xs : List X) (n : ℕ) (new : X) → length (set xs n new) ≡ length xs
 length-set xs n new = search rules
@@ -133,22 +119,6 @@ swapped : {A : Type 0} (a b : Bool) (x y z : A) → (b ≡ true → a ≡ false)
 swapped true true x y z apart = absurd (true≢false (apart refl))
 swapped true false x y z apart = refl
 swapped false b x y z apart = refl
-
-mapped : {A B : Type 0} (f : A → B) (b : Bool) (x y : Option A) → option_map f (cond b x y) ≡ cond b (option_map f x) (option_map f y)
-mapped f true x y = refl
-mapped f false x y = refl
-
-none_mapped : {A B : Type 0} (f : A → B) (o : Option A) → is_some (option_map f o) ≡ false → o ≡ None
-none_mapped f None is = refl
-none_mapped f (Some x) is = absurd (true≢false is)
-
-pub some_mapped : {A B : Type 0} (f : A → B) (o : Option A) → is_some (option_map f o) ≡ is_some o
-some_mapped f None = refl
-some_mapped f (Some x) = refl
-
-pub mapped_itself : {A : Type 0} (o : Option A) → option_map (λ x. x) o ≡ o
-mapped_itself None = refl
-mapped_itself (Some x) = refl
 
 module _ {X : Type 0} (key : X → KeyTexts) (row : X → Row) where
   -- ---- what is held under a key is what a search finds
@@ -189,18 +159,18 @@ module _ {X : Type 0} (key : X → KeyTexts) (row : X → Row) where
   changes-twice k first second xs ys zs one two =
       λ q. two q ∙ (ap (cond (eq_by_cmp key_cmp q k) second) (one q) ∙ sym (shadowed (eq_by_cmp key_cmp q k) second first (find (has_key key q) xs)))
 
-  find-set : (xs : List X) (new : X) (q : KeyTexts) → place (has_key key (key new)) xs < length xs
-      → find (has_key key q) (set xs (place (has_key key (key new)) xs) new) ≡ cond (has_key key q new) (Some new) (find (has_key key q) xs)
+  find-set : (xs : List X) (new : X) (q : KeyTexts) → index (has_key key (key new)) xs < length xs
+      → find (has_key key q) (set xs (index (has_key key (key new)) xs) new) ≡ cond (has_key key q new) (Some new) (find (has_key key q) xs)
   find-set [] new q within = absurd (omega arith)
   find-set (x ∷ xs) new q within =
-      elim (has_key key (key new) x) as (λ b. has_key key (key new) x ≡ b → cond (not b) (1 + place (has_key key (key new)) xs) 0 < suc (length xs)
-      → find (has_key key q) (set (x ∷ xs) (cond (not b) (1 + place (has_key key (key new)) xs) 0) new) ≡ cond (has_key key q new) (Some new) (cond (has_key key q x) (Some x) (find (has_key key q) xs))) [
+      elim (has_key key (key new) x) as (λ b. has_key key (key new) x ≡ b → cond (not b) (1 + index (has_key key (key new)) xs) 0 < suc (length xs)
+      → find (has_key key q) (set (x ∷ xs) (cond (not b) (1 + index (has_key key (key new)) xs) 0) new) ≡ cond (has_key key q new) (Some new) (cond (has_key key q x) (Some x) (find (has_key key q) xs))) [
         | true ↦ λ t _.
             let alike : has_key key q new ≡ has_key key q x = ap (eq_by_cmp key_cmp q) (same_key (key new) (key x) t) in
             shadowed (has_key key q new) (Some new) (Some x) (find (has_key key q) xs)
             ∙ ap (λ b. cond (has_key key q new) (Some new) (cond b (Some x) (find (has_key key q) xs))) alike
         | false ↦ λ t below.
-            ap (find (has_key key q)) (set_behind x new xs (place (has_key key (key new)) xs))
+            ap (find (has_key key q)) (set_behind x new xs (index (has_key key (key new)) xs))
             ∙ (ap (cond (has_key key q x) (Some x)) (find-set xs new q (omega arith))
             ∙ swapped (has_key key q x) (has_key key q new) (Some x) (Some new) (find (has_key key q) xs)
             (λ s. ap (λ k. has_key key k x) (same_key q (key new) s) ∙ t))
@@ -208,7 +178,7 @@ module _ {X : Type 0} (key : X → KeyTexts) (row : X → Row) where
 
   changes-set : (xs : List X) (new : X) (at : ℕ) → position (has_key key (key new)) xs ≡ Some at → Changes (key new) (Some new) xs (set xs at new)
   changes-set xs new at is =
-      let p = placed (has_key key (key new)) xs at is in
+      let p = first_at (has_key key (key new)) xs at is in
       λ q. ap (λ n. find (has_key key q) (set xs n new)) (sym p.0) ∙ find-set xs new q p.1
 
   find-push : (xs : List X) (new : X) (q : KeyTexts) → find (has_key key (key new)) xs ≡ None
@@ -229,7 +199,7 @@ module _ {X : Type 0} (key : X → KeyTexts) (row : X → Row) where
   nothing_there q k xs false none t = refl
 
   changes-join : (k : KeyTexts) (new : Option X) (xs : List X) → IfSome new (λ x. key x ≡ k) → find (has_key key k) xs ≡ None → Changes k new xs (xs ++ option_to_list new)
-  changes-join k None xs own none = λ q. ap (find (has_key key q)) (no_more_items xs) ∙ nothing_there q k xs (eq_by_cmp key_cmp q k) none refl
+  changes-join k None xs own none = λ q. ap (find (has_key key q)) (append-nil xs) ∙ nothing_there q k xs (eq_by_cmp key_cmp q k) none refl
   changes-join k (Some x) xs own none =
       subst (λ j. find (has_key key j) xs ≡ None → Changes j (Some x) xs (xs ++ x ∷ [])) own (λ is q. find-push xs x q is) none
 
@@ -260,7 +230,7 @@ module _ {X : Type 0} (key : X → KeyTexts) (row : X → Row) where
   IsOnce-tail : (x : X) (xs : List X) → IsOnce (x ∷ xs) → IsOnce xs × (find (has_key key (key x)) xs ≡ None)
   IsOnce-tail x xs once =
       let parts = apart_by (contains_key (rows_under key row xs) (key x)) (len (rows_under key row xs)) (length xs) (no_more xs) (sym (len_first x xs) ∙ once) in
-      (parts.0, none_mapped row (find (has_key key (key x)) xs) (ap is_some (sym (get-rows_under xs (key x))) ∙ parts.1))
+      (parts.0, none_there (find (has_key key (key x)) xs) (sym (some_mapped row (find (has_key key (key x)) xs)) ∙ (ap is_some (sym (get-rows_under xs (key x))) ∙ parts.1)))
 
   -- what any search finds is found under its key, where none stands twice
   pub find-own : (test : X → Bool) (xs : List X) (x : X) → IsOnce xs → find test xs ≡ Some x → find (has_key key (key x)) xs ≡ Some x
@@ -270,7 +240,7 @@ module _ {X : Type 0} (key : X → KeyTexts) (row : X → Row) where
       elim (test y) as (λ b. cond b (Some y) (find test ys) ≡ Some x → cond (has_key key (key x) y) (Some y) (find (has_key key (key x)) ys) ≡ Some x) [
         | true ↦ λ is.
             let same : y ≡ x = cc in
-            let own : has_key key (key x) y ≡ true = ap (λ z. eq_by_cmp key_cmp (key z) (key y)) (sym same) ∙ own_key (key y) in
+            let own : has_key key (key x) y ≡ true = ap (λ z. eq_by_cmp key_cmp (key z) (key y)) (sym same) ∙ key_itself (key y) in
             ap (λ b. cond b (Some y) (find (has_key key (key x)) ys)) own ∙ is
         | false ↦ λ is.
             let later = find-own test ys x tail.0 is in
@@ -286,13 +256,13 @@ module _ {X : Type 0} (key : X → KeyTexts) (row : X → Row) where
 
   -- ---- the item with a key is taken out
 
-  find-without : (xs : List X) (k q : KeyTexts) → IsOnce xs → place (has_key key k) xs < length xs
-      → find (has_key key q) (without xs (place (has_key key k) xs)) ≡ cond (eq_by_cmp key_cmp q k) None (find (has_key key q) xs)
+  find-without : (xs : List X) (k q : KeyTexts) → IsOnce xs → index (has_key key k) xs < length xs
+      → find (has_key key q) (without xs (index (has_key key k) xs)) ≡ cond (eq_by_cmp key_cmp q k) None (find (has_key key q) xs)
   find-without [] k q once within = absurd (omega arith)
   find-without (x ∷ xs) k q once within =
       let tail = IsOnce-tail x xs once in
-      elim (has_key key k x) as (λ b. has_key key k x ≡ b → cond (not b) (1 + place (has_key key k) xs) 0 < suc (length xs)
-      → find (has_key key q) (without (x ∷ xs) (cond (not b) (1 + place (has_key key k) xs) 0)) ≡ cond (eq_by_cmp key_cmp q k) None (cond (has_key key q x) (Some x) (find (has_key key q) xs))) [
+      elim (has_key key k x) as (λ b. has_key key k x ≡ b → cond (not b) (1 + index (has_key key k) xs) 0 < suc (length xs)
+      → find (has_key key q) (without (x ∷ xs) (cond (not b) (1 + index (has_key key k) xs) 0)) ≡ cond (eq_by_cmp key_cmp q k) None (cond (has_key key q x) (Some x) (find (has_key key q) xs))) [
         | true ↦ λ t _.
             let alike : k ≡ key x = same_key k (key x) t in
             elim (eq_by_cmp key_cmp q k) as (λ b. eq_by_cmp key_cmp q k ≡ b → find (has_key key q) xs ≡ cond b None (cond (has_key key q x) (Some x) (find (has_key key q) xs))) [
@@ -300,7 +270,7 @@ module _ {X : Type 0} (key : X → KeyTexts) (row : X → Row) where
               | false ↦ λ s. ap (λ b. cond b (Some x) (find (has_key key q) xs)) (sym (ap (eq_by_cmp key_cmp q) (sym alike) ∙ s))
             ] refl
         | false ↦ λ t below.
-            ap (find (has_key key q)) (without_behind x xs (place (has_key key k) xs))
+            ap (find (has_key key q)) (without_behind x xs (index (has_key key k) xs))
             ∙ (ap (cond (has_key key q x) (Some x)) (find-without xs k q tail.0 (omega arith))
             ∙ swapped (has_key key q x) (eq_by_cmp key_cmp q k) (Some x) None (find (has_key key q) xs)
             (λ s. ap (λ j. has_key key j x) (same_key q k s) ∙ t))
@@ -308,18 +278,18 @@ module _ {X : Type 0} (key : X → KeyTexts) (row : X → Row) where
 
   changes-without : (xs : List X) (k : KeyTexts) (at : ℕ) → position (has_key key k) xs ≡ Some at → IsOnce xs → Changes k None xs (without xs at)
   changes-without xs k at is once =
-      let p = placed (has_key key k) xs at is in
+      let p = first_at (has_key key k) xs at is in
       λ q. ap (λ n. find (has_key key q) (without xs n)) (sym p.0) ∙ find-without xs k q once p.1
 
   -- nothing is found under its key then
   gone : (xs : List X) (k : KeyTexts) (at : ℕ) → position (has_key key k) xs ≡ Some at → IsOnce xs → find (has_key key k) (without xs at) ≡ None
-  gone xs k at is once = changes-without xs k at is once k ∙ ap (λ b. cond b None (find (has_key key k) xs)) (own_key k)
+  gone xs k at is once = changes-without xs k at is once k ∙ ap (λ b. cond b None (find (has_key key k) xs)) (key_itself k)
 
   -- ---- none stands twice after a change either
 
   contained : (xs : List X) (k : KeyTexts) (at : ℕ) → position (has_key key k) xs ≡ Some at → contains_key (rows_under key row xs) k ≡ true
   contained xs k at is =
-      ap is_some (get-rows_under xs k) ∙ (some_mapped row (find (has_key key k) xs) ∙ some_found (has_key key k) xs (placed (has_key key k) xs at is).1)
+      ap is_some (get-rows_under xs k) ∙ (some_mapped row (find (has_key key k) xs) ∙ some_found (has_key key k) xs (first_at (has_key key k) xs at is).1)
 
   once-set : (xs : List X) (new : X) (at : ℕ) → position (has_key key (key new)) xs ≡ Some at → IsOnce xs → IsOnce (set xs at new)
   once-set xs new at is once =
@@ -329,16 +299,16 @@ module _ {X : Type 0} (key : X → KeyTexts) (row : X → Row) where
       ∙ (once ∙ sym (length-set xs at new))))
 
   once-join : (k : KeyTexts) (new : Option X) (xs : List X) → IfSome new (λ x. key x ≡ k) → find (has_key key k) xs ≡ None → IsOnce xs → IsOnce (xs ++ option_to_list new)
-  once-join k None xs own none once = subst IsOnce (sym (no_more_items xs)) once
+  once-join k None xs own none once = subst IsOnce (sym (append-nil xs)) once
   once-join k (Some x) xs own none once =
       ap len (changed k (Some x) xs (xs ++ x ∷ []) (changes-join k (Some x) xs own none))
       ∙ (len-insert keys_total (rows_under key row xs) k (row x)
       ∙ (ap (λ b. cond b (len (rows_under key row xs)) (len (rows_under key row xs) + 1)) (ap is_some (get-rows_under xs k) ∙ ap (λ found. is_some (option_map row found)) none)
-      ∙ (ap (λ n. n + 1) once ∙ sym (length_push xs x))))
+      ∙ (ap (λ n. n + 1) once ∙ sym (length-append xs (x ∷ [])))))
 
   once-without : (xs : List X) (k : KeyTexts) (at : ℕ) → position (has_key key k) xs ≡ Some at → IsOnce xs → IsOnce (without xs at)
   once-without xs k at is once =
-      let p = placed (has_key key k) xs at is in
+      let p = first_at (has_key key k) xs at is in
       let within : at < length xs = subst (λ n. n < length xs) p.0 p.1 in
       ap len (changed k None xs (without xs at) (changes-without xs k at is once))
       ∙ (len-remove keys_total (rows_under key row xs) k

@@ -1,18 +1,13 @@
 -- Rows under keys: what stands under a key is changed, and what stood there is put back.
 use Rattle.std.specs.Prelude.{◌≡◌, ◌+◌, ◌-◌, ◌≤◌, ℕ, Bool, true, false, cond, Option, Some, None}
-use Rattle.std.specs.Cmp.{tied_itself}
 use Rattle.std.specs.FinMap.{get, len, contains_key, get-insert, get-remove, len-insert, len-remove, same_map}
-use Rattle.std.specs.Ordering.{eq_by_cmp, is_eq}
+use Rattle.std.specs.Ordering.{eq_by_cmp}
 use Rattle.std.proofs.Common.{refl, sym, ap, subst, ◌∙◌, arith}
 use Rattle.lei_records.specs.Rows.{Row}
 use Rattle.lei_records.specs.Tables.{KeyTexts, Rows, key_cmp}
 use Rattle.authority_rules.proofs.HolderLemmas.{keys_total, same_key}
+use Rattle.authority_rules.proofs.KeyLemmas.{key_itself, keys_antisymmetric}
 use Rattle.register_table.specs.Undos.{with_under}
-use Rattle.register_table.proofs.KeyLemmas.{keys_antisymmetric}
-
--- a key is its own
-pub own_key : (k : KeyTexts) → eq_by_cmp key_cmp k k ≡ true
-own_key k = ap is_eq (tied_itself keys_total k)
 
 pub get-with_under : (m : Rows) (k : KeyTexts) (new : Option Row) (q : KeyTexts) → get (with_under m k new) q ≡ cond (eq_by_cmp key_cmp q k) new (get m q)
 get-with_under m k None q = get-remove keys_total m k q
@@ -20,7 +15,7 @@ get-with_under m k (Some row) q = get-insert keys_total m k row q
 
 -- what was put under a key stands there
 pub stands : (m : Rows) (k : KeyTexts) (row : Row) → get (with_under m k (Some row)) k ≡ Some row
-stands m k row = get-with_under m k (Some row) k ∙ ap (λ b. cond b (Some row) (get m k)) (own_key k)
+stands m k row = get-with_under m k (Some row) k ∙ ap (λ b. cond b (Some row) (get m k)) (key_itself k)
 
 back_at : (b : Bool) (held new at : Option Row) → (b ≡ true → at ≡ held) → cond b held (cond b new at) ≡ at
 back_at true held new at is = sym (is refl)

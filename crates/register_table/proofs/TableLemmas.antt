@@ -3,25 +3,28 @@ use Rattle.std.specs.Prelude.{◌≡◌, ℕ, Bool, true, false, cond, ◌||◌,
 use Rattle.std.specs.FinMap.{get, values}
 use Rattle.std.specs.List.{list_any}
 use Rattle.std.proofs.Common.{refl, sym, ap, ◌∙◌}
+use Rattle.std.proofs.lemmas.Iterator.Adapters.{option_map_id}
 use Rattle.lei_shapes.specs.declared.lists.ExceptionCategory.{ExceptionCategory}
 use Rattle.lei_shapes.specs.declared.lists.RelationType.{RelationType}
 use Rattle.lei_records.specs.Cells.{holds, lei_in}
 use Rattle.lei_records.specs.Relations.{end_in, is_active_of}
 use Rattle.lei_records.specs.Rows.{Row}
 use Rattle.lei_records.specs.Tables.{KeyTexts, Table, IsSound, active_of, exception_key, has_exception, holder_of, record_key, relation_key, relation_key_in, relation_row, row_at}
+use Rattle.lei_records.proofs.FindLemmas.{find-passes}
+use Rattle.lei_records.proofs.OptionLemmas.{some_mapped}
 use Rattle.authority_rules.proofs.HolderLemmas.{keys_total}
 use Rattle.authority_rules.proofs.MapLemmas.{find-values, values-find}
 use Rattle.register_table.specs.Lists.{Listed, AreKept, HasKeysOnce, exception_item_key, is_exception_of, is_of, is_relation_of, record_key_in, record_rows, rows_under, table_of}
 use Rattle.register_table.proofs.KeyLemmas.{has_key, is_exception_of-key, is_of-key, is_relation_of-key}
-use Rattle.register_table.proofs.ListLemmas.{IsOnce, find-other, find-own, find-passes, get-rows_under, mapped_itself, some_mapped}
+use Rattle.register_table.proofs.ListLemmas.{IsOnce, find-other, find-own, get-rows_under}
 
 -- ---- by key
 
 get-found : (key : Row → KeyTexts) (test : Row → Bool) (k : KeyTexts) (rows : List Row) → test ≡ has_key key k → get (rows_under key (λ row. row) rows) k ≡ find test rows
 get-found key test k rows same =
-    get-rows_under key (λ row. row) rows k ∙ (mapped_itself (find (has_key key k) rows) ∙ ap (λ t. find t rows) (sym same))
+    get-rows_under key (λ row. row) rows k ∙ (option_map_id (find (has_key key k) rows) ∙ ap (λ t. find t rows) (sym same))
 
--- the record with a code is the one that a search finds
+-- the record with an LEI is the one that a search finds
 pub row_at-found : (lists : Listed) (lei : List ℕ) → row_at (table_of lists) lei ≡ find (is_of lei) lists.records
 row_at-found lists lei = get-found record_key_in (is_of lei) (record_key lei) lists.records (is_of-key lei)
 
@@ -52,14 +55,14 @@ module _ (key : Row → KeyTexts) (rows : List Row) (test : Row → Bool) (once 
   held : (x : Row) → find test rows ≡ Some x → get (rows_under key (λ row. row) rows) (key x) ≡ Some x
   held x is =
       get-rows_under key (λ row. row) rows (key x)
-      ∙ (mapped_itself (find (has_key key (key x)) rows) ∙ find-own key (λ row. row) test rows x once is)
+      ∙ (option_map_id (find (has_key key (key x)) rows) ∙ find-own key (λ row. row) test rows x once is)
 
   by_found : (found among : Option Row) → find test rows ≡ found → find test (values (rows_under key (λ row. row) rows)) ≡ among → among ≡ found
   by_found None None is all = refl
   by_found None (Some x) is all =
       let under = find-values keys_total (rows_under key (λ row. row) rows) test x all in
       let there : find (has_key key under.0) rows ≡ Some x =
-      sym (get-rows_under key (λ row. row) rows under.0 ∙ mapped_itself (find (has_key key under.0) rows)) ∙ under.1 in
+      sym (get-rows_under key (λ row. row) rows under.0 ∙ option_map_id (find (has_key key under.0) rows)) ∙ under.1 in
       absurd (find-other (has_key key under.0) test rows x there under.2 is)
   by_found (Some x) among is all =
       let some = values-find keys_total (rows_under key (λ row. row) rows) test (key x) x (held x is) (find-passes test rows x is) in

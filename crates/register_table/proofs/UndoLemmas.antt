@@ -2,6 +2,7 @@
 use Rattle.std.specs.Prelude.{◌≡◌, ◌+◌, ◌<◌, ◌≤◌, false, if◌then◌else◌, [], ◌∷◌, ◌++◌, length, Option, Some, None, option_map, IsSome, is_some}
 use Rattle.std.specs.FinMap.{insert, remove}
 use Rattle.std.proofs.Common.{refl, sym, ap, subst, ◌∙◌, arith}
+use Rattle.std.proofs.lemmas.List.{length-append}
 use Rattle.lei_records.specs.declared.item.Item.{Item}
 use Rattle.lei_records.specs.declared.view.RowKey.{RowKey}
 use Rattle.lei_records.specs.Rows.{Row}
@@ -9,7 +10,6 @@ use Rattle.lei_records.specs.Tables.{Table, exception_key, exception_key_in, exc
 use Rattle.register_table.specs.Lists.{exception_count}
 use Rattle.register_table.specs.Slots.{NeedsNoRoom}
 use Rattle.register_table.specs.Undos.{WriteList, Notes, IsOwn, AreOwn, held_exception, is_withdrawal, item_at, notes_of, put_back, row_of, undone, IsOfLast}
-use Rattle.register_table.proofs.ListLemmas.{length_push}
 use Rattle.register_table.proofs.MapLemmas.{len-with_under, stands, under_again}
 
 -- ---- a write puts its item under its key, or nothing
@@ -140,7 +140,7 @@ few_back : (notes : Notes) (note : RowKey × Option Item) (table : Table) → ex
     → exception_count (put_back table note) + length notes < 9223372036854775808
 few_back notes note table few =
     let one = count_back table note in
-    let more = length_push notes note in
+    let more = length-append notes (note ∷ []) in
     omega (arith, few, one, more)
 
 -- What the last note asks for when it is put back, and that the notes before it are of what then stands.

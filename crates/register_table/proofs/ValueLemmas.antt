@@ -6,19 +6,17 @@ use mathlib.Core.Bool.{true≢false}
 use Rattle.lei_shapes.specs.declared.lists.ExceptionCategory.{ExceptionCategory}
 use Rattle.lei_shapes.specs.declared.lists.RelationType.{RelationType}
 use Rattle.lei_shapes.specs.Lists.{exception_category_of, exception_category_text, relation_type_of, relation_type_text}
+use Rattle.lei_shapes.proofs.ListLemmas.{texts_apart}
 use Rattle.lei_shapes.proofs.ValueTexts.{exception_category_of-text, relation_type_of-text}
 use Rattle.authority_rules.proofs.HolderLemmas.{bytes_itself, bytes_same}
 
 -- a test that passes exactly where two values are one is that of their texts
 module _ {V : Type 0} (text_of : V → List ℕ) (of_text : List ℕ → Option V) (back : (v : V) → of_text (text_of v) ≡ Some v) where
-  pub one_value : (a b : V) → text_of a ≡ text_of b → a ≡ b
-  one_value a b e = let known = sym (back a) ∙ (ap of_text e ∙ back b) in cc
-
   by_texts : (a b : V) (test texts : Bool) → (test ≡ true → a ≡ b) → (test ≡ false → a ≡ b → ⊥) → bytes_eq (text_of a) (text_of b) ≡ texts → test ≡ texts
   by_texts a b true true same other is = refl
   by_texts a b true false same other is =
       absurd (true≢false (sym (ap (λ v. bytes_eq (text_of a) (text_of v)) (sym (same refl)) ∙ bytes_itself (text_of a)) ∙ is))
-  by_texts a b false true same other is = absurd (other refl (one_value a b (bytes_same (text_of a) (text_of b) is)))
+  by_texts a b false true same other is = absurd (other refl (texts_apart text_of of_text back a b (bytes_same (text_of a) (text_of b) is)))
   by_texts a b false false same other is = refl
 
 pub same_types : (a b : RelationType) (test : Bool) → (test ≡ true → a ≡ b) → (test ≡ false → a ≡ b → ⊥) → test ≡ bytes_eq (relation_type_text a) (relation_type_text b)

@@ -15,7 +15,7 @@ use Rattle.register_table.specs.Lists.{exception_item_key}
 use Rattle.register_table.specs.Slots.{IsSlot, note_of}
 use Rattle.register_table.specs.Undos.{WriteList, AreOwn, IsOwn}
 
--- ---- the write at a place
+-- ---- the write at an index
 
 own_get : (writes : WriteList) (n : ℕ) (write : RowKey × Option Item) → AreOwn writes → n < length writes → IsOwn (get_or writes n write)
 own_get [] n write own within = absurd (omega (arith, within))
@@ -24,29 +24,6 @@ own_get (first ∷ writes) (suc n) write own within = own_get writes n write own
 
 pub own_at : (writes : WriteList) (n : ℕ) (write : RowKey × Option Item) → AreOwn writes → n < length writes → write ≡ get_or writes n write → IsOwn write
 own_at writes n write own within is = subst IsOwn (sym is) (own_get writes n write own within)
-
--- ---- the slot of an item
-
-pub relation_note : (row copy : Row) (start end : List ℕ) (kind : RelationType) → start ≡ start_in row → kind ≡ kind_in row → end ≡ end_in row → copy ≡ row
-    → note_of (Slot.Relation start kind end (Some copy)) ≡ (row_key (Item.Relation row), Some (Item.Relation row))
-relation_note row copy start end kind is_start is_kind is_end same = λ i. (RowKey.Rel (is_start i) (is_kind i) (is_end i), Some (Item.Relation (same i)))
-
-pub relation_own : (row copy : Row) (start end : List ℕ) (kind : RelationType) → start ≡ start_in row → kind ≡ kind_in row → end ≡ end_in row → copy ≡ row
-    → relation_key_in copy ≡ relation_key start kind end
-relation_own row copy start end kind is_start is_kind is_end same = ap relation_key_in same ∙ sym (λ i. relation_key (is_start i) (is_kind i) (is_end i))
-
-pub exception_note : (item copy : Row × Bool) (lei : List ℕ) (category : ExceptionCategory) (single : Option (Row × Bool))
-    → lei ≡ subject_in item.0 → category ≡ exception_category_in item.0 → copy ≡ item → single ≡ Some copy
-    → note_of (Slot.Exception lei category single) ≡ (row_key (Item.Exception item), Some (Item.Exception item))
-exception_note item copy lei category single is_lei is_category same is =
-    λ i. (RowKey.Exc (is_lei i) (is_category i), option_map Item.Exception ((is ∙ ap Some same) i))
-
-pub exception_own : (item copy : Row × Bool) (lei : List ℕ) (category : ExceptionCategory) (single : Option (Row × Bool))
-    → lei ≡ subject_in item.0 → category ≡ exception_category_in item.0 → item.1 ≡ false → copy ≡ item → single ≡ Some copy
-    → IfSome single (λ i. (exception_item_key i ≡ exception_key lei category) × (i.1 ≡ false))
-exception_own item copy lei category single is_lei is_category put same is =
-    subst (λ s. IfSome s (λ i. (exception_item_key i ≡ exception_key lei category) × (i.1 ≡ false))) (sym (is ∙ ap Some same))
-    (sym (λ i. exception_key (is_lei i) (is_category i)), put)
 
 -- ---- the last slot
 

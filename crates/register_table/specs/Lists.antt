@@ -4,6 +4,7 @@ use Rattle.std.specs.Coded.{Coded, code_by, coded_list, coded_ℕ, coded×}
 use Rattle.std.specs.Str.{bytes_eq}
 use Rattle.std.specs.FinMap.{code, empty, from_entries, len}
 use Rattle.std.specs.List.{AllByRecursion}
+use Rattle.lei_code.specs.Texts.{Lei}
 use Rattle.lei_shapes.specs.declared.lists.ExceptionCategory.{ExceptionCategory}
 use Rattle.lei_shapes.specs.declared.lists.RelationType.{RelationType}
 use Rattle.lei_records.specs.Cells.{lei_in}
@@ -14,34 +15,34 @@ use Rattle.lei_records.specs.Tables.{KeyTexts, Rows, Table, exception_key_in, re
 
 -- ---- the row of a key
 
--- this record is of the entity
-abbrev pub is_of : List ℕ → Row → Bool
+-- The record is that of the entity with this LEI.
+abbrev pub is_of : Lei → Row → Bool
 is_of lei row = bytes_eq (lei_in row) lei
 
--- this relationship has the start, the type and the end
-abbrev pub is_relation_of : List ℕ → RelationType → List ℕ → Row → Bool
+-- The relationship has this start, this type and this end.
+abbrev pub is_relation_of : Lei → RelationType → Lei → Row → Bool
 is_relation_of start kind end row = bytes_eq (start_in row) start && is_same_type (kind_in row) kind && bytes_eq (end_in row) end
 
--- this exception has the entity and the category
-abbrev pub is_exception_of : List ℕ → ExceptionCategory → Row × Bool → Bool
+-- The exception has this LEI and this category.
+abbrev pub is_exception_of : Lei → ExceptionCategory → Row × Bool → Bool
 is_exception_of lei category item = bytes_eq (subject_in item.0) lei && is_same_category (exception_category_in item.0) category
 
--- ---- rows by place
+-- ---- rows by index
 
--- what stands at a place, if there is one
+-- What stands at an index, if there is one.
 abbrev pub standing : {X : Type 0} → Option ℕ → List X → Option X
-standing place xs = option_and_then (slice_get xs) place
+standing index xs = option_and_then (slice_get xs) index
 
--- a list without what stands at a place
+-- A list without what stands at an index.
 abbrev pub without : {X : Type 0} → List X → ℕ → List X
 without xs at = take at xs ++ drop (suc at) xs
 
--- the same where there may be no place
+-- The same where there may be no index.
 abbrev pub remaining : {X : Type 0} → Option ℕ → List X → List X
 remaining None xs = xs
 remaining (Some at) xs = without xs at
 
--- what stands at a place is changed for this, or for nothing; without a place this comes behind all
+-- A list in which what stands at an index is changed for this, or for nothing. Without an index this comes behind all.
 abbrev pub exchanged : {X : Type 0} → Option ℕ → Option X → List X → List X
 exchanged None new xs = xs ++ option_to_list new
 exchanged (Some at) None xs = without xs at
@@ -49,23 +50,27 @@ exchanged (Some at) (Some x) xs = set xs at x
 
 -- ---- lists as a table
 
--- the key that a record's row has by its texts, and those of an exception that stands with whether it is a withdrawal
+-- The key that a record's row has by its texts.
 abbrev pub record_key_in : Row → KeyTexts
 record_key_in row = record_key (lei_in row)
 
+-- The key that an exception has by its texts, where it stands with whether it is a withdrawal.
 abbrev pub exception_item_key : Row × Bool → KeyTexts
 exception_item_key item = exception_key_in item.0
 
--- the rows of a list under their own keys, and of two with one key the first
+-- The rows of a list under their own keys, and of two with one key the first.
 unfoldable pub rows_under : {X : Type 0} → (X → KeyTexts) → (X → Row) → List X → Rows
 rows_under key row xs = from_entries (map (λ x. (key x, row x)) xs)
 
+-- The rows of a list of records.
 abbrev pub record_rows : List Row → Rows
 record_rows = rows_under record_key_in (λ row. row)
 
+-- The rows of a list of relationships.
 abbrev pub relation_rows : List Row → Rows
 relation_rows = rows_under relation_key_in (λ row. row)
 
+-- The rows of a list of exceptions.
 abbrev pub exception_rows : List (Row × Bool) → Rows
 exception_rows = rows_under exception_item_key (λ item. item.0)
 
@@ -75,7 +80,7 @@ pub record Listed : Type 0 where
   pub relations : List Row
   pub exceptions : List (Row × Bool)
 
--- the table that they are
+-- The table that three lists are.
 abbrev pub table_of : Listed → Table
 table_of lists = record {
   records = record_rows lists.records;
@@ -83,11 +88,11 @@ table_of lists = record {
   exceptions = exception_rows lists.exceptions;
 }
 
--- the table without rows
+-- The table without rows.
 abbrev pub no_rows : Table
 no_rows = record { records = empty; relations = empty; exceptions = empty }
 
--- how many exceptions are held
+-- How many exceptions are held.
 abbrev pub exception_count : Table → ℕ
 exception_count table = len table.exceptions
 
@@ -97,21 +102,21 @@ pub record HasKeysOnce (lists : Listed) : Type 0 where
   pub relations : len (relation_rows lists.relations) ≡ length lists.relations
   pub exceptions : len (exception_rows lists.exceptions) ≡ length lists.exceptions
 
--- no withdrawal stands among exceptions
+-- No withdrawal stands among exceptions.
 abbrev pub HasNoWithdrawal : List (Row × Bool) → Type 0
 HasNoWithdrawal = AllByRecursion (λ item. item.1 ≡ false)
 
--- The table is sound, and has at most 4,294,967,295 records.
+-- A table that can be kept: it is sound, and has at most 4,294,967,295 records.
 pub record IsKept (table : Table) : Type 0 where
   pub sound : IsSound table
   pub count : record_count table ≤ 4294967295
 
--- Lists have no key twice and no withdrawal.
+-- The lists have no key twice and no withdrawal.
 pub record AreListed (lists : Listed) : Type 0 where
   pub once : HasKeysOnce lists
   pub held : HasNoWithdrawal lists.exceptions
 
--- The same, and the table that they are is kept.
+-- The lists have no key twice and no withdrawal, and the table that they are can be kept.
 pub record AreKept (lists : Listed) : Type 0 where
   pub listed : AreListed lists
   pub kept : IsKept (table_of lists)
@@ -120,7 +125,7 @@ pub record AreKept (lists : Listed) : Type 0 where
 abbrev rows_code : Coded Rows
 rows_code = code (coded_list (coded_list coded_ℕ)) (coded_list (coded_list coded_ℕ))
 
--- a table is stored as its rows
+-- How a table is stored: as its rows.
 abbrev pub table_code : Coded Table
 table_code = code_by (Rows × (Rows × Rows)) (coded× rows_code (coded× rows_code rows_code))
     (λ table. (table.records, (table.relations, table.exceptions)))

@@ -4,7 +4,7 @@
 
 mod laws;
 mod lists;
-mod places;
+mod searches;
 mod rows;
 mod single;
 mod slot;
@@ -16,5 +16,3 @@ pub use laws::undone_writes_leave_the_table;
 pub use table::Table;
 pub use undo::Undo;
 
-#[cfg(test)]
-mod tests;

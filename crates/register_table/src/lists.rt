@@ -6,7 +6,7 @@ ghost use Rattle.register_table.specs.Lists.{AreListed, HasNoWithdrawal, excepti
 ghost use Rattle.register_table.specs.Slots.{IsSlot, NeedsNoRoom, listed, note_of};
 ghost use Rattle.register_table.specs.Undos.{item_at, put_back, with_under};
 
-use crate::places::{exception_place, record_place, relation_place};
+use crate::searches::{exception_index, record_index, relation_index};
 use crate::rows::{exchange, exchange_linked};
 use crate::single::Single;
 use crate::slot::Slot;
@@ -17,7 +17,7 @@ use std::alloc::Global;
 use std::collections::LinkedList;
 
 /// The rows that are held, in three plain lists. An exception stands in a linked list, so that one that was taken out
-/// keeps its place in memory.
+/// keeps its own memory.
 #[derive(Drop)]
 pub struct Lists {
     pub alloc: Global,
@@ -65,8 +65,8 @@ fn exchange_record(rows: &mut Vec<Record>, lei: &Lei, new: Option<Record>) -> Op
     ensures capacity { vec_capacity rows.new ≡ vec_capacity rows.old }
     ensures len { vec_len rows.new ≤ vec_len rows.old + 1 }
 {
-    let place = record_place(rows, lei);
-    exchange(rows, place, new)
+    let index = record_index(rows, lei);
+    exchange(rows, index, new)
 }
 
 fn exchange_relation(
@@ -86,8 +86,8 @@ fn exchange_relation(
     ensures capacity { vec_capacity rows.new ≡ vec_capacity rows.old }
     ensures len { vec_len rows.new ≤ vec_len rows.old + 1 }
 {
-    let place = relation_place(rows, start, kind, end);
-    exchange(rows, place, new)
+    let index = relation_index(rows, start, kind, end);
+    exchange(rows, index, new)
 }
 
 fn exchange_exception(
@@ -108,6 +108,6 @@ fn exchange_exception(
     ensures held { HasNoWithdrawal rows.new }
     ensures len { length rows.new ≤ length rows.old + 1 }
 {
-    let place = exception_place(rows, lei, category);
-    exchange_linked(alloc, rows, place, new)
+    let index = exception_index(rows, lei, category);
+    exchange_linked(alloc, rows, index, new)
 }

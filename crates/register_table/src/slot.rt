@@ -13,7 +13,7 @@ use lei_records::{ExceptionItem, Item, Record, Relation, RowKey};
 use lei_shapes::{ExceptionCategory, RelationType};
 use std::alloc::Global;
 
-/// A key with the row that is put under it, or that was held there, or with none. A withdrawn exception keeps its place in
+/// A key with the row that is put under it, or that was held there, or with none. A withdrawn exception keeps its own
 /// memory here, and so comes back without taking any.
 #[derive(Drop)]
 pub enum Slot {

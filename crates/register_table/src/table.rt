@@ -5,14 +5,12 @@ ghost use Rattle.register_table.specs.Lists.{IsKept, no_rows};
 ghost use Rattle.register_table.specs.Undos.{AreOwn, IsOfLast, MayApply, WriteList, notes_of, undone};
 
 use crate::lists::Lists;
-use crate::places::{find_active, find_holder, find_record, find_relation, has_exception};
+use crate::searches::{find_active, find_holder, find_record, find_relation, has_exception};
 use crate::undo::Undo;
 use crate::writes::{put_writes, undo_notes};
 use lei_code::Lei;
 use lei_outside::NoMemory;
 use lei_records::{RecCell, Record, RelCell, Seen, View, Writes};
-#[cfg(test)]
-use lei_shapes::Reason;
 use lei_shapes::{ExceptionCategory, RelationType};
 use std::alloc::Global;
 use std::collections::LinkedList;
@@ -130,15 +128,5 @@ impl Table {
         ensures { option_map (λ row. row.now) result ≡ row_at self.now lei.now }
     {
         find_record(&self.lists.records, lei)
-    }
-}
-
-#[cfg(test)]
-impl Table {
-    /// The reason of the exception of an entity and a category, which no call tells yet.
-    pub(crate) fn reason_of(&self, lei: &Lei, category: ExceptionCategory) -> Option<Reason> {
-        let mut rows = self.lists.exceptions.iter();
-        rows.find(|row| row.lei() == *lei && row.category() == category)?
-            .reason()
     }
 }

@@ -3,19 +3,21 @@ use Rattle.std.specs.Prelude.{◌≡◌, ℕ, List, [], ◌∷◌, Bool, true, f
 use Rattle.std.specs.FinMap.{get, get-insert}
 use Rattle.std.specs.Ordering.{eq_by_cmp}
 use Rattle.std.specs.Str.{bytes_eq}
-use mathlib.Core.Bool.{true≢false}
-use Rattle.std.proofs.Common.{refl, sym, ap, ◌∙◌}
+use Rattle.std.proofs.Common.{refl, sym, ap, ◌∙◌, get_or}
+use Rattle.std.proofs.lemmas.Bool.{and_from, and_parts, both_ways, false_from_ne_true, not-true}
+use Rattle.std.proofs.lemmas.Slice.Eq.{bytes_eq-Decides}
 use Rattle.lei_shapes.specs.declared.lists.RelationType.{RelationType}
 use Rattle.lei_shapes.specs.Lists.{relation_type_text}
 use Rattle.lei_records.specs.declared.item.Item.{Item}
-use Rattle.lei_records.specs.Relations.{end_in, is_active, is_active_of, is_same_type, kind_in, start_in}
+use Rattle.lei_records.specs.Relations.{end_in, is_active, is_active_of, kind_in, start_in}
 use Rattle.lei_records.specs.Rows.{Row}
 use Rattle.lei_records.specs.Tables.{AreRelationsKeyed, HasActives, IsSound, KeyTexts, Table, active_of, key_cmp, put, relation_key_in, relations_of}
 use Rattle.authority_rules.proofs.MapLemmas.{find-values}
-use Rattle.authority_rules.proofs.HolderLemmas.{both_true, bytes_itself, bytes_same, first_true, keys_total, not_true, same_key, second_true}
-use Rattle.relation_rules.specs.Checks.{is_in_the_way, other_end}
-use Rattle.relation_rules.specs.Checking.{unless_own}
-use Rattle.relation_rules.proofs.RowLemmas.{found_none, inserted, key_itself, none_found, only_found}
+use Rattle.authority_rules.proofs.HolderLemmas.{bytes_same, keys_total, same_key}
+use Rattle.authority_rules.proofs.KeyLemmas.{key_itself}
+use Rattle.authority_rules.proofs.PutLemmas.{other_than}
+use Rattle.authority_rules.proofs.UnderKeys.{found_none, inserted, none_found, only_found}
+use Rattle.relation_rules.specs.Checks.{is_from, is_in_the_way, other_end}
 
 -- ---- active relationships of a start and a type
 
@@ -28,21 +30,22 @@ pub record ActiveOf (start : List ℕ) (kind : RelationType) (row : Row) : Type 
 pub opened : (start : List ℕ) (kind : RelationType) (row : Row) → is_active_of start kind row ≡ true → ActiveOf start kind row
 unfolding is_active_of
 opened start kind row is =
-    let others = second_true (is_active row) _ is in
+    let parts = and_parts (is_active row) _ is in
+    let others = and_parts (bytes_eq (start_in row) start) _ parts.1 in
     record {
-      active = first_true (is_active row) _ is;
-      starts = bytes_same (start_in row) start (first_true (bytes_eq (start_in row) start) _ others);
-      types = bytes_same (relation_type_text (kind_in row)) (relation_type_text kind) (second_true (bytes_eq (start_in row) start) _ others);
+      active = parts.0;
+      starts = bytes_same (start_in row) start others.0;
+      types = bytes_same (relation_type_text (kind_in row)) (relation_type_text kind) others.1;
     }
 
 pub same_bytes : (a b : List ℕ) → a ≡ b → bytes_eq a b ≡ true
-same_bytes a b same = ap (λ t. bytes_eq a t) (sym same) ∙ bytes_itself a
+same_bytes a b same = (bytes_eq-Decides a b).1 same
 
 pub closed : (start : List ℕ) (kind : RelationType) (row : Row) → ActiveOf start kind row → is_active_of start kind row ≡ true
 unfolding is_active_of
 closed start kind row a =
-    both_true _ _ a.active
-    (both_true _ _ (same_bytes (start_in row) start a.starts) (same_bytes (relation_type_text (kind_in row)) (relation_type_text kind) a.types))
+    and_from _ _ a.active
+    (and_from _ _ (same_bytes (start_in row) start a.starts) (same_bytes (relation_type_text (kind_in row)) (relation_type_text kind) a.types))
 
 -- two rows that are active of one start and type: each is of the other's
 of_one : (start : List ℕ) (kind : RelationType) (a b : Row) → ActiveOf start kind a → ActiveOf start kind b → ActiveOf (start_in a) (kind_in a) b
@@ -65,28 +68,28 @@ abbrev active_row : Table → List ℕ → RelationType → Option Row
 active_row table start kind = find (is_active_of start kind) (relations_of table)
 
 other_by : (table : Table) (item : Row) → HasActives table → (found : Option Row) → active_row table (start_in item) (kind_in item) ≡ found
-    → unless_own (end_in item) (option_map end_in found) ≡ other_end table item
+    → other_than (end_in item) (option_map end_in found) ≡ other_end table item
 other_by table item actives None is =
     ap (option_map end_in) (sym (none_found table.relations (is_in_the_way item) (λ key row at passes.
-    found_none table.relations (is_active_of (start_in item) (kind_in item)) key row is at (first_true _ _ passes))))
+    found_none table.relations (is_active_of (start_in item) (kind_in item)) key row is at (and_parts _ _ passes).0)))
 other_by table item actives (Some row) is =
     let hit = find-values keys_total table.relations (is_active_of (start_in item) (kind_in item)) row is in
     let only : (key : KeyTexts) (other : Row) → get table.relations key ≡ Some other → is_in_the_way item other ≡ true → key ≡ hit.0 =
-    λ key other at passes. actives (start_in item) (kind_in item) key hit.0 other row at hit.1 (first_true _ _ passes) hit.2 in
+    λ key other at passes. actives (start_in item) (kind_in item) key hit.0 other row at hit.1 (and_parts _ _ passes).0 hit.2 in
     elim (bytes_eq (end_in row) (end_in item)) as (λ b. bytes_eq (end_in row) (end_in item) ≡ b → cond b None (Some (end_in row)) ≡ other_end table item) [
       | true ↦ λ t. ap (option_map end_in) (sym (none_found table.relations (is_in_the_way item) (λ key other at passes.
           let same : Some other ≡ Some row = sym at ∙ (ap (get table.relations) (only key other at passes) ∙ hit.1) in
-          let differs : bytes_eq (end_in other) (end_in item) ≡ false = not_true _ (second_true _ _ passes) in
           let is_row : other ≡ row = cc in
-          true≢false (sym t ∙ (ap (λ r. bytes_eq (end_in r) (end_in item)) (sym is_row) ∙ differs)))))
+          let differs : bytes_eq (end_in other) (end_in item) ≡ false = not-true _ (and_parts _ _ passes).1 in
+          both_ways _ (ap (λ r. bytes_eq (end_in r) (end_in item)) (sym is_row) ∙ differs) t)))
       | false ↦ λ t.
-          let passes : is_in_the_way item row ≡ true = both_true _ _ hit.2 (ap not t) in
+          let passes : is_in_the_way item row ≡ true = and_from _ _ hit.2 (ap not t) in
           ap (option_map end_in) (sym (only_found table.relations (is_in_the_way item) hit.0 row hit.1 passes only))
     ] refl
 
-pub other_end-is : (table : Table) (item : Row) → IsSound table
-    → unless_own (end_in item) (active_of table (start_in item) (kind_in item)) ≡ other_end table item
-other_end-is table item sound = other_by table item sound.actives (active_row table (start_in item) (kind_in item)) refl
+pub other_end-is : (table : Table) (item : Row) → HasActives table
+    → other_than (end_in item) (active_of table (start_in item) (kind_in item)) ≡ other_end table item
+other_end-is table item actives = other_by table item actives (active_row table (start_in item) (kind_in item)) refl
 
 -- ---- a relationship that is put
 
@@ -117,7 +120,7 @@ alone table row start kind key other keyed fits own at passes =
       | true ↦ λ t. keyed key other at ∙ same_keys start kind other row second first (bytes_same (end_in other) (end_in row) t)
       | false ↦ λ t.
           let of_it : is_active_of (start_in row) (kind_in row) other ≡ true = closed (start_in row) (kind_in row) other (of_one start kind row other first second) in
-          absurd (found_none table.relations (is_in_the_way row) key other (fits first.active) at (both_true _ _ of_it (ap not t)))
+          absurd (found_none table.relations (is_in_the_way row) key other (fits first.active) at (and_from _ _ of_it (ap not t)))
     ] refl
 
 pub HasActives-put : (table : Table) (row : Row) → AreRelationsKeyed table → HasActives table → IsFitting table row → HasActives (with_relation table row)
@@ -136,54 +139,28 @@ HasActives-put table row keyed actives fits start kind a b first second at_a at_
 
 -- ---- the end of the active relationship of a start and a type behind it
 
--- the row has this start and this type
-abbrev pub is_of : List ℕ → RelationType → Row → Bool
-is_of start kind row = bytes_eq (start_in row) start && is_same_type (kind_in row) kind
-
-itself_apart : (key : KeyTexts) (own : KeyTexts) → (key ≡ own → ⊥) → eq_by_cmp key_cmp key own ≡ false
-itself_apart key own never =
-    elim (eq_by_cmp key_cmp key own) as (λ b. eq_by_cmp key_cmp key own ≡ b → b ≡ false) [
-      | true ↦ λ t. absurd (never (same_key key own t))
-      | false ↦ λ t. refl
-    ] refl
+apart : (key own : KeyTexts) → (key ≡ own → ⊥) → eq_by_cmp key_cmp key own ≡ false
+apart key own never = false_from_ne_true (eq_by_cmp key_cmp key own) (λ t. never (same_key key own t))
 
 -- a row under another key stays
 stays : (table : Table) (row : Row) (key : KeyTexts) (other : Row) → (key ≡ relation_key_in row → ⊥) → get table.relations key ≡ Some other
     → get (with_relation table row).relations key ≡ Some other
 stays table row key other never at =
     get-with_relation table row key
-    ∙ (ap (λ b. cond b (Some row) (get table.relations key)) (itself_apart key (relation_key_in row) never) ∙ at)
-
-second_text : KeyTexts → List ℕ
-second_text [] = []
-second_text (a ∷ []) = []
-second_text (a ∷ b ∷ texts) = b
-
-third_text : KeyTexts → List ℕ
-third_text [] = []
-third_text (a ∷ []) = []
-third_text (a ∷ b ∷ []) = []
-third_text (a ∷ b ∷ c ∷ texts) = c
-
-first_text : KeyTexts → List ℕ
-first_text [] = []
-first_text (a ∷ texts) = a
+    ∙ (ap (λ b. cond b (Some row) (get table.relations key)) (apart key (relation_key_in row) never) ∙ at)
 
 starts_alike : (a b : Row) → relation_key_in a ≡ relation_key_in b → start_in a ≡ start_in b
-unfolding first_text
-starts_alike a b same = ap first_text same
+starts_alike a b same = ap (λ key. get_or key 0 []) same
 
 types_alike : (a b : Row) → relation_key_in a ≡ relation_key_in b → relation_type_text (kind_in a) ≡ relation_type_text (kind_in b)
-unfolding second_text
-types_alike a b same = ap second_text same
+types_alike a b same = ap (λ key. get_or key 1 []) same
 
 ends_alike : (a b : Row) → relation_key_in a ≡ relation_key_in b → end_in a ≡ end_in b
-unfolding third_text
-ends_alike a b same = ap third_text same
+ends_alike a b same = ap (λ key. get_or key 2 []) same
 
 -- what is held of the start and the type, where the row is put and isn't active of them: its own end is held no longer
 abbrev pub left_of : List ℕ → RelationType → Row → Option (List ℕ) → Option (List ℕ)
-left_of start kind row held = cond (is_of start kind row) (unless_own (end_in row) held) held
+left_of start kind row held = cond (is_from start kind row) (other_than (end_in row) held) held
 
 module _ (table : Table) (row : Row) (start : List ℕ) (kind : RelationType) (keyed : AreRelationsKeyed table) (actives : HasActives table) (fits : IsFitting table row) (not_own : is_active_of start kind row ≡ false) where
   -- each row that is active of them stood there before
@@ -191,7 +168,7 @@ module _ (table : Table) (row : Row) (start : List ℕ) (kind : RelationType) (k
       → (eq_by_cmp key_cmp key (relation_key_in row) ≡ false) × (get table.relations key ≡ Some other)
   before key other at passes =
       split table row key other ((eq_by_cmp key_cmp key (relation_key_in row) ≡ false) × (get table.relations key ≡ Some other)) at
-      (λ own same. let clash : true ≡ false = sym passes ∙ (ap (is_active_of start kind) (sym same) ∙ not_own) in absurd (true≢false clash))
+      (λ own same. absurd (both_ways _ (ap (is_active_of start kind) (sym same) ∙ not_own) passes))
       (λ apart was. (apart, was))
 
   none_left : active_row table start kind ≡ None → active_row (with_relation table row) start kind ≡ None
@@ -218,25 +195,26 @@ module _ (table : Table) (row : Row) (start : List ℕ) (kind : RelationType) (k
         let one : key ≡ hit.0 = actives start kind key hit.0 other was old.1 hit.1 passes hit.2 in
         let key_is : key ≡ relation_key_in row = one ∙ (own_key ∙ same) in
         let tied : eq_by_cmp key_cmp key (relation_key_in row) ≡ true = ap (λ k. eq_by_cmp key_cmp k (relation_key_in row)) key_is ∙ key_itself (relation_key_in row) in
-        true≢false (sym tied ∙ old.0))
+        both_ways _ old.0 tied)
 
 pub either_way : (b : Bool) (held : Option (List ℕ)) → held ≡ cond b held held
 either_way true held = refl
 either_way false held = refl
 
 -- the row has the start and the type where one of them has its key
-key_of_them : (start : List ℕ) (kind : RelationType) (row was : Row) → ActiveOf start kind was → relation_key_in was ≡ relation_key_in row → is_of start kind row ≡ true
+key_of_them : (start : List ℕ) (kind : RelationType) (row was : Row) → ActiveOf start kind was → relation_key_in was ≡ relation_key_in row → is_from start kind row ≡ true
 key_of_them start kind row was a same =
-    both_true _ _ (same_bytes (start_in row) start (sym (starts_alike was row same) ∙ a.starts))
+    and_from _ _ (same_bytes (start_in row) start (sym (starts_alike was row same) ∙ a.starts))
     (same_bytes (relation_type_text (kind_in row)) (relation_type_text kind) (sym (types_alike was row same) ∙ a.types))
 
 -- and one of them has its key where it has them and its end
-them_of_key : (start : List ℕ) (kind : RelationType) (row was : Row) → ActiveOf start kind was → is_of start kind row ≡ true → end_in was ≡ end_in row
+them_of_key : (start : List ℕ) (kind : RelationType) (row was : Row) → ActiveOf start kind was → is_from start kind row ≡ true → end_in was ≡ end_in row
     → relation_key_in was ≡ relation_key_in row
 them_of_key start kind row was a of_it ends =
-    let starts : start_in was ≡ start_in row = a.starts ∙ sym (bytes_same (start_in row) start (first_true _ _ of_it)) in
+    let parts = and_parts (bytes_eq (start_in row) start) _ of_it in
+    let starts : start_in was ≡ start_in row = a.starts ∙ sym (bytes_same (start_in row) start parts.0) in
     let types : relation_type_text (kind_in was) ≡ relation_type_text (kind_in row) =
-    a.types ∙ sym (bytes_same (relation_type_text (kind_in row)) (relation_type_text kind) (second_true (bytes_eq (start_in row) start) _ of_it)) in
+    a.types ∙ sym (bytes_same (relation_type_text (kind_in row)) (relation_type_text kind) parts.1) in
     λ i. starts i ∷ types i ∷ ends i ∷ []
 
 module _ (table : Table) (row : Row) (start : List ℕ) (kind : RelationType) (keyed : AreRelationsKeyed table) (actives : HasActives table) (fits : IsFitting table row) where
@@ -245,23 +223,23 @@ module _ (table : Table) (row : Row) (start : List ℕ) (kind : RelationType) (k
   some_left not_own was is =
       let hit = find-values keys_total table.relations (is_active_of start kind) was is in
       let a : ActiveOf start kind was = opened start kind was hit.2 in
-      elim (is_of start kind row) as (λ b. is_of start kind row ≡ b
+      elim (is_from start kind row) as (λ b. is_from start kind row ≡ b
       → option_map end_in (active_row (with_relation table row) start kind) ≡ cond b (cond (bytes_eq (end_in was) (end_in row)) None (Some (end_in was))) (Some (end_in was))) [
         | false ↦ λ f. ap (option_map end_in) (kept table row start kind keyed actives fits not_own was is (λ same.
-            true≢false (sym (key_of_them start kind row was a same) ∙ f)))
+            both_ways _ f (key_of_them start kind row was a same)))
         | true ↦ λ t. elim (bytes_eq (end_in was) (end_in row)) as (λ b. bytes_eq (end_in was) (end_in row) ≡ b
             → option_map end_in (active_row (with_relation table row) start kind) ≡ cond b None (Some (end_in was))) [
               | true ↦ λ same. ap (option_map end_in) (gone table row start kind keyed actives fits not_own was is
                   (them_of_key start kind row was a t (bytes_same (end_in was) (end_in row) same)))
               | false ↦ λ other. ap (option_map end_in) (kept table row start kind keyed actives fits not_own was is (λ same.
-                  true≢false (sym (same_bytes (end_in was) (end_in row) (ends_alike was row same)) ∙ other)))
+                  both_ways _ other (same_bytes (end_in was) (end_in row) (ends_alike was row same))))
             ] refl
       ] refl
 
   rest_left : is_active_of start kind row ≡ false → (found : Option Row) → active_row table start kind ≡ found
       → active_of (with_relation table row) start kind ≡ left_of start kind row (option_map end_in found)
   rest_left not_own None is =
-      ap (option_map end_in) (none_left table row start kind keyed actives fits not_own is) ∙ either_way (is_of start kind row) None
+      ap (option_map end_in) (none_left table row start kind keyed actives fits not_own is) ∙ either_way (is_from start kind row) None
   rest_left not_own (Some was) is = some_left not_own was is
 
   -- the row's end where the row is active of the start and the type, and else what is left of what was held

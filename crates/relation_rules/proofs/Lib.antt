@@ -1,9 +1,6 @@
-pub mod Parts
-pub mod RowLemmas
 pub mod ActiveLemmas
 pub mod ParentLemmas
 pub mod CheckLemmas
-pub mod PassLemmas
 pub mod PutLemmas
 pub mod ChainLemmas
 pub mod ApartLemmas

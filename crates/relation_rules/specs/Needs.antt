@@ -1,24 +1,27 @@
 -- Which cells the checks of relationships and exceptions need. This project's profile.
-use Rattle.std.specs.Prelude.{◌≡◌, ◌⊎◌, ℕ, List, [], ◌∷◌, ◌++◌, Bool, true, false, Option, Some, None, IsTrue}
+use Rattle.std.specs.Prelude.{◌≡◌, ◌⊎◌, List, [], ◌∷◌, ◌++◌, Bool, true, false, Option, Some, None, IsTrue}
 use Rattle.std.specs.List.{Contains}
+use Rattle.lei_code.specs.Texts.{Lei}
 use Rattle.lei_shapes.specs.declared.lists.ExceptionCategory.{ExceptionCategory}
 use Rattle.lei_shapes.specs.declared.lists.RelationType.{RelationType}
 use Rattle.lei_records.specs.declared.view.CellKey.{CellKey}
 use Rattle.lei_records.specs.declared.view.Seen.{Seen}
 use Rattle.lei_records.specs.Cells.{Cells}
 use Rattle.lei_records.specs.Exceptions.{exception_category_in, subject_in}
+use Rattle.lei_records.specs.Parents.{parent_category, parent_type}
 use Rattle.lei_records.specs.Relations.{end_in, kind_in, start_in}
 use Rattle.lei_records.specs.Rows.{Row}
-use Rattle.successor_rules.specs.Walks.{known, members}
+use Rattle.lei_records.specs.Walks.{members}
+use Rattle.successor_rules.specs.Walks.{known}
 use Rattle.relation_rules.specs.Checks.{is_direct_parent}
-use Rattle.relation_rules.specs.Parents.{parent_category, parent_type}
 
+-- The view doesn't know what the cell has.
 abbrev pub is_lacking : {X : Type 0} → Seen X → Bool
 is_lacking (Seen.Held x) = false
 is_lacking Seen.Empty = false
 is_lacking Seen.Missing = true
 
--- the view lacks the cell of this key
+-- The view lacks the cell of this key.
 abbrev pub lacks : Cells → CellKey → Bool
 lacks cells (CellKey.Rec lei) = is_lacking (cells.record_cell lei)
 lacks cells (CellKey.Rel start kind end) = is_lacking (cells.relation start kind end)
@@ -26,13 +29,13 @@ lacks cells (CellKey.Exc lei category) = is_lacking (cells.exception lei categor
 lacks cells (CellKey.Key authority id) = is_lacking (cells.holder authority id)
 lacks cells (CellKey.Act start kind) = is_lacking (cells.active start kind)
 
--- the exception in the place of the parents of a type
-abbrev pub exception_keys : List ℕ → Option ExceptionCategory → List CellKey
+-- The exception in the place of an entity's parents, where there is a category of it.
+abbrev pub exception_keys : Lei → Option ExceptionCategory → List CellKey
 exception_keys lei None = []
 exception_keys lei (Some category) = CellKey.Exc lei category ∷ []
 
--- the cells that a relationship names: the records of its start and its end, the relationship itself, the active one of
--- its start and type, and the exception in the place of such a parent
+-- The cells that a relationship names: the records of its start and its end, the relationship itself, the active one of its
+-- start and type, and the exception in the place of such a parent.
 abbrev pub relation_names : Row → List CellKey
 relation_names item =
     (CellKey.Rec (start_in item) ∷ CellKey.Rec (end_in item) ∷ CellKey.Rel (start_in item) (kind_in item) (end_in item)
@@ -42,16 +45,16 @@ relation_names item =
 -- of its walk, as far as the view knows it.
 pub record IsOfWalk (cells : Cells) (item : Row) (key : CellKey) : Type 0 where
   pub direct : IsTrue (is_direct_parent item)
-  pub member : List ℕ
+  pub member : Lei
   pub stands : Contains (members 200 (known (λ lei. cells.active lei RelationType.IsDirectlyConsolidatedBy)) (end_in item)) member
   pub is : key ≡ CellKey.Act member RelationType.IsDirectlyConsolidatedBy
 
--- a relationship needs a cell: it names it, or the cell is of its walk
+-- A relationship needs a cell: it names it, or the cell is of its walk.
 abbrev pub IsNeeded : Cells → Row → CellKey → Type 0
 IsNeeded cells item key = Contains (relation_names item) key ⊎ IsOfWalk cells item key
 
--- the cells that an exception names, and it needs no other: the record of its code, the exception itself, and the active
--- parent of its category
+-- The cells that an exception names, and it needs no other: the record of its LEI, the exception itself, and the active
+-- parent of its category.
 abbrev pub exception_names : Row → List CellKey
 exception_names row =
     CellKey.Rec (subject_in row) ∷ CellKey.Exc (subject_in row) (exception_category_in row)

@@ -2,33 +2,33 @@
 use Rattle.std.specs.Prelude.{Bool, true, false, Option, Some, None}
 use Rattle.lei_shapes.specs.declared.lists.RelationRegistration.{RelationRegistration}
 
--- a place for each status that an item may have, in the order of the columns: ISSUED, PUBLISHED, LAPSED, RETIRED,
--- ANNULLED
-abbrev pub Places : Type 0
-Places = Bool × Bool × Bool × Bool × Bool
+-- A row of the table of statuses has a column for each status that an item may have: ISSUED, PUBLISHED, LAPSED, RETIRED,
+-- ANNULLED.
+abbrev pub Columns : Type 0
+Columns = Bool × Bool × Bool × Bool × Bool
 
--- the row of the held status, and the first row where no relationship is held
-abbrev pub places : Option RelationRegistration → Places
-places None = (true, true, false, false, false)
-places (Some RelationRegistration.Issued) = (true, true, true, true, true)
-places (Some RelationRegistration.Published) = (true, true, true, true, true)
-places (Some RelationRegistration.Lapsed) = (true, true, true, true, true)
-places (Some RelationRegistration.Retired) = (true, true, false, true, true)
-places (Some RelationRegistration.Annulled) = (true, true, false, false, false)
+-- The table has a row for each status that is held, and a first row for where no relationship is held.
+abbrev pub columns : Option RelationRegistration → Columns
+columns None = (true, true, false, false, false)
+columns (Some RelationRegistration.Issued) = (true, true, true, true, true)
+columns (Some RelationRegistration.Published) = (true, true, true, true, true)
+columns (Some RelationRegistration.Lapsed) = (true, true, true, true, true)
+columns (Some RelationRegistration.Retired) = (true, true, false, true, true)
+columns (Some RelationRegistration.Annulled) = (true, true, false, false, false)
 
--- the column of the item's status
-abbrev pub in_column : RelationRegistration → Places → Bool
+-- What a row has in the column of a status.
+abbrev pub in_column : RelationRegistration → Columns → Bool
 in_column RelationRegistration.Issued row = row.0
 in_column RelationRegistration.Published row = row.1
 in_column RelationRegistration.Lapsed row = row.2
 in_column RelationRegistration.Retired row = row.3
 in_column RelationRegistration.Annulled row = row.4
 
--- the item's status may follow the held one, or may come first where none is held
+-- The item's status may follow the held one, or may come first where none is held.
 abbrev pub may_follow : Option RelationRegistration → RelationRegistration → Bool
-may_follow held new = in_column new (places held)
+may_follow held new = in_column new (columns held)
 
--- the relationship's registration came to its end: an active relationship doesn't stand beside it
+-- The relationship's registration came to its end: an active relationship doesn't stand beside RETIRED or ANNULLED.
 abbrev pub is_over : RelationRegistration → Bool
 is_over RelationRegistration.Issued = false
 is_over RelationRegistration.Published = false

@@ -1,6 +1,7 @@
 //! What becomes of an item's checks.
 ghost use Rattle.std.specs.Prelude.{◌≡◌};
 ghost use Rattle.lei_records.specs.declared.check.Detail.{Detail};
+ghost use Rattle.lei_records.specs.Checks.{IsNumber};
 ghost use Rattle.relation_rules.specs.Checking;
 
 use lei_code::Lei;
@@ -17,29 +18,32 @@ pub enum Checked {
     Missing(CellKey),
 }
 
-// A check that tells nothing but its number.
-pub fn plain(code: u8) -> Check
-    ensures { result ≡ record { code = code; detail = Detail.None } }
+/// A check that tells nothing but its number.
+pub fn plain(number: u8) -> Check
+    requires { IsNumber number }
+    ensures { result ≡ record { number = number; detail = Detail.None } }
 {
     Check {
-        code,
+        code: number,
         detail: Detail::None,
     }
 }
 
-// A check that tells the code that stands in the way.
-pub fn telling(code: u8, lei: Lei) -> Check
-    ensures { result ≡ record { code = code; detail = Detail.Code lei } }
+/// A check that tells the LEI that stands in the way.
+pub fn telling(number: u8, lei: Lei) -> Check
+    requires { IsNumber number }
+    ensures { result ≡ record { number = number; detail = Detail.Code lei } }
 {
     Check {
-        code,
+        code: number,
         detail: Detail::Code(lei),
     }
 }
 
-// A check that fails and tells nothing but its number.
-pub fn failed(code: u8) -> Checked
-    ensures { result ≡ Checking.failed code }
+/// A check that fails and tells nothing but its number.
+pub fn failed(number: u8) -> Checked
+    requires { IsNumber number }
+    ensures { result ≡ Checking.failed number }
 {
-    Checked::Fails(plain(code))
+    Checked::Fails(plain(number))
 }

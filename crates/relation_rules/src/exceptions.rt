@@ -3,7 +3,7 @@ ghost use Rattle.std.specs.Prelude.{◌≡◌, Contains, IsTrue, Some, false, tr
 ghost use Rattle.lei_shapes.specs.declared.lists.ExceptionCategory.{ExceptionCategory};
 ghost use Rattle.lei_shapes.specs.declared.lists.RelationType.{RelationType};
 ghost use Rattle.lei_records.specs.declared.view.CellKey.{CellKey};
-ghost use Rattle.lei_records.specs.Lines.{first_failing};
+ghost use Rattle.lei_records.specs.Checks.{first_failing};
 ghost use Rattle.lei_records.specs.Tables.{IsSound, Table, cells_of};
 ghost use Rattle.relation_rules.specs.Checking;
 ghost use Rattle.relation_rules.specs.Checks.{exception_checks};
@@ -11,18 +11,19 @@ ghost use Rattle.relation_rules.specs.Needs.{exception_names, lacks};
 ghost use Rattle.relation_rules.specs.declared.checked.Checked.{Checked};
 
 use crate::checked::{Checked, failed, telling};
-use crate::checks::{LEI_UNKNOWN, NOTHING_TO_WITHDRAW, PARENT_STANDS, category_of, manager_check};
+use crate::checks::manager_check;
 use crate::parents::parent_type;
 use lei_code::Lei;
+use lei_records::numbers::{LEI_UNKNOWN, NOTHING_TO_WITHDRAW, PARENT_STANDS};
 use lei_records::{CellKey, ExceptionItem, RecCell, Seen, View};
 use lei_shapes::{ExceptionCategory, RelationType};
 
-/// The checks C50 to C53 of an exception, or of its withdrawal, that an office uploads, beside what the view answers:
+/// The checks C50 to C53 of an exception, or of its withdrawal, that an issuer uploads, beside what the view answers:
 /// the first that fails. `Missing` where none fails before one that asks for a cell that the view lacks, with the key of
-/// the first such cell: the record of its code, and then the active parent of its category with a put, and the
+/// the first such cell: the record of its LEI, and then the active parent of its category with a put, and the
 /// exception itself with a withdrawal.
-pub fn exception_check<V: View>(view: &V, office: &Lei, item: &ExceptionItem) -> Checked
-    ensures answers { result ≡ Checking.check_exception (V.cells view.now) office.now item.now }
+pub fn exception_check<V: View>(view: &V, issuer: &Lei, item: &ExceptionItem) -> Checked
+    ensures answers { result ≡ Checking.check_exception (V.cells view.now) issuer.now item.now }
 
     // A cell that is told missing is one that the view lacks and the item names.
     ensures lacking { (key : CellKey) → result ≡ Checked.Missing key → IsTrue (lacks (V.cells view.now) key) }
@@ -30,33 +31,33 @@ pub fn exception_check<V: View>(view: &V, office: &Lei, item: &ExceptionItem) ->
 
     // Over the cells of a sound table: the first that fails of all checks, each asked over all rows.
     ensures over_tables { (table : Table) → IsSound table → V.cells view.now ≡ cells_of table
-        → result ≡ Checking.checked_of (first_failing (exception_checks table office.now item.now)) }
+        → result ≡ Checking.checked_of (first_failing (exception_checks table issuer.now item.now)) }
 {
-    check_exception(view, office, item)
+    check_exception(view, issuer, item)
 }
 
 #[tactic(auto, unfolding(crate::specs::Checking::check_exception))]
-fn check_exception<V: View>(view: &V, office: &Lei, item: &ExceptionItem) -> Checked
-    ensures { result ≡ Checking.check_exception (V.cells view.now) office.now item.now }
+fn check_exception<V: View>(view: &V, issuer: &Lei, item: &ExceptionItem) -> Checked
+    ensures { result ≡ Checking.check_exception (V.cells view.now) issuer.now item.now }
 {
     match view.record_cell(&item.lei()) {
-        Seen::Held(held) => check_subject(view, office, item, &held),
+        Seen::Held(held) => check_subject(view, issuer, item, &held),
         Seen::Empty => failed(LEI_UNKNOWN),
         Seen::Missing => Checked::Missing(CellKey::Rec(item.lei())),
     }
 }
 
-// From C51 on, with the record of the exception's code.
-fn check_subject<V: View>(view: &V, office: &Lei, item: &ExceptionItem, held: &RecCell) -> Checked
-    ensures { result ≡ Checking.check_subject (V.cells view.now) office.now item.now (Some held.now) }
+// From C51 on, with the record of the exception's LEI.
+fn check_subject<V: View>(view: &V, issuer: &Lei, item: &ExceptionItem, held: &RecCell) -> Checked
+    ensures { result ≡ Checking.check_subject (V.cells view.now) issuer.now item.now (Some held.now) }
 {
-    if let Some(check) = manager_check(held, office) {
+    if let Some(check) = manager_check(held, issuer) {
         return Checked::Fails(check);
     }
     if item.withdraws() {
-        check_withdrawal(view, item, category_of(item))
+        check_withdrawal(view, item, item.category())
     } else {
-        check_put(view, item, parent_type(category_of(item)))
+        check_put(view, item, parent_type(item.category()))
     }
 }
 

@@ -1,7 +1,8 @@
 //! Laws of relationships and exceptions, each as the contract of an empty function.
-ghost use Rattle.std.specs.Prelude.{◌≡◌, ℕ, List, Bool, None, false};
+ghost use Rattle.std.specs.Prelude.{◌≡◌, Bool, None, false};
+ghost use Rattle.lei_code.specs.Texts.{Lei};
 ghost use Rattle.lei_records.specs.declared.item.Item.{Item};
-ghost use Rattle.lei_records.specs.Lines.{first_failing};
+ghost use Rattle.lei_records.specs.Checks.{first_failing};
 ghost use Rattle.lei_records.specs.Rows.{Row};
 ghost use Rattle.lei_records.specs.Spelled.{IsExceptionRow, IsRelationRow};
 ghost use Rattle.lei_records.specs.Tables.{IsSound, Table, put};
@@ -23,8 +24,8 @@ pub fn exceptions_keep_tables_sound()
 
 /// A relationship that passes its checks on a sound table leaves each chain of direct parents with an end.
 pub fn accepted_relations_keep_parents()
-    ensures { (table : Table) (office : List ℕ) (row : Row) → IsSound table → HasParents table
-        → first_failing (relation_checks table office row) ≡ None → HasParents (put table (Item.Relation row)) }
+    ensures { (table : Table) (issuer : Lei) (row : Row) → IsSound table → HasParents table
+        → first_failing (relation_checks table issuer row) ≡ None → HasParents (put table (Item.Relation row)) }
 {}
 
 /// A record and an exception leave the chains of direct parents as they are, and a record the exceptions too.
@@ -36,8 +37,8 @@ pub fn records_and_exceptions_keep_parents()
 
 /// Items that pass their checks on a sound table leave no active parent beside the exception of its category.
 pub fn accepted_items_keep_apart()
-    ensures relations { (table : Table) (office : List ℕ) (row : Row) → IsSound table → AreApart table
-        → first_failing (relation_checks table office row) ≡ None → AreApart (put table (Item.Relation row)) }
-    ensures exceptions { (table : Table) (office : List ℕ) (item : Row × Bool) → AreApart table
-        → first_failing (exception_checks table office item) ≡ None → AreApart (put table (Item.Exception item)) }
+    ensures relations { (table : Table) (issuer : Lei) (row : Row) → IsSound table → AreApart table
+        → first_failing (relation_checks table issuer row) ≡ None → AreApart (put table (Item.Relation row)) }
+    ensures exceptions { (table : Table) (issuer : Lei) (item : Row × Bool) → AreApart table
+        → first_failing (exception_checks table issuer item) ≡ None → AreApart (put table (Item.Exception item)) }
 {}

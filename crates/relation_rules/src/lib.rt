@@ -10,18 +10,10 @@ mod parents;
 mod relations;
 mod statuses;
 
-pub use checked::Checked;
-pub use checks::{
-    ACTIVE_TAKEN, END_UNKNOWN, EXCEPTION_STANDS, LEI_UNKNOWN, NOT_MANAGED, NOTHING_TO_WITHDRAW,
-    PARENT_CHAIN_LONG, PARENT_CYCLE, PARENT_STANDS, PERIOD_ORDER, RELATION_TRANSITION, SAME_NODE,
-    START_CATEGORY, START_NOT_MANAGED, START_UNKNOWN,
-};
+pub use checked::{Checked, failed, plain, telling};
 pub use exceptions::exception_check;
 pub use laws::{
     accepted_items_keep_apart, accepted_relations_keep_parents, exceptions_keep_tables_sound,
     fitting_relations_keep_tables_sound, records_and_exceptions_keep_parents,
 };
 pub use relations::relation_check;
-
-#[cfg(test)]
-mod tests;

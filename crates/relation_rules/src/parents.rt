@@ -2,8 +2,8 @@
 ghost use Rattle.std.specs.Prelude.{◌≡◌};
 ghost use Rattle.lei_records.specs.declared.view.CellKey.{CellKey};
 ghost use Rattle.lei_shapes.specs.declared.lists.RelationType.{RelationType};
+ghost use Rattle.lei_records.specs.Parents as Kinds;
 ghost use Rattle.relation_rules.specs.Checking;
-ghost use Rattle.relation_rules.specs.Parents as Kinds;
 
 use lei_code::Lei;
 use lei_records::{CellKey, Seen, View};
@@ -52,7 +52,7 @@ struct DirectParents<'a, V> {
 }
 
 impl<'a, V: View> Chain for DirectParents<'a, V> {
-    ghost asked = { λ parents lei. (V.cells parents.view.now).active lei RelationType.IsDirectlyConsolidatedBy };
+    ghost answers = { λ parents lei. (V.cells parents.view.now).active lei RelationType.IsDirectlyConsolidatedBy };
 
     ghost cell = { λ parents lei. CellKey.Act lei RelationType.IsDirectlyConsolidatedBy };
 
@@ -66,7 +66,7 @@ impl<'a, V: View> Chain for DirectParents<'a, V> {
     }
 }
 
-// The walk of an entity whose code is `start`: it begins at its parent `first`, and goes on to the direct parent of each.
+// The walk of an entity whose LEI is `start`: it begins at its parent `first`, and goes on to the direct parent of each.
 pub fn walk<V: View>(view: &V, start: &Lei, first: &Lei) -> Walked
     ensures { result ≡ Checking.walk_parents (V.cells view.now) start.now first.now }
 {

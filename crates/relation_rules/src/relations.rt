@@ -2,33 +2,35 @@
 ghost use Rattle.std.specs.Prelude.{◌≡◌, IsTrue, Some, true};
 ghost use Rattle.lei_shapes.specs.declared.lists.ExceptionCategory.{ExceptionCategory};
 ghost use Rattle.lei_records.specs.declared.view.CellKey.{CellKey};
-ghost use Rattle.lei_records.specs.Lines.{first_failing};
+ghost use Rattle.lei_records.specs.declared.view.Seen.{Seen};
+ghost use Rattle.lei_records.specs.Checks.{first_failing};
+ghost use Rattle.lei_records.specs.Parents;
 ghost use Rattle.lei_records.specs.Relations;
 ghost use Rattle.lei_records.specs.Tables.{IsSound, Table, cells_of};
+ghost use Rattle.authority_rules.specs.Taken.{unless_own};
 ghost use Rattle.relation_rules.specs.Checking;
 ghost use Rattle.relation_rules.specs.Checks.{relation_checks};
 ghost use Rattle.relation_rules.specs.Needs.{IsNeeded, lacks};
-ghost use Rattle.relation_rules.specs.Parents;
 ghost use Rattle.relation_rules.specs.declared.checked.Checked.{Checked};
 
-use crate::checked::{Checked, failed};
-use crate::checks::{
-    END_UNKNOWN, EXCEPTION_STANDS, PARENT_CHAIN_LONG, PARENT_CYCLE, START_UNKNOWN, end_check,
-    held_check, is_active, kind_of, own_check, start_check,
-};
+use crate::checked::{Checked, failed, telling};
+use crate::checks::{held_check, own_check, start_check};
 use crate::parents::{is_direct, parent_category, walk};
 use lei_code::Lei;
+use lei_records::numbers::{
+    ACTIVE_TAKEN, END_UNKNOWN, EXCEPTION_STANDS, PARENT_CHAIN_LONG, PARENT_CYCLE, START_UNKNOWN,
+};
 use lei_records::{CellKey, RecCell, RelCell, Relation, Seen, View};
 use lei_shapes::ExceptionCategory;
 use successor_rules::Walked;
 
-/// The checks C30 to C40 of a relationship that an office uploads, beside what the view answers: the first that fails.
+/// The checks C30 to C40 of a relationship that an issuer uploads, beside what the view answers: the first that fails.
 /// `Missing` where none fails before one that asks for a cell that the view lacks, with the key of the first such cell.
 /// The cells are asked for in the order of the checks: the records of start and end, the relationship held under the
 /// item's key, and, of an active item, the active one of its start and type, the direct parents of a direct parent, and
 /// the exception in a parent's place.
-pub fn relation_check<V: View>(view: &V, office: &Lei, item: &Relation) -> Checked
-    ensures answers { result ≡ Checking.check_relation (V.cells view.now) office.now item.now }
+pub fn relation_check<V: View>(view: &V, issuer: &Lei, item: &Relation) -> Checked
+    ensures answers { result ≡ Checking.check_relation (V.cells view.now) issuer.now item.now }
 
     // A cell that is told missing is one that the view lacks and the item needs.
     ensures lacking { (key : CellKey) → result ≡ Checked.Missing key → IsTrue (lacks (V.cells view.now) key) }
@@ -36,47 +38,47 @@ pub fn relation_check<V: View>(view: &V, office: &Lei, item: &Relation) -> Check
 
     // Over the cells of a sound table: the first that fails of all checks, each asked over all rows.
     ensures over_tables { (table : Table) → IsSound table → V.cells view.now ≡ cells_of table
-        → result ≡ Checking.checked_of (first_failing (relation_checks table office.now item.now)) }
+        → result ≡ Checking.checked_of (first_failing (relation_checks table issuer.now item.now)) }
 {
-    check_relation(view, office, item)
+    check_relation(view, issuer, item)
 }
 
 #[tactic(auto, unfolding(crate::specs::Checking::check_relation))]
-fn check_relation<V: View>(view: &V, office: &Lei, item: &Relation) -> Checked
-    ensures { result ≡ Checking.check_relation (V.cells view.now) office.now item.now }
+fn check_relation<V: View>(view: &V, issuer: &Lei, item: &Relation) -> Checked
+    ensures { result ≡ Checking.check_relation (V.cells view.now) issuer.now item.now }
 {
     if let Some(check) = own_check(item) {
         return Checked::Fails(check);
     }
     match view.record_cell(&item.start()) {
-        Seen::Held(start) => check_start(view, office, item, &start),
+        Seen::Held(start) => check_start(view, issuer, item, &start),
         Seen::Empty => failed(START_UNKNOWN),
         Seen::Missing => Checked::Missing(CellKey::Rec(item.start())),
     }
 }
 
 // From C33 on, with the start's record.
-fn check_start<V: View>(view: &V, office: &Lei, item: &Relation, start: &RecCell) -> Checked
-    ensures { result ≡ Checking.check_start (V.cells view.now) office.now item.now (Some start.now) }
+fn check_start<V: View>(view: &V, issuer: &Lei, item: &Relation, start: &RecCell) -> Checked
+    ensures { result ≡ Checking.check_start (V.cells view.now) issuer.now item.now (Some start.now) }
 {
     match view.record_cell(&item.end()) {
-        Seen::Held(_) => check_managed(view, office, item, start),
+        Seen::Held(_) => check_managed(view, issuer, item, start),
         Seen::Empty => failed(END_UNKNOWN),
         Seen::Missing => Checked::Missing(CellKey::Rec(item.end())),
     }
 }
 
 // From C34 on: the end has a record too.
-fn check_managed<V: View>(view: &V, office: &Lei, item: &Relation, start: &RecCell) -> Checked
-    ensures { result ≡ Checking.check_managed (V.cells view.now) office.now item.now (Some start.now) }
+fn check_managed<V: View>(view: &V, issuer: &Lei, item: &Relation, start: &RecCell) -> Checked
+    ensures { result ≡ Checking.check_managed (V.cells view.now) issuer.now item.now (Some start.now) }
 {
-    if let Some(check) = start_check(start, office, item) {
+    if let Some(check) = start_check(start, issuer, item) {
         return Checked::Fails(check);
     }
-    match view.relation(&item.start(), kind_of(item), &item.end()) {
+    match view.relation(&item.start(), item.kind(), &item.end()) {
         Seen::Held(held) => check_held(view, item, Some(held)),
         Seen::Empty => check_held(view, item, None),
-        Seen::Missing => { Checked::Missing(CellKey::Rel(item.start(), kind_of(item), item.end())) }
+        Seen::Missing => { Checked::Missing(CellKey::Rel(item.start(), item.kind(), item.end())) }
     }
 }
 
@@ -94,23 +96,24 @@ fn check_held<V: View>(view: &V, item: &Relation, held: Option<RelCell>) -> Chec
 fn check_active<V: View>(view: &V, item: &Relation) -> Checked
     ensures { result ≡ Checking.check_active (V.cells view.now) item.now }
 {
-    if !is_active(item) {
+    if !item.is_active() {
         return Checked::Passes;
     }
-    match view.active(&item.start(), kind_of(item)) {
-        Seen::Held(end) => check_end_taken(view, item, end),
+    match view.active(&item.start(), item.kind()) {
+        Seen::Held(end) => check_end(view, item, end),
         Seen::Empty => check_parents(view, item),
-        Seen::Missing => Checked::Missing(CellKey::Act(item.start(), kind_of(item))),
+        Seen::Missing => Checked::Missing(CellKey::Act(item.start(), item.kind())),
     }
 }
 
 // C37 of an active item, with the end of the active relationship of its start and type, and the checks behind it.
-fn check_end_taken<V: View>(view: &V, item: &Relation, end: Lei) -> Checked
+fn check_end<V: View>(view: &V, item: &Relation, end: Lei) -> Checked
     ensures { Relations.is_active item.now ≡ true
-        → result ≡ Checking.check_end_taken (V.cells view.now) item.now (Some end) }
+        → (key : CellKey) → result ≡ Checking.on_seen (unless_own (Relations.end_in item.now) (Seen.Held end)) key
+            (Checking.check_other_end (V.cells view.now) item.now) }
 {
-    if let Some(check) = end_check(end, item) {
-        return Checked::Fails(check);
+    if end != item.end() {
+        return Checked::Fails(telling(ACTIVE_TAKEN, end));
     }
     check_parents(view, item)
 }
@@ -119,7 +122,7 @@ fn check_end_taken<V: View>(view: &V, item: &Relation, end: Lei) -> Checked
 fn check_parents<V: View>(view: &V, item: &Relation) -> Checked
     ensures { Relations.is_active item.now ≡ true → result ≡ Checking.check_parents (V.cells view.now) item.now }
 {
-    if !is_direct(kind_of(item)) {
+    if !is_direct(item.kind()) {
         return check_exception(view, item);
     }
     match walk(view, &item.start(), &item.end()) {
@@ -135,7 +138,7 @@ fn check_exception<V: View>(view: &V, item: &Relation) -> Checked
     ensures { Relations.is_active item.now ≡ true
         → result ≡ Checking.check_category (V.cells view.now) item.now (Parents.parent_category (Relations.kind_in item.now)) }
 {
-    match parent_category(kind_of(item)) {
+    match parent_category(item.kind()) {
         None => Checked::Passes,
         Some(category) => check_category(view, item, category),
     }

@@ -12,10 +12,11 @@ use Rattle.lei_records.specs.declared.view.Seen.{Seen}
 use Rattle.lei_records.specs.Cells.{rec_cell, successor_in}
 use Rattle.lei_records.specs.Rows.{Row}
 use Rattle.lei_records.specs.Tables.{Table, row_at, cells_of, seen}
+use Rattle.lei_records.specs.Walks.{Next, members, successor_of}
 use Rattle.successor_rules.specs.declared.walks.Walked.{Walked}
 use Rattle.successor_rules.specs.Chains.{AllEnd, EndsClear, IsTurned, Nexts}
-use Rattle.successor_rules.specs.Successors.{named, successor_of, successor_seen, walk}
-use Rattle.successor_rules.specs.Walks.{Asked, Next, held, is_missing, known, members, unless_lacking, walk_over, walked}
+use Rattle.successor_rules.specs.Successors.{named, successor_seen, walk}
+use Rattle.successor_rules.specs.Walks.{SeenNext, held, is_missing, known, unless_lacking, walk_over, walked}
 use Rattle.successor_rules.proofs.ChainLemmas.{keeps_ends}
 
 -- ---- the same for any number of members
@@ -26,17 +27,17 @@ met_in n next start first = list_any (bytes_eq start) (members n next first)
 abbrev long_in : ℕ → Next → List ℕ → Bool
 long_in n next first = length (members (suc n) next first) == suc n
 
-abbrev lacking_in : ℕ → Asked → List ℕ → Option (List ℕ)
-lacking_in n asked first = find (λ lei. is_missing (asked lei)) (members n (known asked) first)
+abbrev lacking_in : ℕ → SeenNext → List ℕ → Option (List ℕ)
+lacking_in n answers first = find (λ lei. is_missing (answers lei)) (members n (known answers) first)
 
 abbrev pub walked_in : ℕ → Next → List ℕ → List ℕ → Walked
 walked_in n next start first =
     if met_in n next start first then Walked.Meets else if long_in n next first then Walked.Long else Walked.Ends
 
-abbrev pub walk_in : ℕ → Asked → (List ℕ → CellKey) → List ℕ → List ℕ → Walked
-walk_in n asked key start first =
-    if met_in n (known asked) start first then Walked.Meets
-    else unless_lacking key (lacking_in n asked first) (if long_in n (known asked) first then Walked.Long else Walked.Ends)
+abbrev pub walk_in : ℕ → SeenNext → (List ℕ → CellKey) → List ℕ → List ℕ → Walked
+walk_in n answers key start first =
+    if met_in n (known answers) start first then Walked.Meets
+    else unless_lacking key (lacking_in n answers first) (if long_in n (known answers) first then Walked.Long else Walked.Ends)
 
 -- ---- the first member and the others
 
@@ -67,13 +68,13 @@ unfolding members
 long_in-zero next first None is = ap (λ o. length (first ∷ option_map_or (members zero next) o []) == 1) is
 long_in-zero next first (Some lei) is = ap (λ o. length (first ∷ option_map_or (members zero next) o []) == 1) is
 
-lacking_in-suc : (n : ℕ) (asked : Asked) (first : List ℕ) (named : Option (List ℕ)) → known asked first ≡ named
-    → lacking_in (suc n) asked first ≡ cond (is_missing (asked first)) (Some first) (option_map_or (lacking_in n asked) named None)
+lacking_in-suc : (n : ℕ) (answers : SeenNext) (first : List ℕ) (named : Option (List ℕ)) → known answers first ≡ named
+    → lacking_in (suc n) answers first ≡ cond (is_missing (answers first)) (Some first) (option_map_or (lacking_in n answers) named None)
 unfolding members
-lacking_in-suc n asked first None is =
-    ap (λ o. cond (is_missing (asked first)) (Some first) (find (λ lei. is_missing (asked lei)) (option_map_or (members n (known asked)) o []))) is
-lacking_in-suc n asked first (Some lei) is =
-    ap (λ o. cond (is_missing (asked first)) (Some first) (find (λ lei. is_missing (asked lei)) (option_map_or (members n (known asked)) o []))) is
+lacking_in-suc n answers first None is =
+    ap (λ o. cond (is_missing (answers first)) (Some first) (find (λ lei. is_missing (answers lei)) (option_map_or (members n (known answers)) o []))) is
+lacking_in-suc n answers first (Some lei) is =
+    ap (λ o. cond (is_missing (answers first)) (Some first) (find (λ lei. is_missing (answers lei)) (option_map_or (members n (known answers)) o []))) is
 
 -- ---- one step over a view
 
@@ -81,74 +82,74 @@ lacking_in-suc n asked first (Some lei) is =
 shape : (List ℕ → CellKey) → Bool → Option (List ℕ) → Bool → Walked
 shape key met lacks long = if met then Walked.Meets else unless_lacking key lacks (if long then Walked.Long else Walked.Ends)
 
-pub walk_in-meets : (n : ℕ) (asked : Asked) (key : List ℕ → CellKey) (start first : List ℕ) → bytes_eq start first ≡ true
-    → walk_in (suc n) asked key start first ≡ Walked.Meets
+pub walk_in-meets : (n : ℕ) (answers : SeenNext) (key : List ℕ → CellKey) (start first : List ℕ) → bytes_eq start first ≡ true
+    → walk_in (suc n) answers key start first ≡ Walked.Meets
 unfolding shape
-walk_in-meets n asked key start first is =
-    ap (λ met. shape key met (lacking_in (suc n) asked first) (long_in (suc n) (known asked) first))
-    (met_in-suc n (known asked) start first (known asked first) refl
-    ∙ ap (λ b. b || option_map_or (met_in n (known asked) start) (known asked first) false) is)
+walk_in-meets n answers key start first is =
+    ap (λ met. shape key met (lacking_in (suc n) answers first) (long_in (suc n) (known answers) first))
+    (met_in-suc n (known answers) start first (known answers first) refl
+    ∙ ap (λ b. b || option_map_or (met_in n (known answers) start) (known answers first) false) is)
 
-pub walk_in-next : (n : ℕ) (asked : Asked) (key : List ℕ → CellKey) (start first lei : List ℕ) → bytes_eq start first ≡ false
-    → asked first ≡ Seen.Held lei → walk_in (suc n) asked key start first ≡ walk_in n asked key start lei
+pub walk_in-next : (n : ℕ) (answers : SeenNext) (key : List ℕ → CellKey) (start first lei : List ℕ) → bytes_eq start first ≡ false
+    → answers first ≡ Seen.Held lei → walk_in (suc n) answers key start first ≡ walk_in n answers key start lei
 unfolding shape
-walk_in-next n asked key start first lei other is =
-    let met : met_in (suc n) (known asked) start first ≡ met_in n (known asked) start lei =
-    met_in-suc n (known asked) start first (Some lei) (ap held is) ∙ ap (λ b. b || met_in n (known asked) start lei) other in
-    let lacks : lacking_in (suc n) asked first ≡ lacking_in n asked lei =
-    lacking_in-suc n asked first (Some lei) (ap held is) ∙ ap (λ s. cond (is_missing s) (Some first) (lacking_in n asked lei)) is in
-    let long : long_in (suc n) (known asked) first ≡ long_in n (known asked) lei = long_in-suc n (known asked) first (Some lei) (ap held is) in
+walk_in-next n answers key start first lei other is =
+    let met : met_in (suc n) (known answers) start first ≡ met_in n (known answers) start lei =
+    met_in-suc n (known answers) start first (Some lei) (ap held is) ∙ ap (λ b. b || met_in n (known answers) start lei) other in
+    let lacks : lacking_in (suc n) answers first ≡ lacking_in n answers lei =
+    lacking_in-suc n answers first (Some lei) (ap held is) ∙ ap (λ s. cond (is_missing s) (Some first) (lacking_in n answers lei)) is in
+    let long : long_in (suc n) (known answers) first ≡ long_in n (known answers) lei = long_in-suc n (known answers) first (Some lei) (ap held is) in
     λ i. shape key (met i) (lacks i) (long i)
 
-pub walk_in-ends : (n : ℕ) (asked : Asked) (key : List ℕ → CellKey) (start first : List ℕ) → bytes_eq start first ≡ false
-    → asked first ≡ Seen.Empty → walk_in (suc n) asked key start first ≡ Walked.Ends
+pub walk_in-ends : (n : ℕ) (answers : SeenNext) (key : List ℕ → CellKey) (start first : List ℕ) → bytes_eq start first ≡ false
+    → answers first ≡ Seen.Empty → walk_in (suc n) answers key start first ≡ Walked.Ends
 unfolding shape
-walk_in-ends n asked key start first other is =
-    let met : met_in (suc n) (known asked) start first ≡ false =
-    met_in-suc n (known asked) start first None (ap held is) ∙ ap (λ b. b || false) other in
-    let lacks : lacking_in (suc n) asked first ≡ None =
-    lacking_in-suc n asked first None (ap held is) ∙ ap (λ s. cond (is_missing s) (Some first) None) is in
-    let long : long_in (suc n) (known asked) first ≡ false = long_in-suc n (known asked) first None (ap held is) in
+walk_in-ends n answers key start first other is =
+    let met : met_in (suc n) (known answers) start first ≡ false =
+    met_in-suc n (known answers) start first None (ap held is) ∙ ap (λ b. b || false) other in
+    let lacks : lacking_in (suc n) answers first ≡ None =
+    lacking_in-suc n answers first None (ap held is) ∙ ap (λ s. cond (is_missing s) (Some first) None) is in
+    let long : long_in (suc n) (known answers) first ≡ false = long_in-suc n (known answers) first None (ap held is) in
     λ i. shape key (met i) (lacks i) (long i)
 
-pub walk_in-lacks : (n : ℕ) (asked : Asked) (key : List ℕ → CellKey) (start first : List ℕ) → bytes_eq start first ≡ false
-    → asked first ≡ Seen.Missing → walk_in (suc n) asked key start first ≡ Walked.Missing (key first)
+pub walk_in-lacks : (n : ℕ) (answers : SeenNext) (key : List ℕ → CellKey) (start first : List ℕ) → bytes_eq start first ≡ false
+    → answers first ≡ Seen.Missing → walk_in (suc n) answers key start first ≡ Walked.Missing (key first)
 unfolding shape
-walk_in-lacks n asked key start first other is =
-    let met : met_in (suc n) (known asked) start first ≡ false =
-    met_in-suc n (known asked) start first None (ap held is) ∙ ap (λ b. b || false) other in
-    let lacks : lacking_in (suc n) asked first ≡ Some first =
-    lacking_in-suc n asked first None (ap held is) ∙ ap (λ s. cond (is_missing s) (Some first) None) is in
-    λ i. shape key (met i) (lacks i) (long_in (suc n) (known asked) first)
+walk_in-lacks n answers key start first other is =
+    let met : met_in (suc n) (known answers) start first ≡ false =
+    met_in-suc n (known answers) start first None (ap held is) ∙ ap (λ b. b || false) other in
+    let lacks : lacking_in (suc n) answers first ≡ Some first =
+    lacking_in-suc n answers first None (ap held is) ∙ ap (λ s. cond (is_missing s) (Some first) None) is in
+    λ i. shape key (met i) (lacks i) (long_in (suc n) (known answers) first)
 
-pub walk_in-zero : (asked : Asked) (key : List ℕ → CellKey) (start first : List ℕ) → walk_in zero asked key start first ≡ Walked.Long
+pub walk_in-zero : (answers : SeenNext) (key : List ℕ → CellKey) (start first : List ℕ) → walk_in zero answers key start first ≡ Walked.Long
 unfolding members shape
-walk_in-zero asked key start first = ap (shape key false None) (long_in-zero (known asked) first (known asked first) refl)
+walk_in-zero answers key start first = ap (shape key false None) (long_in-zero (known answers) first (known answers first) refl)
 
 -- ---- the same where some of the 200 members were looked at
 
 left : (c : ℕ) → c < 200 → 200 - c ≡ suc (200 - (c + 1))
 left c less = omega arith
 
-module _ (asked : Asked) (key : List ℕ → CellKey) (start first : List ℕ) (whole : Walked) (c : ℕ) where
-  pub stop-meets : c < 200 → walk_in (200 - c) asked key start first ≡ whole → bytes_eq start first ≡ true → Walked.Meets ≡ whole
+module _ (answers : SeenNext) (key : List ℕ → CellKey) (start first : List ℕ) (whole : Walked) (c : ℕ) where
+  pub stop-meets : c < 200 → walk_in (200 - c) answers key start first ≡ whole → bytes_eq start first ≡ true → Walked.Meets ≡ whole
   stop-meets less so_far met =
-      sym (walk_in-meets (200 - (c + 1)) asked key start first met) ∙ ap (λ n. walk_in n asked key start first) (sym (left c less)) ∙ so_far
+      sym (walk_in-meets (200 - (c + 1)) answers key start first met) ∙ ap (λ n. walk_in n answers key start first) (sym (left c less)) ∙ so_far
 
-  pub stop-ends : c < 200 → walk_in (200 - c) asked key start first ≡ whole → bytes_eq start first ≡ false → asked first ≡ Seen.Empty
+  pub stop-ends : c < 200 → walk_in (200 - c) answers key start first ≡ whole → bytes_eq start first ≡ false → answers first ≡ Seen.Empty
       → Walked.Ends ≡ whole
   stop-ends less so_far other is =
-      sym (walk_in-ends (200 - (c + 1)) asked key start first other is) ∙ ap (λ n. walk_in n asked key start first) (sym (left c less)) ∙ so_far
+      sym (walk_in-ends (200 - (c + 1)) answers key start first other is) ∙ ap (λ n. walk_in n answers key start first) (sym (left c less)) ∙ so_far
 
-  pub stop-lacks : c < 200 → walk_in (200 - c) asked key start first ≡ whole → bytes_eq start first ≡ false → asked first ≡ Seen.Missing
+  pub stop-lacks : c < 200 → walk_in (200 - c) answers key start first ≡ whole → bytes_eq start first ≡ false → answers first ≡ Seen.Missing
       → Walked.Missing (key first) ≡ whole
   stop-lacks less so_far other is =
-      sym (walk_in-lacks (200 - (c + 1)) asked key start first other is) ∙ ap (λ n. walk_in n asked key start first) (sym (left c less)) ∙ so_far
+      sym (walk_in-lacks (200 - (c + 1)) answers key start first other is) ∙ ap (λ n. walk_in n answers key start first) (sym (left c less)) ∙ so_far
 
-  pub one_step : (lei : List ℕ) → c < 200 → walk_in (200 - c) asked key start first ≡ whole → bytes_eq start first ≡ false
-      → asked first ≡ Seen.Held lei → walk_in (200 - (c + 1)) asked key start lei ≡ whole
+  pub one_step : (lei : List ℕ) → c < 200 → walk_in (200 - c) answers key start first ≡ whole → bytes_eq start first ≡ false
+      → answers first ≡ Seen.Held lei → walk_in (200 - (c + 1)) answers key start lei ≡ whole
   one_step lei less so_far other is =
-      sym (walk_in-next (200 - (c + 1)) asked key start first lei other is) ∙ ap (λ n. walk_in n asked key start first) (sym (left c less)) ∙ so_far
+      sym (walk_in-next (200 - (c + 1)) answers key start first lei other is) ∙ ap (λ n. walk_in n answers key start first) (sym (left c less)) ∙ so_far
 
 -- ---- over a table, in which no cell is missing
 
@@ -157,7 +158,7 @@ none_found p [] never = refl
 none_found p (x ∷ xs) never = ap (λ b. cond b (Some x) (find p xs)) (never x) ∙ none_found p xs never
 
 -- what a table answers of the successor of each code
-abbrev seen_next : Table → Asked
+abbrev seen_next : Table → SeenNext
 seen_next table lei = successor_seen ((cells_of table).record_cell lei)
 
 is_known : (o : Option (List ℕ)) → (held (named o) ≡ o) × (is_missing (named o) ≡ false)

@@ -2,6 +2,7 @@
 ghost use Rattle.std.specs.Prelude.{◌≡◌, ℕ, List};
 ghost use Rattle.lei_records.specs.declared.view.CellKey.{CellKey};
 ghost use Rattle.lei_records.specs.Tables.{Table, cells_of};
+ghost use Rattle.lei_records.specs.Walks.{successor_of};
 ghost use Rattle.successor_rules.specs.Successors;
 ghost use Rattle.successor_rules.specs.Walks.{walked};
 
@@ -16,7 +17,7 @@ struct Records<'a, V> {
 }
 
 impl<'a, V: View> Chain for Records<'a, V> {
-    ghost asked = { λ records lei. Successors.successor_seen ((V.cells records.view.now).record_cell lei) };
+    ghost answers = { λ records lei. Successors.successor_seen ((V.cells records.view.now).record_cell lei) };
 
     ghost cell = { λ records lei. CellKey.Rec lei };
 
@@ -56,7 +57,7 @@ pub fn walk<V: View>(view: &V, from: &Lei, avoid: &Lei) -> Walked
 
     // Over the cells of a table.
     ensures over_tables { (table : Table) → V.cells view.now ≡ cells_of table
-        → result ≡ walked (Successors.successor_of table) avoid.now from.now }
+        → result ≡ walked (successor_of table) avoid.now from.now }
 {
     follow(&Records { view }, from, avoid)
 }

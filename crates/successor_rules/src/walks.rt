@@ -1,7 +1,7 @@
 //! Walks from code to code, with at most 200 members behind the start.
 ghost use Rattle.std.specs.Prelude.{◌≡◌, List, ℕ};
 ghost use Rattle.lei_records.specs.declared.view.CellKey.{CellKey};
-ghost use Rattle.successor_rules.specs.Walks.{Asked, walk_over};
+ghost use Rattle.successor_rules.specs.Walks.{SeenNext, walk_over};
 
 use lei_code::Lei;
 use lei_records::{CellKey, Seen};
@@ -25,14 +25,14 @@ pub enum Walked {
 /// Something in which a code names at most one next code.
 pub trait Chain {
     /// What it answers of the next one of each code.
-    ghost asked: { Self → Asked };
+    ghost answers: { Self → SeenNext };
 
     /// The cell in which a code names the next one.
     ghost cell: { Self → List ℕ → CellKey };
 
     /// The code that this one names.
     fn next(&self, lei: &Lei) -> Seen<Lei>
-        ensures { result ≡ asked self.now lei.now };
+        ensures { result ≡ answers self.now lei.now };
 
     /// The key of the cell in which this code names the next one.
     fn key(&self, lei: Lei) -> CellKey
@@ -41,7 +41,7 @@ pub trait Chain {
 
 /// Walks along a chain from the member `from`, for a start that it has to avoid.
 pub fn follow<C: Chain>(chain: &C, from: &Lei, avoid: &Lei) -> Walked
-    ensures { result ≡ walk_over (C.asked chain.now) (C.cell chain.now) avoid.now from.now }
+    ensures { result ≡ walk_over (C.answers chain.now) (C.cell chain.now) avoid.now from.now }
 {
     let mut member = *from;
     for _ in 0..MOST_MEMBERS {

@@ -1,4 +1,4 @@
-ghost use Rattle.std.specs.Prelude.{◌≡◌};
+ghost use Rattle.std.specs.Prelude.{◌≡◌, Some};
 ghost use Rattle.upload_format.specs.declared.fault.UploadFault.TheVariants as faults;
 
 use std::alloc::{AllocError, AllocFailed};
@@ -23,6 +23,10 @@ pub enum Malformed {
 }
 
 impl fmt::Display for Malformed {
+    ghost use Rattle.upload_format.specs.Faults.{malformed_words};
+
+    ghost output = { λ fault. Some (malformed_words fault) };
+
     fn fmt<W: fmt::Write>(&self, f: &mut fmt::Formatter<W>) -> fmt::Result {
         f.write_str(match self {
             Malformed::NotJson => "the body is no JSON text",
@@ -45,6 +49,10 @@ pub enum UploadFault {
 }
 
 impl fmt::Display for UploadFault {
+    ghost use Rattle.upload_format.specs.Faults.{fault_words};
+
+    ghost output = { λ fault. Some (fault_words fault) };
+
     fn fmt<W: fmt::Write>(&self, f: &mut fmt::Formatter<W>) -> fmt::Result {
         match self {
             UploadFault::Malformed(fault) => fault.fmt(f),

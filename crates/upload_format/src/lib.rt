@@ -3,11 +3,7 @@
 #![tactic(auto)]
 
 mod fault;
-#[cfg(test)]
-mod item_tests;
 mod reading;
-#[cfg(test)]
-mod tests;
 
 pub use fault::{Malformed, UploadFault};
 pub use reading::{MAX_ITEMS, read_upload};

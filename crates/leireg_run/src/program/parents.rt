@@ -128,7 +128,7 @@ fn a_relationship_fits_its_start_and_its_status(rt: HostRuntime) -> Result<(), F
     )?;
     let (status, sink) = session.written(&rt, &mut begin(alloc)?)?;
     assert_eq!(rt; status, OK);
-    assert_eq!(rt; str::from_utf8(sink.taken())?, session.replies.as_str());
+    assert_eq!(rt; str::from_utf8(sink.written())?, session.replies.as_str());
     Ok(())
 }
 
@@ -161,7 +161,7 @@ fn a_parent_and_an_exception_exclude_each_other(rt: HostRuntime) -> Result<(), F
     session.except(alloc, 8, withdrawn.as_str(), r#""C53 NOTHING_TO_WITHDRAW""#)?;
     let (status, sink) = session.written(&rt, &mut begin(alloc)?)?;
     assert_eq!(rt; status, OK);
-    assert_eq!(rt; str::from_utf8(sink.taken())?, session.replies.as_str());
+    assert_eq!(rt; str::from_utf8(sink.written())?, session.replies.as_str());
     Ok(())
 }
 
@@ -187,7 +187,7 @@ fn direct_parents_do_not_go_round(rt: HostRuntime) -> Result<(), Fail> {
     session.relate(alloc, SECOND, 2, &[closing], r#""C38 PARENT_CYCLE""#)?;
     let (status, sink) = session.written(&rt, &mut begin(alloc)?)?;
     assert_eq!(rt; status, OK);
-    assert_eq!(rt; str::from_utf8(sink.taken())?, session.replies.as_str());
+    assert_eq!(rt; str::from_utf8(sink.written())?, session.replies.as_str());
     Ok(())
 }
 
@@ -202,7 +202,7 @@ fn ultimate_parents_may_go_round(rt: HostRuntime) -> Result<(), Fail> {
     session.relate(alloc, OFFICE, 2, &links, r#""ACCEPTED","ACCEPTED""#)?;
     let (status, sink) = session.written(&rt, &mut begin(alloc)?)?;
     assert_eq!(rt; status, OK);
-    assert_eq!(rt; str::from_utf8(sink.taken())?, session.replies.as_str());
+    assert_eq!(rt; str::from_utf8(sink.written())?, session.replies.as_str());
     Ok(())
 }
 
@@ -235,7 +235,7 @@ fn a_retired_parent_is_made_active_again(rt: HostRuntime) -> Result<(), Fail> {
     )?;
     let (status, sink) = session.written(&rt, &mut begin(alloc)?)?;
     assert_eq!(rt; status, OK);
-    assert_eq!(rt; str::from_utf8(sink.taken())?, session.replies.as_str());
+    assert_eq!(rt; str::from_utf8(sink.written())?, session.replies.as_str());
     Ok(())
 }
 
@@ -260,7 +260,7 @@ fn a_chain_of_direct_parents_has_at_most_200_members(rt: HostRuntime) -> Result<
     session.relate(alloc, OFFICE, 2, &links, second.as_str())?;
     let (status, sink) = session.written(&rt, &mut begin(alloc)?)?;
     assert_eq!(rt; status, OK);
-    assert_eq!(rt; str::from_utf8(sink.taken())?, session.replies.as_str());
+    assert_eq!(rt; str::from_utf8(sink.written())?, session.replies.as_str());
     Ok(())
 }
 
@@ -287,7 +287,7 @@ fn an_upload_has_items_of_all_kinds(rt: HostRuntime) -> Result<(), Fail> {
     )?;
     let (status, sink) = session.written(&rt, &mut begin(alloc)?)?;
     assert_eq!(rt; status, OK);
-    assert_eq!(rt; str::from_utf8(sink.taken())?, session.replies.as_str());
+    assert_eq!(rt; str::from_utf8(sink.written())?, session.replies.as_str());
     Ok(())
 }
 
@@ -319,6 +319,6 @@ fn an_exception_is_put_with_a_reason_and_withdrawn_without(rt: HostRuntime) -> R
     }
     let (status, sink) = session.written(&rt, &mut begin(alloc)?)?;
     assert_eq!(rt; status, OK);
-    assert_eq!(rt; str::from_utf8(sink.taken())?, session.replies.as_str());
+    assert_eq!(rt; str::from_utf8(sink.written())?, session.replies.as_str());
     Ok(())
 }

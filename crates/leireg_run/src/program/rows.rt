@@ -16,7 +16,7 @@ fn two_live_records_have_no_common_authority_key(rt: HostRuntime) -> Result<(), 
     session.upload(OFFICE, 1, &records, r#""ACCEPTED","ACCEPTED""#)?;
     let (status, sink) = session.written(&rt, &mut begin(alloc)?)?;
     assert_eq!(rt; status, OK);
-    assert_eq!(rt; str::from_utf8(sink.taken())?, session.replies.as_str());
+    assert_eq!(rt; str::from_utf8(sink.written())?, session.replies.as_str());
     let mut session = Session::new(alloc);
     session.accredit(OFFICE)?;
     session.upload(
@@ -27,7 +27,7 @@ fn two_live_records_have_no_common_authority_key(rt: HostRuntime) -> Result<(), 
     )?;
     let (status, sink) = session.written(&rt, &mut begin(rt.alloc())?)?;
     assert_eq!(rt; status, OK);
-    assert_eq!(rt; str::from_utf8(sink.taken())?, session.replies.as_str());
+    assert_eq!(rt; str::from_utf8(sink.written())?, session.replies.as_str());
     Ok(())
 }
 
@@ -51,7 +51,7 @@ fn a_retired_record_frees_its_authority_key(rt: HostRuntime) -> Result<(), Fail>
     )?;
     let (status, sink) = session.written(&rt, &mut begin(rt.alloc())?)?;
     assert_eq!(rt; status, OK);
-    assert_eq!(rt; str::from_utf8(sink.taken())?, session.replies.as_str());
+    assert_eq!(rt; str::from_utf8(sink.written())?, session.replies.as_str());
     Ok(())
 }
 
@@ -78,7 +78,7 @@ fn a_record_is_handed_over_to_another_office(rt: HostRuntime) -> Result<(), Fail
     session.upload(OFFICE, 4, &[managed_by(OFFICE)], r#""C12 NOT_MANAGER""#)?;
     let (status, sink) = session.written(&rt, &mut begin(rt.alloc())?)?;
     assert_eq!(rt; status, OK);
-    assert_eq!(rt; str::from_utf8(sink.taken())?, session.replies.as_str());
+    assert_eq!(rt; str::from_utf8(sink.written())?, session.replies.as_str());
     Ok(())
 }
 
@@ -100,7 +100,7 @@ fn a_registration_lapses_and_is_renewed(rt: HostRuntime) -> Result<(), Fail> {
     let moments = vec![in rt.alloc(); BEGIN, BEGIN, RENEWAL_DAY, DAY_BEHIND]?;
     let (status, sink) = session.written(&rt, &mut ListClock::new(List::from(moments)))?;
     assert_eq!(rt; status, OK);
-    assert_eq!(rt; str::from_utf8(sink.taken())?, session.replies.as_str());
+    assert_eq!(rt; str::from_utf8(sink.written())?, session.replies.as_str());
     Ok(())
 }
 
@@ -125,7 +125,7 @@ fn a_successor_is_another_record_that_is_held(rt: HostRuntime) -> Result<(), Fai
     )?;
     let (status, sink) = session.written(&rt, &mut begin(alloc)?)?;
     assert_eq!(rt; status, OK);
-    assert_eq!(rt; str::from_utf8(sink.taken())?, session.replies.as_str());
+    assert_eq!(rt; str::from_utf8(sink.written())?, session.replies.as_str());
     Ok(())
 }
 
@@ -154,7 +154,7 @@ fn successors_do_not_go_round(rt: HostRuntime) -> Result<(), Fail> {
     )?;
     let (status, sink) = session.written(&rt, &mut begin(alloc)?)?;
     assert_eq!(rt; status, OK);
-    assert_eq!(rt; str::from_utf8(sink.taken())?, session.replies.as_str());
+    assert_eq!(rt; str::from_utf8(sink.written())?, session.replies.as_str());
     Ok(())
 }
 
@@ -180,6 +180,6 @@ fn a_chain_of_successors_has_at_most_200_members(rt: HostRuntime) -> Result<(), 
     session.upload(OFFICE, 2, &turned, second.as_str())?;
     let (status, sink) = session.written(&rt, &mut begin(alloc)?)?;
     assert_eq!(rt; status, OK);
-    assert_eq!(rt; str::from_utf8(sink.taken())?, session.replies.as_str());
+    assert_eq!(rt; str::from_utf8(sink.written())?, session.replies.as_str());
     Ok(())
 }

@@ -58,7 +58,7 @@ fn answers_a_session_however_its_bytes_are_cut(rt: HostRuntime) -> Result<(), Fa
     for most in [1, 2, 7, 65_536] {
         let (status, sink, _) = answers(&rt, rt.alloc(), SESSION.as_bytes(), most)?;
         assert_eq!(rt; status, OK, "{most} bytes a read");
-        assert_eq!(rt; sink.taken(), REPLIES.as_bytes(), "{most} bytes a read");
+        assert_eq!(rt; sink.written(), REPLIES.as_bytes(), "{most} bytes a read");
     }
     Ok(())
 }
@@ -77,7 +77,7 @@ fn writes_byte_by_byte(rt: HostRuntime) -> Result<(), Fail> {
         &mut still(alloc),
     );
     assert_eq!(rt; status, OK);
-    assert_eq!(rt; sink.taken(), REPLIES.as_bytes());
+    assert_eq!(rt; sink.written(), REPLIES.as_bytes());
     Ok(())
 }
 
@@ -117,7 +117,7 @@ fn cuts_lines_at_their_ends(rt: HostRuntime) -> Result<(), Fail> {
         for most in [1, 65_536] {
             let (status, sink, _) = answers(&rt, rt.alloc(), input.as_bytes(), most)?;
             assert_eq!(rt; status, OK, "{input:?}");
-            assert_eq!(rt; sink.taken(), want.as_bytes(), "{input:?}");
+            assert_eq!(rt; sink.written(), want.as_bytes(), "{input:?}");
         }
     }
     Ok(())
@@ -139,7 +139,7 @@ fn skips_the_rest_of_a_long_line(rt: HostRuntime) -> Result<(), Fail> {
         input.extend_from_slice(end.as_bytes())?;
         let (status, sink, _) = answers(&rt, rt.alloc(), &input, 65_536)?;
         assert_eq!(rt; status, OK, "{length} {end:?}");
-        assert_eq!(rt; sink.taken(), want.as_bytes(), "{length} {end:?}");
+        assert_eq!(rt; sink.written(), want.as_bytes(), "{length} {end:?}");
     }
     Ok(())
 }
@@ -172,7 +172,7 @@ fn refuses_words_that_are_no_command(rt: HostRuntime) -> Result<(), Fail> {
         );
         assert_eq!(rt; status, USAGE, "{texts:?}");
         assert_eq!(rt; source.left(), b"frob\n".as_slice(), "{texts:?}");
-        assert!(rt; sink.taken().is_empty(), "{texts:?}");
+        assert!(rt; sink.written().is_empty(), "{texts:?}");
     }
     Ok(())
 }
@@ -205,9 +205,9 @@ fn ends_where_a_read_fails(rt: HostRuntime) -> Result<(), Fail> {
             .iter()
             .filter(|byte| **byte == b'\n')
             .count();
-        let replies = sink.taken().iter().filter(|byte| **byte == b'\n').count();
+        let replies = sink.written().iter().filter(|byte| **byte == b'\n').count();
         assert_eq!(rt; replies, lines, "read {call}");
-        assert!(rt; REPLIES.as_bytes().starts_with(sink.taken()), "read {call}");
+        assert!(rt; REPLIES.as_bytes().starts_with(sink.written()), "read {call}");
     }
     Ok(())
 }
@@ -229,7 +229,7 @@ fn ends_where_a_write_fails(rt: HostRuntime) -> Result<(), Fail> {
         assert_eq!(rt; status, WRITE_FAULT, "write {call}");
         assert_eq!(rt; sink.faults(), 1, "write {call}");
         assert!(rt;
-            REPLIES.as_bytes().starts_with(sink.taken()),
+            REPLIES.as_bytes().starts_with(sink.written()),
             "write {call}"
         );
     }
@@ -266,7 +266,7 @@ fn ends_at_the_greatest_input(rt: HostRuntime) -> Result<(), Fail> {
         &mut still(alloc),
     );
     assert_eq!(rt; status, INPUT_TOO_LONG);
-    assert!(rt; sink.taken().is_empty());
+    assert!(rt; sink.written().is_empty());
     Ok(())
 }
 
@@ -295,7 +295,7 @@ fn answers_alike_where_the_clock_goes_back(rt: HostRuntime) -> Result<(), Fail> 
     let words = words(alloc, &["lines"])?;
     let status = run(&rt, alloc, &words, &mut source, &mut sink, &mut clock);
     assert_eq!(rt; status, OK);
-    assert_eq!(rt; sink.taken(), REPLIES.as_bytes());
+    assert_eq!(rt; sink.written(), REPLIES.as_bytes());
     Ok(())
 }
 
@@ -340,7 +340,7 @@ fn tells_of_codes_and_makes_check_digits(rt: HostRuntime) -> Result<(), Fail> {
         let words = words(alloc, &[command, text])?;
         let status = run(&rt, alloc, &words, &mut source, &mut sink, &mut clock);
         assert_eq!(rt; status, end, "{command} {text}");
-        assert_eq!(rt; sink.taken(), want.as_bytes(), "{command} {text}");
+        assert_eq!(rt; sink.written(), want.as_bytes(), "{command} {text}");
         assert_eq!(rt; source.left(), b"frob\n".as_slice(), "{command} {text}");
         assert_eq!(rt; clock.calls(), 0, "{command} {text}");
     }
@@ -358,7 +358,7 @@ fn ends_where_a_line_of_a_code_cannot_be_written(rt: HostRuntime) -> Result<(), 
         let status = run(&rt, alloc, &words, &mut source, &mut sink, &mut clock);
         assert_eq!(rt; status, WRITE_FAULT, "write {call}");
         assert!(rt;
-            b"refused CHECK_DIGITS\n".starts_with(sink.taken()),
+            b"refused CHECK_DIGITS\n".starts_with(sink.written()),
             "write {call}"
         );
     }
@@ -399,7 +399,7 @@ fn judges_and_shows_a_record(rt: HostRuntime) -> Result<(), Fail> {
     let words = words(alloc, &["lines"])?;
     let status = run(&rt, alloc, &words, &mut source, &mut sink, &mut clock);
     assert_eq!(rt; status, OK);
-    assert_eq!(rt; str::from_utf8(sink.taken())?, STANDARD_REPLIES);
+    assert_eq!(rt; str::from_utf8(sink.written())?, STANDARD_REPLIES);
     assert_eq!(rt; clock.calls(), 7);
     Ok(())
 }
@@ -427,6 +427,6 @@ fn judges_five_thousand_empty_records(rt: HostRuntime) -> Result<(), Fail> {
     )?;
     let (status, sink, _) = answers(&rt, alloc, input.as_bytes(), 65_536)?;
     assert_eq!(rt; status, OK);
-    assert!(rt; sink.taken() == want.as_bytes());
+    assert!(rt; sink.written() == want.as_bytes());
     Ok(())
 }

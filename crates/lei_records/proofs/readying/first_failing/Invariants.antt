@@ -4,4 +4,4 @@ use Rattle.lei_records.proofs.readying.first_failing.Given as goal
 
 -- the first field of the rest is the first of all
 abbrev pub invariant-loop-index : goal.invariant-loop-index
-invariant-loop-index l = first_in l.ask l.facts (drop l.index l.table) (drop l.index l.texts) ≡ first_in l.ask l.facts l.table l.texts
+invariant-loop-index l = first_in l.check l.facts (drop l.index l.table) (drop l.index l.texts) ≡ first_in l.check l.facts l.table l.texts

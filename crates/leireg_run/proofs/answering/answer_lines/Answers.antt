@@ -7,11 +7,11 @@ use Rattle.leireg_run.proofs.answering.answer_lines.Goals as goal
 pub returns-in_err-answer_line-clause-answered : goal.returns-in_err-answer_line-clause-answered
 returns-in_err-answer_line-clause-answered g c =
     let given = g.C.Clock.given in
-    let taken = g.W.Sink.taken in
+    let written = g.W.Sink.written in
     let rest = c.loop-end.rest.now in
     let end = c.in-Some.end in
-    let mid = progress c.loop-end.office c.loop-end.outbox (given c.loop-end.clock) (taken c.loop-end.out) in
-    let after = progress c.answer_line.new.office c.answer_line.new.outbox (given c.answer_line.new.clock) (taken c.answer_line.new.out) in
+    let mid = progress c.loop-end.office c.loop-end.outbox (given c.loop-end.clock) (written c.loop-end.out) in
+    let after = progress c.answer_line.new.office c.answer_line.new.outbox (given c.answer_line.new.clock) (written c.answer_line.new.out) in
     let fault = c.in_err-answer_line.field-0.0 in
     let L : List ℕ → Type 0 = λ line. AnswersAndPuts {T = Unit {0}} {E = SinkFault} mid (line ∷ []) (Err fault) after in
     walk_stops c.args.block.now _ mid after rest (take end rest) (drop (end + 1) rest) c.loop-end.seen fault c.from_residual.result
@@ -20,12 +20,12 @@ returns-in_err-answer_line-clause-answered g c =
 pub loop-end-preserved : goal.loop-end-preserved
 loop-end-preserved g c =
     let given = g.C.Clock.given in
-    let taken = g.W.Sink.taken in
+    let written = g.W.Sink.written in
     let rest = c.loop-end.rest.now in
     let end = c.in-Some.end in
-    let before = progress c.args.office.now c.args.outbox.now (given c.args.clock.now) (taken c.args.out.now) in
-    let mid = progress c.loop-end.office c.loop-end.outbox (given c.loop-end.clock) (taken c.loop-end.out) in
-    let after = progress c.answer_line.new.office c.answer_line.new.outbox (given c.answer_line.new.clock) (taken c.answer_line.new.out) in
+    let before = progress c.args.office.now c.args.outbox.now (given c.args.clock.now) (written c.args.out.now) in
+    let mid = progress c.loop-end.office c.loop-end.outbox (given c.loop-end.clock) (written c.loop-end.out) in
+    let after = progress c.answer_line.new.office c.answer_line.new.outbox (given c.answer_line.new.clock) (written c.answer_line.new.out) in
     let done : Result (Unit {0}) SinkFault = Ok (tt {0}) in
     let L : List ℕ → Type 0 = λ line. AnswersAndPuts mid (line ∷ []) done after in
     let W : List ℕ → Type 0 = λ behind. Walked c.args.block.now before behind 0 after in

@@ -6,11 +6,11 @@ use Rattle.leireg_run.specs.Runs.{progress}
 abbrev pub invariant-loop-end : goal.invariant-loop-end
 invariant-loop-end g l =
     let given = g.C.Clock.given in
-    let taken = g.W.Sink.taken in
+    let written = g.W.Sink.written in
     let faults = g.W.Sink.faults in
     record {
-      walked : Walked l.block (progress l.fn.office l.fn.outbox (given l.fn.clock) (taken l.fn.out)) l.rest l.seen
-          (progress l.office l.outbox (given l.clock) (taken l.out));
+      walked : Walked l.block (progress l.fn.office l.fn.outbox (given l.fn.clock) (written l.fn.out)) l.rest l.seen
+          (progress l.office l.outbox (given l.clock) (written l.out));
       kept : faults l.out ≡ faults l.fn.out;
     }
 

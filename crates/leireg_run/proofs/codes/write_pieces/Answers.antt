@@ -5,19 +5,19 @@ use Rattle.leireg_run.proofs.Sending.{Sends-nothing, pieces_more, refused, sent_
 use Rattle.leireg_run.proofs.codes.write_pieces.Goals as goal
 
 pub loop-piece-init : goal.loop-piece-init
-loop-piece-init g c = record { sent = Sends-nothing (g.W.Sink.taken c.args.out.now) []; kept = refl }
+loop-piece-init g c = record { sent = Sends-nothing (g.W.Sink.written c.args.out.now) []; kept = refl }
 
 pub loop-piece-preserved : goal.loop-piece-preserved
 loop-piece-preserved g c =
-    let taken = g.W.Sink.taken in
+    let written = g.W.Sink.written in
     let done = flat_map (λ piece. piece.now) (take c.loop-piece.piece-index c.args.pieces.now) in
-    let S : List ℕ → Type 0 = λ all. Sends (taken c.args.out.now) (taken c.write_all.new.out) all [] in
+    let S : List ℕ → Type 0 = λ all. Sends (written c.args.out.now) (written c.write_all.new.out) all [] in
     record {
-      sent = subst S (sym (pieces_more c.args.pieces.now c.loop-piece.piece-index _ c.loop-piece-test.true)) (sent_then (taken c.args.out.now) (taken c.loop-piece.out) (taken c.write_all.new.out) done _ c.loop-piece.invariant.sent c.in_ok-write_all.ensures.written);
+      sent = subst S (sym (pieces_more c.args.pieces.now c.loop-piece.piece-index _ c.loop-piece-test.true)) (sent_then (written c.args.out.now) (written c.loop-piece.out) (written c.write_all.new.out) done _ c.loop-piece.invariant.sent c.in_ok-write_all.ensures.written);
       kept = c.in_ok-write_all.ensures.kept (λ is. cc) ∙ c.loop-piece.invariant.kept;
     }
 
 pub returns-in_err-write_all-clause-written : goal.returns-in_err-write_all-clause-written
 returns-in_err-write_all-clause-written g c =
-    let taken = g.W.Sink.taken in
-    MatchResult-from_err _ _ _ c.from_residual.ensures.0 (λ _. refused (taken c.args.out.now) (taken c.loop-piece.out) (taken c.write_all.new.out) c.args.pieces.now c.loop-piece.piece-index _ [] [] c.loop-piece-test.true c.loop-piece.invariant.sent c.in_err-write_all.ensures.front)
+    let written = g.W.Sink.written in
+    MatchResult-from_err _ _ _ c.from_residual.ensures.0 (λ _. refused (written c.args.out.now) (written c.loop-piece.out) (written c.write_all.new.out) c.args.pieces.now c.loop-piece.piece-index _ [] [] c.loop-piece-test.true c.loop-piece.invariant.sent c.in_err-write_all.ensures.front)

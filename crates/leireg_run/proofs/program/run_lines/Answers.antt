@@ -20,9 +20,9 @@ pub returns-in_err-count-clause-runs : goal.returns-in_err-count-clause-runs
 returns-in_err-count-clause-runs g c =
     let left = g.S.Source.left in
     let given = g.C.Clock.given in
-    let taken = g.W.Sink.taken in
-    let begin = outside (left c.args.input.now) (given c.args.clock.now) (taken c.args.out.now) in
-    let after = outside (left c.read_from.new.input) (given c.loop-reader.clock) (taken c.flush.new.out) in
+    let written = g.W.Sink.written in
+    let begin = outside (left c.args.input.now) (given c.args.clock.now) (written c.args.out.now) in
+    let after = outside (left c.read_from.new.input) (given c.loop-reader.clock) (written c.flush.new.out) in
     let R : ℕ → Type 0 = λ status. RunsLines begin after status in
     let at = flushed _ _ _ _ _ _ _ _ c.in_ok-flush.ensures.empty c.loop-reader.invariant.midway c.in_ok-flush.ensures.ok in
     subst R (sym (read_status c.from_residual-in_err-count.result c.from_residual-in_err-count.ensures.1))
@@ -90,25 +90,25 @@ returns-in_err-count-clause-read_fault g c is =
 pub returns-in_err-flush-clause-write_fault : goal.returns-in_err-flush-clause-write_fault
 returns-in_err-flush-clause-write_fault g c is =
     let failed = sink_failed c.in_err-flush.field-0.0 c.from_residual-in_err-flush.result c.from_residual-in_err-flush.ensures.1 is in
-    fails_later g.W.Sink.taken g.W.Sink.faults _ _ _ c.loop-reader.invariant.out_kept (c.in_err-flush.ensures.failed (ap Err failed))
+    fails_later g.W.Sink.written g.W.Sink.faults _ _ _ c.loop-reader.invariant.out_kept (c.in_err-flush.ensures.failed (ap Err failed))
 
 pub returns-in_err-take_in-clause-write_fault : goal.returns-in_err-take_in-clause-write_fault
 returns-in_err-take_in-clause-write_fault g c is =
     let kept = c.in_ok-flush.ensures.kept (λ ok. cc) ∙ c.loop-reader.invariant.out_kept in
     let failed = sink_failed c.in_err-take_in.field-0.0 c.from_residual-in_err-take_in.result c.from_residual-in_err-take_in.ensures.1 is in
-    fails_later g.W.Sink.taken g.W.Sink.faults _ _ _ kept (c.in_err-take_in.ensures.failed (ap Err failed))
+    fails_later g.W.Sink.written g.W.Sink.faults _ _ _ kept (c.in_err-take_in.ensures.failed (ap Err failed))
 
 pub returns-in_err-answer_last-clause-write_fault : goal.returns-in_err-answer_last-clause-write_fault
 returns-in_err-answer_last-clause-write_fault g c is =
     let kept = c.in_ok-flush.ensures.kept (λ ok. cc) ∙ c.loop-reader.invariant.out_kept in
     let failed = sink_failed c.in_err-answer_last.field-0.0 c.from_residual-in_err-answer_last.result c.from_residual-in_err-answer_last.ensures.1 is in
-    fails_later g.W.Sink.taken g.W.Sink.faults _ _ _ kept (c.in_err-answer_last.ensures.failed (ap Err failed))
+    fails_later g.W.Sink.written g.W.Sink.faults _ _ _ kept (c.in_err-answer_last.ensures.failed (ap Err failed))
 
 pub returns-in_err-flush-2-clause-write_fault : goal.returns-in_err-flush-2-clause-write_fault
 returns-in_err-flush-2-clause-write_fault g c is =
     let kept = c.in_ok-answer_last.ensures.kept (λ ok. cc) ∙ (c.in_ok-flush.ensures.kept (λ ok. cc) ∙ c.loop-reader.invariant.out_kept) in
     let failed = sink_failed c.in_err-flush-2.field-0.0 c.from_residual-in_err-flush-2.result c.from_residual-in_err-flush-2.ensures.1 is in
-    fails_later g.W.Sink.taken g.W.Sink.faults _ _ _ kept (c.in_err-flush-2.ensures.failed (ap Err failed))
+    fails_later g.W.Sink.written g.W.Sink.faults _ _ _ kept (c.in_err-flush-2.ensures.failed (ap Err failed))
 
 pub loop-reader-init : goal.loop-reader-init
 loop-reader-init g c = record {

@@ -9,12 +9,12 @@ abbrev pub invariant-loop-reader : goal.invariant-loop-reader
 invariant-loop-reader g l =
     let left = g.S.Source.left in
     let given = g.C.Clock.given in
-    let taken = g.W.Sink.taken in
+    let written = g.W.Sink.written in
     let input_faults = g.S.Source.faults in
     let out_faults = g.W.Sink.faults in
     record {
-      midway : Midway (outside (left l.fn.input) (given l.fn.clock) (taken l.fn.out)) (left l.input) l.read
-          (progress l.reader.office l.reader.outbox (given l.clock) (taken l.out)) l.reader.skips l.reader.window;
+      midway : Midway (outside (left l.fn.input) (given l.fn.clock) (written l.fn.out)) (left l.input) l.read
+          (progress l.reader.office l.reader.outbox (given l.clock) (written l.out)) l.reader.skips l.reader.window;
       input_kept : input_faults l.input ≡ input_faults l.fn.input;
       out_kept : out_faults l.out ≡ out_faults l.fn.out;
     }

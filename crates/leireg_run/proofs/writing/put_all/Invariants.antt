@@ -4,9 +4,9 @@ use Rattle.leireg_run.proofs.writing.put_all.Given as goal
 
 abbrev pub invariant-loop-piece : goal.invariant-loop-piece
 invariant-loop-piece g l =
-    let taken = g.W.Sink.taken in
+    let written = g.W.Sink.written in
     let faults = g.W.Sink.faults in
     record {
-      sent : Sends (taken l.fn.out) (taken l.out) (l.fn.outbox ++ flat_map (λ piece. piece.now) (take l.piece-index l.pieces)) l.outbox;
+      sent : Sends (written l.fn.out) (written l.out) (l.fn.outbox ++ flat_map (λ piece. piece.now) (take l.piece-index l.pieces)) l.outbox;
       kept : faults l.out ≡ faults l.fn.out;
     }

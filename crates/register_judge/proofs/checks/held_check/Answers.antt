@@ -3,5 +3,5 @@ use Rattle.register_judge.proofs.checks.held_check.Goals as goal
 
 pub returns-in-None : goal.returns-in-None
 returns-in-None c =
-    let same = simp (to_z-of_z, c.ranges.today) at (c.first_check.ensures c.args.office.now) in
+    let same = simp (to_z-of_z, c.ranges.today) at (c.first_check.ensures c.args.issuer.now) in
     rw c.in-None.is same

@@ -11,10 +11,10 @@ pub returns-clause-over_tables : goal.returns-clause-over_tables
 returns-clause-over_tables g c = λ table sound same.
     let room = c.args.room in
     let today = c.args.today in
-    let office = c.args.office.now in
+    let issuer = c.args.issuer.now in
     let items = c.args.items.now in
     let limit = record_count table + room in
-    let JudgedOn : ℤ → Type 0 = λ day. Judges c.judge_each.result (judge_items (g.V.View.cells c.args.view.now) room day office items) in
-    judges-takes c.judge_each.result _ (take table limit today office items)
-    (ap (λ cells. judge_items cells room today office items) same ∙ judged-taken table limit room today office items sound refl)
+    let JudgedOn : ℤ → Type 0 = λ day. Judges c.judge_each.result (judge_items (g.V.View.cells c.args.view.now) room day issuer items) in
+    judges-takes c.judge_each.result _ (take table limit today issuer items)
+    (ap (λ cells. judge_items cells room today issuer items) same ∙ judged-taken table limit room today issuer items sound refl)
     (subst JudgedOn (to_z-of_z c.ranges.today) c.judge_each.ensures)

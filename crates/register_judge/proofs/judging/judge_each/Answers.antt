@@ -1,7 +1,7 @@
 use Rattle.std.proofs.Common.{◌+◌, ap, ◌∙◌, drop, to_z, of_z, w32}
 use Rattle.std.proofs.Math.Facts.{to_z-of_z}
 use Rattle.register_judge.specs.Judging.{judge_items}
-use Rattle.register_judge.specs.Progress.{cells_in}
+use Rattle.register_judge.specs.Overlays.{cells_in}
 use Rattle.register_judge.proofs.JudgingLemmas.{with_front-step, with_front-stop, with_front-end, next_item, nothing_left, few_more}
 use Rattle.register_judge.proofs.judging.judge_each.Goals as goal
 
@@ -10,10 +10,10 @@ returns-in-Err g c =
     let made = c.loop-item.progress in
     let index = c.loop-item.item-index in
     let items = c.args.items.now in
-    with_front-stop (cells_in g.V.View.cells c.loop-item.overlay) made.room (to_z w32 (of_z w32 c.args.today)) c.args.office.now made.verdicts.items made.writes.items made.new_records
+    with_front-stop (cells_in g.V.View.cells c.loop-item.overlay) made.room (to_z w32 (of_z w32 c.args.today)) c.args.issuer.now made.verdicts.items made.writes.items made.new_records
     c.in-Err.stop c.item-item.result (drop (index + 1) items) (drop index items) _
     (next_item items index c.item-item.result c.loop-item-test.true c.item-item.is) c.in-Err.ensures
-    (c.loop-item.invariant.so_far ∙ ap (λ day. judge_items (g.V.View.cells c.args.view.now) c.args.room day c.args.office.now items) (to_z-of_z c.ranges.today))
+    (c.loop-item.invariant.so_far ∙ ap (λ day. judge_items (g.V.View.cells c.args.view.now) c.args.room day c.args.issuer.now items) (to_z-of_z c.ranges.today))
 
 pub loop-item-preserved : goal.loop-item-preserved
 loop-item-preserved g c =
@@ -23,7 +23,7 @@ loop-item-preserved g c =
     let items = c.args.items.now in
     record {
       so_far = with_front-step (cells_in g.V.View.cells c.loop-item.overlay) (cells_in g.V.View.cells c.write_item.new.overlay) made.room more.room (to_z w32 (of_z w32 c.args.today))
-          c.args.office.now made.verdicts.items more.verdicts.items made.writes.items more.writes.items made.new_records more.new_records
+          c.args.issuer.now made.verdicts.items more.verdicts.items made.writes.items more.writes.items made.new_records more.new_records
           c.in-Ok.judged c.item-item.result (drop (index + 1) items) (drop index items) _
           (next_item items index c.item-item.result c.loop-item-test.true c.item-item.is) c.in-Ok.ensures
           c.in_ok-write_item.ensures.cells c.add.ensures.room c.in_ok-add.ensures.verdicts
@@ -36,6 +36,6 @@ returns g c =
     let made = c.loop-item.progress in
     let index = c.loop-item.item-index in
     let items = c.args.items.now in
-    with_front-end (cells_in g.V.View.cells c.loop-item.overlay) made.room (to_z w32 (of_z w32 c.args.today)) c.args.office.now made.verdicts.items made.writes.items made.new_records
+    with_front-end (cells_in g.V.View.cells c.loop-item.overlay) made.room (to_z w32 (of_z w32 c.args.today)) c.args.issuer.now made.verdicts.items made.writes.items made.new_records
     c.outcome_of.result (drop index items) _ (nothing_left items index c.loop-item-test.false) c.outcome_of.ensures
-    (c.loop-item.invariant.so_far ∙ ap (λ day. judge_items (g.V.View.cells c.args.view.now) c.args.room day c.args.office.now items) (to_z-of_z c.ranges.today))
+    (c.loop-item.invariant.so_far ∙ ap (λ day. judge_items (g.V.View.cells c.args.view.now) c.args.room day c.args.issuer.now items) (to_z-of_z c.ranges.today))

@@ -1,6 +1,6 @@
 use Rattle.std.proofs.Common.{◌≡◌, ◌≤◌, drop}
 use Rattle.register_judge.specs.Judging.{judge_items}
-use Rattle.register_judge.specs.Progress.{cells_in}
+use Rattle.register_judge.specs.Overlays.{cells_in}
 use Rattle.register_judge.proofs.JudgingLemmas.{with_front}
 use Rattle.register_judge.proofs.judging.judge_each.Given as goal
 
@@ -8,7 +8,7 @@ use Rattle.register_judge.proofs.judging.judge_each.Given as goal
 abbrev pub invariant-loop-item : goal.invariant-loop-item
 invariant-loop-item g l = record {
   so_far : with_front l.progress.verdicts.items l.progress.writes.items l.progress.new_records
-      (judge_items (cells_in g.V.View.cells l.overlay) l.progress.room l.today l.office (drop l.item-index l.items))
-      ≡ judge_items (g.V.View.cells l.view) l.room l.today l.office l.items;
+      (judge_items (cells_in g.V.View.cells l.overlay) l.progress.room l.today l.issuer (drop l.item-index l.items))
+      ≡ judge_items (g.V.View.cells l.view) l.room l.today l.issuer l.items;
   few : l.progress.new_records ≤ l.item-index;
 }

@@ -11,7 +11,7 @@ pub returns-in-Ok : goal.returns-in-Ok
 returns-in-Ok c = λ lei category.
     let row = c.args.item.now.0 in
     pair_at-insert c.args.standing.now c.insert.new.self (c.lei.result, c.text.result) (subject_in row) (exception_category_text (exception_category_in row))
-    (not c.withdraws.result) c.lei.ensures.value (c.text.ensures ∙ ap exception_category_text c.category_of.ensures) c.in-Ok.ensures.updates
+    (not c.withdraws.result) c.lei.ensures.value (c.text.ensures ∙ ap exception_category_text c.category.ensures) c.in-Ok.ensures.updates
     lei (exception_category_text category)
     ∙ ap (λ w. cond (bytes_eq (subject_in row) lei && is_same_category (exception_category_in row) category) (Some (not w)) (stands_at c.args.standing.now lei category))
     c.withdraws.ensures

@@ -1,4 +1,4 @@
-use Rattle.relation_rules.proofs.PutLemmas.{IsSound-put_exception}
+use Rattle.authority_rules.proofs.SoundLemmas.{IsSound-put_exception}
 use Rattle.relation_rules.proofs.laws.exceptions_keep_tables_sound.Goals as goal
 
 pub returns : goal.returns

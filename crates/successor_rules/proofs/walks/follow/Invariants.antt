@@ -6,9 +6,9 @@ use Rattle.successor_rules.proofs.walks.follow.Given as goal
 -- the walk from this member, with the members left, becomes what the whole walk becomes
 abbrev pub invariant-loop : goal.invariant-loop
 invariant-loop g l =
-    let asked = g.C.Chain.asked l.chain in
+    let answers = g.C.Chain.answers l.chain in
     let cell = g.C.Chain.cell l.chain in
     record {
-      goes_on : walk_in (200 - l.counter) asked cell l.avoid l.member ≡ walk_over asked cell l.avoid l.from;
+      goes_on : walk_in (200 - l.counter) answers cell l.avoid l.member ≡ walk_over answers cell l.avoid l.from;
       few : l.counter ≤ 200;
     }

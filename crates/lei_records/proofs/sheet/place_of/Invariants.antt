@@ -1,8 +1,0 @@
-use Rattle.std.proofs.Common.{◌≡◌, drop}
-use Rattle.std.specs.List.{list_any}
-use Rattle.std.specs.Str.{bytes_eq}
-use Rattle.lei_records.proofs.sheet.place_of.Given as goal
-
--- the name is that of a field of the rest exactly where it is that of a field
-abbrev pub invariant-loop-index : goal.invariant-loop-index
-invariant-loop-index l = list_any (λ field. bytes_eq field.0.now l.name) (drop l.index l.table) ≡ list_any (λ field. bytes_eq field.0.now l.name) l.table

@@ -1,0 +1,31 @@
+-- Parents: the entities that consolidate another one, and which exceptions speak of them.
+use Rattle.std.specs.Prelude.{List, Bool, true, false, Option, Some, None}
+use Rattle.std.specs.Option.{option_to_list}
+use Rattle.lei_code.specs.Texts.{Lei}
+use Rattle.lei_shapes.specs.declared.lists.ExceptionCategory.{ExceptionCategory}
+use Rattle.lei_shapes.specs.declared.lists.RelationType.{RelationType}
+use Rattle.lei_records.specs.Tables.{Table, active_of}
+
+-- The category of the exceptions that speak of the parents of a type, and none where the type is no parent's.
+abbrev pub parent_category : RelationType → Option ExceptionCategory
+parent_category RelationType.IsDirectlyConsolidatedBy = Some ExceptionCategory.DirectAccountingConsolidationParent
+parent_category RelationType.IsUltimatelyConsolidatedBy = Some ExceptionCategory.UltimateAccountingConsolidationParent
+parent_category other = None
+
+-- The type of the parents that exceptions of a category speak of.
+abbrev pub parent_type : ExceptionCategory → RelationType
+parent_type ExceptionCategory.DirectAccountingConsolidationParent = RelationType.IsDirectlyConsolidatedBy
+parent_type ExceptionCategory.UltimateAccountingConsolidationParent = RelationType.IsUltimatelyConsolidatedBy
+
+-- The type is that of a direct parent.
+abbrev pub is_direct : RelationType → Bool
+is_direct RelationType.IsDirectlyConsolidatedBy = true
+is_direct other = false
+
+-- The direct parent of an entity: the end of its active relationship of this type.
+abbrev pub parent_of : Table → Lei → Option Lei
+parent_of table lei = active_of table lei RelationType.IsDirectlyConsolidatedBy
+
+-- The same as a list of one or none.
+abbrev pub parents_of : Table → Lei → List Lei
+parents_of table lei = option_to_list (parent_of table lei)

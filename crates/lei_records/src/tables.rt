@@ -1,0 +1,5 @@
+//! The tables of the fields of the three kinds of items.
+
+pub mod exception;
+pub mod record;
+pub mod relation;

@@ -1,0 +1,56 @@
+//! The fields of a relationship in order of place. The names are those of the columns of a golden copy of level 2
+//! data; shapes and needs are this project's profile.
+use crate::fields::Content::Shaped;
+use crate::fields::{Field, Need};
+use crate::places::RELATION_PLACES;
+use lei_shapes::Shape;
+
+pub const FIELDS: [Field; RELATION_PLACES] = [
+    ("Relationship.StartNode", Shaped(Shape::Code), Need::Always),
+    (
+        "Relationship.RelationshipType",
+        Shaped(Shape::RelationType),
+        Need::Always,
+    ),
+    ("Relationship.EndNode", Shaped(Shape::Code), Need::Always),
+    (
+        "Relationship.RelationshipStatus",
+        Shaped(Shape::RelationStatus),
+        Need::Always,
+    ),
+    (
+        "Relationship.StartDate",
+        Shaped(Shape::Moment),
+        Need::Always,
+    ),
+    (
+        "Relationship.EndDate",
+        Shaped(Shape::Moment),
+        Need::Optional,
+    ),
+    (
+        "Registration.InitialRegistrationDate",
+        Shaped(Shape::Moment),
+        Need::Always,
+    ),
+    (
+        "Registration.LastUpdateDate",
+        Shaped(Shape::Moment),
+        Need::Always,
+    ),
+    (
+        "Registration.RegistrationStatus",
+        Shaped(Shape::RelationRegistration),
+        Need::Always,
+    ),
+    (
+        "Registration.ManagingLOU",
+        Shaped(Shape::Code),
+        Need::Always,
+    ),
+    (
+        "Registration.ValidationSources",
+        Shaped(Shape::Validation),
+        Need::Always,
+    ),
+];

@@ -1,0 +1,94 @@
+//! The checks of a record from C10 to C19, over any view.
+ghost use Rattle.std.specs.Prelude.{◌≡◌, Some, IfOk};
+ghost use Rattle.lei_records.specs.Cells.{akey, lei_in};
+ghost use Rattle.register_judge.specs.Judging;
+ghost use Rattle.relation_rules.specs.Checking;
+ghost use Rattle.successor_rules.specs.Successors;
+
+use crate::checks::held_check;
+use authority_rules::{is_live, key_of, taken};
+use lei_code::Lei;
+use lei_outside::{NoMemory, Text};
+use lei_records::numbers::{
+    AUTHORITY_KEY_TAKEN, SUCCESSOR_CHAIN_LONG, SUCCESSOR_CYCLE, SUCCESSOR_UNKNOWN,
+};
+use lei_records::{CellKey, RecCell, Record, Seen, View};
+use relation_rules::{Checked, failed, telling};
+use std::alloc::Global;
+use successor_rules::{Walked, walk};
+
+/// From C10 on, with the record that is held under the item's LEI. The key of a cell that is lacking takes memory.
+pub fn check_held<V: View>(
+    alloc: Global,
+    view: &V,
+    held: &Option<RecCell>,
+    issuer: &Lei,
+    today: i32,
+    item: &Record,
+) -> Result<Checked, NoMemory>
+    ensures { IfOk result (λ checked. checked ≡ Judging.check_held (V.cells view.now) today issuer.now item.now held.now) }
+{
+    if let Some(check) = held_check(held, issuer, today, item) {
+        return Ok(Checked::Fails(check));
+    }
+    match item.successor() {
+        Some(successor) => check_successor(alloc, view, item, &successor),
+        None => check_key(alloc, view, item),
+    }
+}
+
+// From C16 on, of an item with this successor.
+fn check_successor<V: View>(
+    alloc: Global,
+    view: &V,
+    item: &Record,
+    successor: &Lei,
+) -> Result<Checked, NoMemory>
+    ensures { IfOk result (λ checked. checked ≡ Judging.check_successor (V.cells view.now) item.now (Some successor.now)) }
+{
+    match view.record_cell(successor) {
+        Seen::Held(_) => check_walk(alloc, view, item, successor),
+        Seen::Empty => Ok(failed(SUCCESSOR_UNKNOWN)),
+        Seen::Missing => Ok(Checked::Missing(CellKey::Rec(*successor))),
+    }
+}
+
+// From C17 on, of an item whose successor is held.
+fn check_walk<V: View>(
+    alloc: Global,
+    view: &V,
+    item: &Record,
+    successor: &Lei,
+) -> Result<Checked, NoMemory>
+    ensures { IfOk result (λ checked. checked ≡ Checking.check_walked 17 18
+        (Successors.walk (V.cells view.now) (lei_in item.now) successor.now) (Judging.check_key (V.cells view.now) item.now)) }
+{
+    match walk(view, successor, &item.lei()) {
+        Walked::Meets => Ok(failed(SUCCESSOR_CYCLE)),
+        Walked::Long => Ok(failed(SUCCESSOR_CHAIN_LONG)),
+        Walked::Ends => check_key(alloc, view, item),
+        Walked::Missing(key) => Ok(Checked::Missing(key)),
+    }
+}
+
+// C19. A record that isn't live doesn't ask for its key.
+fn check_key<V: View>(alloc: Global, view: &V, item: &Record) -> Result<Checked, NoMemory>
+    ensures { IfOk result (λ checked. checked ≡ Judging.check_key (V.cells view.now) item.now) }
+{
+    if !is_live(item) {
+        return Ok(Checked::Passes);
+    }
+    match taken(view, item) {
+        Seen::Held(other) => Ok(Checked::Fails(telling(AUTHORITY_KEY_TAKEN, other))),
+        Seen::Empty => Ok(Checked::Passes),
+        Seen::Missing => Ok(Checked::Missing(key_cell(alloc, item)?)),
+    }
+}
+
+// The key of the cell that an item's authority key names.
+fn key_cell(alloc: Global, item: &Record) -> Result<CellKey, NoMemory>
+    ensures { IfOk result (λ key. key ≡ Judging.key_cell (akey item.now)) }
+{
+    let (authority, id) = key_of(item).unwrap_or(("", ""));
+    Ok(CellKey::Key(Text::copy_of(alloc, authority)?, Text::copy_of(alloc, id)?))
+}

@@ -1,6 +1,0 @@
-use Rattle.lei_records.specs.Names.{AreRising}
-use Rattle.register_table.proofs.tests.fields_of.Given as goal
-
--- the names so far rise
-abbrev pub invariant-loop-name : goal.invariant-loop-name
-invariant-loop-name l = AreRising l.pairs.items

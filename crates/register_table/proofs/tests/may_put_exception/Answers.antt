@@ -1,8 +1,0 @@
-use Rattle.std.proofs.Common.{◌≡◌, false, sym, ◌∙◌, rules, tests}
-use Rattle.register_table.proofs.TestLemmas.{may_put_exception}
-use Rattle.register_table.proofs.tests.may_put_exception.Goals as goal
-
-pub returns : goal.returns
-returns c = λ tells.
-    let put : c.withdraws.result ≡ false = search (rules, tests) in
-    may_put_exception c.args.table.now c.args.new.now c.held-held.ensures.kept c.lei-code.ensures.row (sym c.withdraws.ensures ∙ put)

@@ -1,0 +1,12 @@
+//! Tests of the register's crates from outside, of what no clause says and no worked example shows. A crate with tests is
+//! proved twice, with them and without, so the large crates have none of their own.
+#![tactic(auto)]
+
+#[cfg(test)]
+mod items;
+#[cfg(test)]
+mod judging;
+#[cfg(test)]
+mod limits;
+#[cfg(test)]
+mod tables;

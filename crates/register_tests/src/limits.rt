@@ -1,0 +1,133 @@
+// What an office answers, where no session of the program shows it: under other limits than the standard ones.
+
+use lei_code::Lei;
+use lei_office::{Call, Limits, Office, Reply, Request, is_upload_number};
+use lei_outside::Bytes;
+use lei_shapes::Moment;
+use std::alloc::Global;
+use std::process::Abort;
+use std::test::Fail;
+use std::thread::Threads;
+
+const ISSUER: &str = "506700GE1G29325QX363";
+
+// 2025-01-11T00:00:00Z.
+const MOMENT: i64 = 1_736_553_600;
+
+// Two issued records, in their compact form with their names in byte order.
+const TWO_RECORDS: &str = concat!(
+    r#"{"records":[{"Entity.EntityCategory":"GENERAL","Entity.EntityStatus":"ACTIVE","#,
+    r#""Entity.HeadquartersAddress.City":"Paris","Entity.HeadquartersAddress.Country":"FR","#,
+    r#""Entity.HeadquartersAddress.FirstAddressLine":"1 Main Street","Entity.LegalAddress.City":"Paris","#,
+    r#""Entity.LegalAddress.Country":"FR","Entity.LegalAddress.FirstAddressLine":"1 Main Street","#,
+    r#""Entity.LegalForm.EntityLegalFormCode":"AB12","Entity.LegalJurisdiction":"FR","Entity.LegalName":"Alpha","#,
+    r#""Entity.RegistrationAuthority.RegistrationAuthorityEntityID":"1001","#,
+    r#""Entity.RegistrationAuthority.RegistrationAuthorityID":"RA000001","LEI":"00000000000000000195","#,
+    r#""Registration.InitialRegistrationDate":"2025-01-10T09:00:00Z","#,
+    r#""Registration.LastUpdateDate":"2025-01-10T09:00:00Z","Registration.ManagingLOU":"506700GE1G29325QX363","#,
+    r#""Registration.NextRenewalDate":"2026-01-10T09:00:00Z","Registration.RegistrationStatus":"ISSUED","#,
+    r#""Registration.ValidationSources":"FULLY_CORROBORATED"},"#,
+    r#"{"Entity.EntityCategory":"GENERAL","Entity.EntityStatus":"ACTIVE","#,
+    r#""Entity.HeadquartersAddress.City":"Paris","Entity.HeadquartersAddress.Country":"FR","#,
+    r#""Entity.HeadquartersAddress.FirstAddressLine":"1 Main Street","Entity.LegalAddress.City":"Paris","#,
+    r#""Entity.LegalAddress.Country":"FR","Entity.LegalAddress.FirstAddressLine":"1 Main Street","#,
+    r#""Entity.LegalForm.EntityLegalFormCode":"AB12","Entity.LegalJurisdiction":"FR","Entity.LegalName":"Beta","#,
+    r#""Entity.RegistrationAuthority.RegistrationAuthorityEntityID":"1002","#,
+    r#""Entity.RegistrationAuthority.RegistrationAuthorityID":"RA000001","LEI":"00000000000000000292","#,
+    r#""Registration.InitialRegistrationDate":"2025-01-10T09:00:00Z","#,
+    r#""Registration.LastUpdateDate":"2025-01-10T09:00:00Z","Registration.ManagingLOU":"506700GE1G29325QX363","#,
+    r#""Registration.NextRenewalDate":"2026-01-10T09:00:00Z","Registration.RegistrationStatus":"ISSUED","#,
+    r#""Registration.ValidationSources":"FULLY_CORROBORATED"}]}"#
+);
+
+// The office answers the request with this status code, a space, and this text or refusal in words.
+fn answers<R: Abort + Threads + Sync>(
+    rt: &R,
+    alloc: Global,
+    office: &mut Office,
+    request: &Request,
+    want: &str,
+) -> Result<(), Fail> {
+    if let Request::Upload(call) = request {
+        if !is_upload_number(call.number) {
+            return Err(Fail::from("a number that uploads may have"));
+        }
+    }
+    let moment = Moment::of(MOMENT).ok_or("a moment")?;
+    let reply = office.answer(rt, request, moment);
+    let told = told(alloc, &reply)?;
+    assert_eq!(rt; told.as_str(), want);
+    Ok(())
+}
+
+fn told(alloc: Global, reply: &Reply) -> Result<String, Fail> {
+    let code = reply.status_code();
+    match reply {
+        Reply::Text { text, .. } => {
+            let text = str::from_utf8(text.as_slice())?;
+            Ok(format!(in alloc; "{code} {text}")?)
+        }
+        Reply::Words(refusal) => Ok(format!(in alloc; "{code} {refusal}")?),
+    }
+}
+
+fn accredits<R: Abort + Threads + Sync>(
+    rt: &R,
+    alloc: Global,
+    office: &mut Office,
+    want: &str,
+) -> Result<(), Fail> {
+    let request = Request::Accredit(Lei::read(ISSUER.as_bytes())?);
+    answers(rt, alloc, office, &request, want)
+}
+
+fn uploads<R: Abort + Threads + Sync>(
+    rt: &R,
+    alloc: Global,
+    office: &mut Office,
+    number: u32,
+    body: &[u8],
+    want: &str,
+) -> Result<(), Fail> {
+    let request = Request::Upload(Call {
+        office: Lei::read(ISSUER.as_bytes())?,
+        number,
+        body: Bytes::copy_of(alloc, body)?,
+    });
+    answers(rt, alloc, office, &request, want)
+}
+
+const LIMITS: Limits = Limits {
+    body: 2_000,
+    kept: 100_000,
+    entries: 3,
+    records: 1,
+};
+
+#[test]
+fn an_office_keeps_to_its_limits(rt: HostRuntime) -> Result<(), Fail> {
+    let mut office = Office::new(rt.alloc(), LIMITS)?;
+    assert_eq!(rt; office.limits(), LIMITS);
+    accredits(
+        &rt,
+        rt.alloc(),
+        &mut office,
+        r#"200 {"entry":1,"issuer":"506700GE1G29325QX363"}"#,
+    )?;
+    uploads(
+        &rt,
+        rt.alloc(),
+        &mut office,
+        1,
+        TWO_RECORDS.as_bytes(),
+        r#"200 {"entry":2,"issuer":"506700GE1G29325QX363","items":["ACCEPTED","C20 REGISTER_FULL"],"number":1}"#,
+    )?;
+    uploads(
+        &rt,
+        rt.alloc(),
+        &mut office,
+        2,
+        &[b' '; 2_001],
+        "413 TOO_LONG",
+    )
+}

@@ -1,5 +1,0 @@
-use Rattle.lei_records.proofs.CellLemmas.{exception_category_in-is}
-use Rattle.relation_rules.proofs.checks.category_of.Goals as goal
-
-pub returns : goal.returns
-returns c = exception_category_in-is c.args.item.now.0 c.category.result c.category.ensures

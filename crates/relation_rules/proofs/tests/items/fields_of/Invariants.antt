@@ -1,6 +1,0 @@
-use Rattle.lei_records.specs.Names.{AreRising}
-use Rattle.relation_rules.proofs.tests.items.fields_of.Given as goal
-
--- the names so far rise
-abbrev pub invariant-loop-line : goal.invariant-loop-line
-invariant-loop-line l = AreRising l.pairs.items
