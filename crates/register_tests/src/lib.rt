@@ -9,4 +9,6 @@ mod judging;
 #[cfg(test)]
 mod limits;
 #[cfg(test)]
+mod runs;
+#[cfg(test)]
 mod tables;
