@@ -3,10 +3,11 @@ use Rattle.std.specs.Prelude.{ℕ, ◌+◌, ◌-◌, ◌/◌, ◌%◌, [], ◌�
 use Rattle.lei_code.specs.Number.{number}
 use Rattle.lei_code.specs.Texts.{Text}
 
--- a number below 100 in two digits
+-- A number below 100 in two digits.
 abbrev pub two_digits : ℕ → Text
 two_digits n = (48 + n / 10) ∷ (48 + n % 10) ∷ []
 
--- 98 less the remainder by 97 of the number of the text with `00` behind it
+-- The two check digits of the first 18 characters: 98 less the remainder by 97 of the number of the text with `00` behind
+-- it (ISO/IEC 7064, MOD 97-10).
 unfoldable pub digits : Text → Text
 digits text = two_digits (98 - number (text ++ codes "00") % 97)

@@ -4,14 +4,14 @@ use Rattle.std.specs.Prelude.{ℕ, ◌+◌, ◌-◌, ◌*◌, ◌/◌, ◌%◌, 
 use Rattle.std.specs.Char.{is_ascii_digit}
 use Rattle.lei_code.specs.Texts.{Text}
 
--- the decimal digits that replace a character: a digit's own value, and two digits for a letter (A is 10, Z is 35)
+-- The decimal digits that replace a character: a digit's own value, and two digits for a letter (A is 10, Z is 35).
 abbrev pub spelled : ℕ → List ℕ
 spelled c = if is_ascii_digit c then (c - 48) ∷ [] else (c - 55) / 10 ∷ (c - 55) % 10 ∷ []
 
--- the number that decimal digits write, the first of them the highest
+-- The number that decimal digits write, the first of them the highest.
 abbrev pub decimal : List ℕ → ℕ
 decimal digits = fold (λ n digit. 10 * n + digit) 0 digits
 
--- the number that stands when each letter of the text is replaced by its two digits
+-- The number that stands when each letter of the text is replaced by its two digits.
 unfoldable pub number : Text → ℕ
 number text = decimal (flat_map spelled text)

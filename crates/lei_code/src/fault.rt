@@ -9,7 +9,7 @@ use std::fmt;
 pub enum LeiFault {
     /// It hasn't 20 bytes.
     Length,
-    /// The first place, counted from 1, with a character that may not stand there.
+    /// The first position, counted from 1, with a character that may not stand there.
     Character(u8),
     /// Its number doesn't leave 1 when divided by 97.
     CheckDigits,
@@ -21,8 +21,8 @@ impl fmt::Display for LeiFault {
     fn fmt<W: fmt::Write>(&self, f: &mut fmt::Formatter<W>) -> fmt::Result {
         match self {
             LeiFault::Length => write!(f, "a code has 20 characters"),
-            LeiFault::Character(place) => {
-                write!(f, "the character at place {place} may not stand there")
+            LeiFault::Character(position) => {
+                write!(f, "the character at place {position} may not stand there")
             }
             LeiFault::CheckDigits => write!(f, "the check digits are wrong"),
         }

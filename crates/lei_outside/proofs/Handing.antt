@@ -2,10 +2,10 @@
 use Rattle.std.proofs.Common.{◌≡◌, ℕ, ◌-◌, ◌<◌, List, [], ◌++◌, length, take, drop, refl, sym, ◌∙◌, ap, subst, arith, append_assoc, length-append, length-drop, take-append-drop}
 use Rattle.std.specs.Prelude.{Option}
 use Rattle.std.proofs.lemmas.List.{append-nil, take_at, take_all}
-use Rattle.lei_outside.specs.Told.{Grows, TakesFront}
+use Rattle.lei_outside.specs.Told.{Grows, WritesFront}
 use Rattle.lei_outside.proofs.Told.{Grows-none, Grows-join}
 
--- a front of the piece was taken, and this is left of it
+-- a front of the piece was written, and this is left of it
 pub record Handed (old new : Option (List ℕ)) (piece left : List ℕ) : Type 0 where
   pub front : List ℕ
   pub split : front ++ left ≡ piece
@@ -32,7 +32,7 @@ handed_all old new piece left so_far none =
     subst (λ (l : List ℕ). Grows old new l) whole so_far.grows
 
 -- a write failed while some was left
-pub handed_front : (old mid new : Option (List ℕ)) (piece left : List ℕ) → Handed old mid piece left → 0 < length left → Grows mid new [] → TakesFront old new piece
+pub handed_front : (old mid new : Option (List ℕ)) (piece left : List ℕ) → Handed old mid piece left → 0 < length left → Grows mid new [] → WritesFront old new piece
 handed_front old mid new piece left so_far some stays =
     let front : so_far.front ≡ take (length so_far.front) piece = sym (take_at so_far.front left (length so_far.front) refl) ∙ ap (λ (l : List ℕ). take (length so_far.front) l) so_far.split in
     let same : Grows old new (so_far.front ++ []) = Grows-join old mid new so_far.front [] so_far.grows stays in

@@ -2,7 +2,7 @@
 -- 1970-01-01T00:00:00Z and negative before it.
 use Rattle.std.specs.Prelude.{◌≡◌, ℕ, ◌-◌, ◌^◌, ◌==◌, if◌then◌else◌, ℤ, pos, neg_ℤ, ◌≤ℤ◌, List, ◌++◌, length, get_or, take, replicate, Option, None, Some}
 
--- a clock's moment lies from 0001-01-01T00:00:00Z to 9998-12-31T23:59:59Z
+-- A clock's moment lies from 0001-01-01T00:00:00Z to 9998-12-31T23:59:59Z.
 abbrev pub IsClockMoment : ℤ → Type 0
 IsClockMoment seconds = (neg_ℤ (pos 62_135_596_800) ≤ℤ seconds) × (seconds ≤ℤ pos 253_370_764_799)
 
@@ -16,23 +16,23 @@ Gave (Some old) (Some new) moments = new ≡ old ++ moments
 
 -- ---- a clock in memory
 
--- the moments that a clock has, and how often it was asked
+-- A clock in memory: the moments that it has, and how often it was asked.
 pub record ClockState : Type 0 where
   pub moments : List ℤ
   pub calls : ℕ
 
--- the last moment of a list, 0 for none
+-- The last moment of a list, and 0 where it has none.
 abbrev pub last_moment : List ℤ → ℤ
 last_moment moments = get_or moments (length moments - 1) (pos 0)
 
--- the moment that comes after so many: the next of the list, and behind the list its last one again
+-- The moment that comes after so many calls: the next of the list, and behind the list its last one again.
 abbrev pub moment_after : List ℤ → ℕ → ℤ
 moment_after moments calls = get_or moments calls (last_moment moments)
 
--- the first so many moments
+-- The moments of the first so many calls.
 abbrev pub first_moments : List ℤ → ℕ → List ℤ
 first_moments moments calls = take calls moments ++ replicate (calls - length moments) (last_moment moments)
 
--- the moments that were given, as long as the calls are counted
+-- The moments that a clock gave, as long as its calls are counted.
 abbrev pub given_by : ClockState → Option (List ℤ)
 given_by clock = if clock.calls == 2 ^ 64 - 1 then None else Some (first_moments clock.moments clock.calls)

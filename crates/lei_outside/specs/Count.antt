@@ -1,10 +1,10 @@
 -- Counts that a device keeps in 64 bits: they stand still at their last value.
 use Rattle.std.specs.Prelude.{ℕ, ◌+◌, ◌-◌, ◌^◌, ◌≤◌, min}
 
--- one more, or the last value
+-- A count of one more; at its last value it stands still.
 abbrev pub counted : ℕ → ℕ
 counted before = min (before + 1) (2 ^ 64 - 1)
 
--- the count is greater than before, or stands at its last value
+-- The count is greater than before, or stands at its last value.
 abbrev pub Rose : ℕ → ℕ → Type 0
 Rose before now = counted before ≤ now

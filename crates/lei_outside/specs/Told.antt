@@ -26,12 +26,12 @@ Reads old new result buffer = MatchResult result
     (λ n. (n ≤ length buffer) × Loses old new (take n buffer) × (n ≡ 0 → IsAtEnd new))
     (λ _. Loses old new [])
 
--- A write took a front of the piece, at least a byte. A failed one took nothing.
+-- A write wrote a front of the piece, at least a byte. A failed one wrote nothing.
 abbrev pub Writes : {E : Type 0} → Option (List ℕ) → Option (List ℕ) → Result ℕ E → List ℕ → Type 0
 Writes old new result piece = MatchResult result
     (λ n. (0 < n) × (n ≤ length piece) × Grows old new (take n piece))
     (λ _. Grows old new [])
 
--- A front of the piece was taken, and not all of it.
-abbrev pub TakesFront : Option (List ℕ) → Option (List ℕ) → List ℕ → Type 0
-TakesFront old new piece = (n : ℕ) × (n < length piece) × Grows old new (take n piece)
+-- A front of the piece was written, and not all of it.
+abbrev pub WritesFront : Option (List ℕ) → Option (List ℕ) → List ℕ → Type 0
+WritesFront old new piece = (n : ℕ) × (n < length piece) × Grows old new (take n piece)

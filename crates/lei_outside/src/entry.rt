@@ -8,9 +8,9 @@ pub struct KeptEntry {
     pub seq: u64,
     /// What was asked for: 1 for ACCREDIT, 2 for UPLOAD.
     pub kind: u8,
-    /// The office that asked, by the 20 bytes of its LEI.
+    /// The issuer that asked, by the 20 bytes of its LEI.
     pub office: Bytes,
-    /// The number that the office gave its upload, 0 for ACCREDIT.
+    /// The number that the issuer gave its upload, 0 for ACCREDIT.
     pub number: u32,
     /// The entry's moment, in seconds since 1970 in UTC.
     pub moment: i64,

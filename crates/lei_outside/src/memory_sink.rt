@@ -22,7 +22,7 @@ impl Model for SureSink {
 
     ghost Value = { SureSinkState };
 
-    ghost view = { λ s. record { taken = s.bytes.items; most = s.most } };
+    ghost view = { λ s. record { written = s.bytes.items; most = s.most } };
 
     ghost invariant = { λ s. 1 ≤ s.most };
 }
@@ -31,7 +31,7 @@ impl SureSink {
     /// A sink that takes at most `most` bytes a write.
     pub fn new(alloc: Global, most: usize) -> Self
         requires { 1 ≤ most }
-        ensures { result ≡ record { taken = []; most = most } }
+        ensures { result ≡ record { written = []; most = most } }
     {
         SureSink {
             bytes: Vec::new(alloc),
@@ -39,26 +39,26 @@ impl SureSink {
         }
     }
 
-    /// The bytes that were taken.
-    pub fn taken(&self) -> &[u8]
-        ensures { result.now ≡ self.now.taken }
+    /// The bytes that were written.
+    pub fn written(&self) -> &[u8]
+        ensures { result.now ≡ self.now.written }
     {
         self.bytes.as_slice()
     }
 }
 
 impl Sink for SureSink {
-    ghost taken = { λ s. Some s.taken };
+    ghost written = { λ s. Some s.written };
 
     ghost faults = { λ _. 0 };
 
     fn write(&mut self, piece: &[u8]) -> Result<usize, SinkFault>
         requires { 0 < length piece.now }
-        ensures bytes { Writes (Some self.old.taken) (Some self.new.taken) result piece.now }
+        ensures bytes { Writes (Some self.old.written) (Some self.new.written) result piece.now }
         ensures sure { IsErrOf result SinkFault.Failed → ⊥ }
         ensures size { IfOk result (λ n. n ≡ min self.old.most (length piece.now)) }
         ensures ok { IfOk result (λ n.
-            self.new ≡ record self.old { taken = self.old.taken ++ take n piece.now }) }
+            self.new ≡ record self.old { written = self.old.written ++ take n piece.now }) }
         ensures no_memory { IsErrOf result SinkFault.NoMemory → self.new ≡ self.old }
     {
         let size = self.most.min(piece.len());
@@ -79,7 +79,7 @@ impl Model for ByteSink {
 
     ghost Value = { SinkState };
 
-    ghost view = { λ s. record { taken = s.sink.taken; most = s.sink.most; failing = s.calls.failing; calls = s.calls.count; faults = s.calls.faults } };
+    ghost view = { λ s. record { written = s.sink.written; most = s.sink.most; failing = s.calls.failing; calls = s.calls.count; faults = s.calls.faults } };
 }
 
 impl ByteSink {
@@ -87,7 +87,7 @@ impl ByteSink {
     /// first write has the number 1. A write that finds no memory counts as one.
     pub fn new(alloc: Global, most: usize, failing: List<u64>) -> Self
         requires { 1 ≤ most }
-        ensures { result ≡ record { taken = []; most = most; failing = failing; calls = 0; faults = 0 } }
+        ensures { result ≡ record { written = []; most = most; failing = failing; calls = 0; faults = 0 } }
     {
         ByteSink {
             sink: SureSink::new(alloc, most),
@@ -95,11 +95,11 @@ impl ByteSink {
         }
     }
 
-    /// The bytes that were taken.
-    pub fn taken(&self) -> &[u8]
-        ensures { result.now ≡ self.now.taken }
+    /// The bytes that were written.
+    pub fn written(&self) -> &[u8]
+        ensures { result.now ≡ self.now.written }
     {
-        self.sink.taken()
+        self.sink.written()
     }
 
     /// How many writes have failed. It stands still at `u64::MAX`.
@@ -111,20 +111,20 @@ impl ByteSink {
 }
 
 impl Sink for ByteSink {
-    ghost taken = { λ s. Some s.taken };
+    ghost written = { λ s. Some s.written };
 
     ghost faults = { λ s. s.faults };
 
     fn write(&mut self, piece: &[u8]) -> Result<usize, SinkFault>
         requires { 0 < length piece.now }
-        ensures bytes { Writes (Some self.old.taken) (Some self.new.taken) result piece.now }
+        ensures bytes { Writes (Some self.old.written) (Some self.new.written) result piece.now }
         ensures count { self.old.faults ≤ self.new.faults }
         ensures failed { IsErrOf result SinkFault.Failed → Rose self.old.faults self.new.faults }
 
         ensures fails { IsErrOf result SinkFault.Failed ↔ FailsNext self.old.failing self.old.calls }
         ensures size { IfOk result (λ n. n ≡ min self.old.most (length piece.now)) }
         ensures ok { IfOk result (λ n.
-            self.new ≡ record self.old { taken = self.old.taken ++ take n piece.now; calls = counted self.old.calls }) }
+            self.new ≡ record self.old { written = self.old.written ++ take n piece.now; calls = counted self.old.calls }) }
         ensures fault { IsErrOf result SinkFault.Failed →
             self.new ≡ record self.old { calls = counted self.old.calls; faults = counted self.old.faults } }
         ensures no_memory { IsErrOf result SinkFault.NoMemory →

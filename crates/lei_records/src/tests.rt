@@ -1,15 +1,12 @@
-// What items come to by the checks of their fields. The relationship is the standard one of the profile of uploads, with
-// moments of another offset and an end.
+// What items come to by the checks of their fields, and their copies, while there is memory. The relationship is the
+// standard one of the profile of uploads, with moments of another offset and an end.
 ghost use Rattle.std.specs.Prelude.{◌≡◌};
 ghost use Rattle.std.specs.List.{list_all};
 ghost use Rattle.std.specs.Cmp.Lexicographic.{slice_cmp};
 ghost use Rattle.std.specs.Ordering.{is_lt, nat_cmp};
 
-use crate::{ExceptionItem, Fields, Item, Kind, RawItem, Readied, RelCell, Relation, ready};
+use crate::{Fields, Item, Kind, RawItem, Readied, ready};
 use lei_outside::Text;
-use lei_shapes::{
-    ExceptionCategory, Moment, Reason, RelationRegistration, RelationStatus, RelationType,
-};
 use std::alloc::{AllocError, Global};
 use std::test::Fail;
 
@@ -110,86 +107,22 @@ fn told_of(alloc: Global, kind: Kind, lines: &str) -> Result<String, Fail> {
 #[test]
 fn items_of_each_kind_with_one_change(rt: HostRuntime) -> Result<(), Fail> {
     let alloc = rt.alloc();
+    // The kind, the text that is changed, what it is changed to, and what the item is told to be.
     let table = [
         (Kind::Record, "Alpha", "Alpha", "record"),
         (Kind::Relation, "ACTIVE", "ACTIVE", "relationship"),
         (Kind::Exception, "PUT", "PUT", "exception"),
         (
-            Kind::Relation,
-            "Relationship.EndDate=2026-01-10T09:00:00Z\n",
-            "",
-            "relationship",
+            Kind::Exception,
+            "PUT\nExceptionCategory=DIRECT_ACCOUNTING_CONSOLIDATION_PARENT\nExceptionReason=NON_CONSOLIDATING",
+            "WITHDRAW\nExceptionCategory=DIRECT_ACCOUNTING_CONSOLIDATION_PARENT",
+            "withdrawal",
         ),
-        // C01: a field of another kind is none of this one.
         (
             Kind::Record,
             "Entity.EntityCategory",
             "Action=PUT\nEntity.EntityCategory",
             "C01 FIELD_UNKNOWN Action",
-        ),
-        (
-            Kind::Relation,
-            "Registration.Init",
-            "Action=PUT\nRegistration.Init",
-            "C01 FIELD_UNKNOWN Action",
-        ),
-        (
-            Kind::Exception,
-            "Action=PUT\n",
-            "Action=PUT\nEntity.LegalName=\n",
-            "C01 FIELD_UNKNOWN Entity.LegalName",
-        ),
-        // C02
-        (
-            Kind::Relation,
-            "00000000000000000292",
-            "",
-            "C02 FIELD_MISSING Relationship.EndNode",
-        ),
-        (
-            Kind::Exception,
-            "LEI=00000000000000000195\n",
-            "",
-            "C02 FIELD_MISSING LEI",
-        ),
-        // C03
-        (
-            Kind::Relation,
-            "PUBLISHED",
-            "PENDING_ARCHIVAL",
-            "C03 FIELD_SHAPE Registration.RegistrationStatus",
-        ),
-        (
-            Kind::Relation,
-            "2026-01-10T09:00:00Z",
-            "2026-01-10",
-            "C03 FIELD_SHAPE Relationship.EndDate",
-        ),
-        (
-            Kind::Exception,
-            "DIRECT_ACC",
-            "ACC",
-            "C03 FIELD_SHAPE ExceptionCategory",
-        ),
-        // C04
-        (
-            Kind::Relation,
-            "00000000000000000292",
-            "00000000000000000293",
-            "C04 CHECK_DIGITS Relationship.EndNode",
-        ),
-        (
-            Kind::Exception,
-            "00000000000000000195",
-            "00000000000000000196",
-            "C04 CHECK_DIGITS LEI",
-        ),
-        // The check of the least number comes first, and then the field of the least place.
-        (
-            Kind::Relation,
-            "Relationship.EndNode=00000000000000000292\n",
-            "Relationship.EndNod=\n",
-            "C01 FIELD_UNKNOWN Relationship.EndNod",
         ),
         (
             Kind::Relation,
@@ -202,6 +135,12 @@ fn items_of_each_kind_with_one_change(rt: HostRuntime) -> Result<(), Fail> {
             "ACTIVE\nRelationship.RelationshipType=IS_",
             "WAS\nRelationship.RelationshipType=WAS_",
             "C03 FIELD_SHAPE Relationship.RelationshipType",
+        ),
+        (
+            Kind::Exception,
+            "00000000000000000195",
+            "00000000000000000196",
+            "C04 CHECK_DIGITS LEI",
         ),
     ];
     for (kind, old, new, want) in table {
@@ -217,99 +156,15 @@ fn items_of_each_kind_with_one_change(rt: HostRuntime) -> Result<(), Fail> {
 }
 
 #[test]
-fn the_same_exception_put_and_withdrawn(rt: HostRuntime) -> Result<(), Fail> {
+fn a_row_has_printed_moments_and_a_copy_is_the_same(rt: HostRuntime) -> Result<(), Fail> {
     let alloc = rt.alloc();
-    // The action, the reason and the reference with their names or without.
-    let table = [
-        ("", "ExceptionReason=NO_LEI\n", "7", "exception"),
-        ("Action=\n", "ExceptionReason=NO_LEI\n", "7", "exception"),
-        ("Action=PUT\n", "ExceptionReason=NO_LEI\n", "7", "exception"),
-        (
-            "Action=WITHDRAW\n",
-            "ExceptionReason=NO_LEI\n",
-            "7",
-            "withdrawal",
-        ),
-        // The reason is needed, but for a withdrawal.
-        ("", "", "7", "C02 FIELD_MISSING ExceptionReason"),
-        (
-            "Action=PUT\n",
-            "ExceptionReason=\n",
-            "7",
-            "C02 FIELD_MISSING ExceptionReason",
-        ),
-        ("Action=WITHDRAW\n", "", "7", "withdrawal"),
-        ("Action=WITHDRAW\n", "ExceptionReason=\n", "7", "withdrawal"),
-        // What stands has its shape, in a withdrawal too.
-        (
-            "",
-            "ExceptionReason=NONE\n",
-            "7",
-            "C03 FIELD_SHAPE ExceptionReason",
-        ),
-        (
-            "Action=WITHDRAW\n",
-            "ExceptionReason=NONE\n",
-            "7",
-            "C03 FIELD_SHAPE ExceptionReason",
-        ),
-        (
-            "Action=WITHDRAW\n",
-            "",
-            "\u{7f}",
-            "C03 FIELD_SHAPE ExceptionReference",
-        ),
-        // Another action is no withdrawal.
-        (
-            "Action=TAKE\n",
-            "ExceptionReason=NO_LEI\n",
-            "7",
-            "C03 FIELD_SHAPE Action",
-        ),
-        (
-            "Action=TAKE\n",
-            "",
-            "7",
-            "C02 FIELD_MISSING ExceptionReason",
-        ),
-        (
-            "Action=withdraw\n",
-            "ExceptionReason=NO_LEI\n",
-            "7",
-            "C03 FIELD_SHAPE Action",
-        ),
-    ];
-    for (action, reason, reference, want) in table {
-        let category = "ExceptionCategory=ULTIMATE_ACCOUNTING_CONSOLIDATION_PARENT\n";
-        let lines = format!(in alloc;
-            "{action}{category}{reason}ExceptionReference={reference}\nLEI=00000000000000000195"
-        )?;
-        assert_eq!(rt;
-            told_of(alloc, Kind::Exception, &lines)?.as_str(),
-            want,
-            "{action}{reason}"
-        );
-    }
-    Ok(())
-}
-
-fn relation_of(alloc: Global, lines: &str) -> Result<Relation, Fail> {
-    match ready(alloc, &raw_of(alloc, Kind::Relation, lines)?)? {
-        Readied::Good(Item::Relation(relation)) => Ok(relation),
-        _ => Err(Fail::from("a relationship")),
-    }
-}
-
-fn exception_of(alloc: Global, lines: &str) -> Result<ExceptionItem, Fail> {
-    match ready(alloc, &raw_of(alloc, Kind::Exception, lines)?)? {
-        Readied::Good(Item::Exception(item)) => Ok(item),
-        _ => Err(Fail::from("an exception")),
-    }
-}
-
-#[test]
-fn a_relationship_has_its_row_and_its_parts(rt: HostRuntime) -> Result<(), Fail> {
-    let relation = relation_of(rt.alloc(), RELATION)?;
+    let Readied::Good(item) = ready(alloc, &raw_of(alloc, Kind::Relation, RELATION)?)? else {
+        return Err(Fail::from("a relationship"));
+    };
+    assert_eq!(rt; item.copy(alloc)?, item);
+    let Item::Relation(relation) = item else {
+        return Err(Fail::from("a relationship"));
+    };
     let row = [
         "00000000000000000195",
         "IS_DIRECTLY_CONSOLIDATED_BY",
@@ -326,49 +181,5 @@ fn a_relationship_has_its_row_and_its_parts(rt: HostRuntime) -> Result<(), Fail>
     for (index, want) in row.iter().enumerate() {
         assert_eq!(rt; relation.field(index as u8 + 1), *want, "at {index}");
     }
-    let copy = relation.copy(rt.alloc())?;
-    for (code, place) in [(copy.start(), 1), (copy.end(), 3), (copy.manager(), 10)] {
-        assert_eq!(rt; code.as_str(), row[place - 1], "at {place}");
-    }
-    for (moment, place) in [
-        (Some(copy.start_date()), 5),
-        (copy.end_date(), 6),
-        (Some(copy.initial()), 7),
-        (Some(copy.updated()), 8),
-    ] {
-        assert_eq!(rt; moment, Moment::read(row[place - 1]), "at {place}");
-    }
-    let cell = RelCell {
-        status: RelationStatus::Active,
-        registration: RelationRegistration::Published,
-    };
-    assert_eq!(rt;
-        (copy.kind(), copy.cell()),
-        (RelationType::IsDirectlyConsolidatedBy, cell)
-    );
-    Ok(())
-}
-
-#[test]
-fn an_exception_has_its_row_and_its_parts(rt: HostRuntime) -> Result<(), Fail> {
-    let item = exception_of(rt.alloc(), EXCEPTION)?;
-    let row = [
-        "00000000000000000195",
-        "DIRECT_ACCOUNTING_CONSOLIDATION_PARENT",
-        "NON_CONSOLIDATING",
-        "Note 7",
-    ];
-    for (index, want) in row.iter().enumerate() {
-        assert_eq!(rt; item.field(index as u8 + 1), *want, "at {index}");
-    }
-    let copy = item.copy(rt.alloc())?;
-    let lei = copy.lei();
-    assert_eq!(rt; lei.as_str(), row[0]);
-    assert_eq!(rt;
-        copy.category(),
-        ExceptionCategory::DirectAccountingConsolidationParent
-    );
-    assert_eq!(rt; copy.reason(), Some(Reason::NonConsolidating));
-    assert_eq!(rt; copy.withdraws(), false);
     Ok(())
 }

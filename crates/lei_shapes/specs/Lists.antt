@@ -1,7 +1,7 @@
--- The lists of values. Each has one table, the text of every value, which is compared byte for
--- byte, as in the Common Data File formats of the Global LEI System. What a text reads as follows
--- from the table.
-use Rattle.std.specs.Prelude.{◌≡◌, ◌≢◌, ℕ, List, [], ◌∷◌, Option, Some, MatchOption, find, bytes_eq, codes}
+-- The lists of values. Each has one table, the text of every value, which is compared byte for byte, as in the Common Data
+-- File formats of the Global LEI System. What a text reads as follows from the table.
+use Rattle.std.specs.Prelude.{◌≡◌, ◌≢◌, List, [], ◌∷◌, Option, Some, MatchOption, find, bytes_eq, codes}
+use Rattle.lei_code.specs.Texts.{Text}
 use Rattle.lei_shapes.specs.declared.lists.RecordStatus.{RecordStatus}
 use Rattle.lei_shapes.specs.declared.lists.EntityStatus.{EntityStatus}
 use Rattle.lei_shapes.specs.declared.lists.Category.{Category}
@@ -12,26 +12,25 @@ use Rattle.lei_shapes.specs.declared.lists.RelationRegistration.{RelationRegistr
 use Rattle.lei_shapes.specs.declared.lists.ExceptionCategory.{ExceptionCategory}
 use Rattle.lei_shapes.specs.declared.lists.Reason.{Reason}
 
--- the first of the values that has this text
-abbrev pub named : {V : Type 0} → (V → List ℕ) → List V → List ℕ → Option V
+-- The first of the values that has this text, if one does.
+abbrev pub named : {V : Type 0} → (V → Text) → List V → Text → Option V
 named text_of values text = find (λ v. bytes_eq (text_of v) text) values
 
--- what a text reads as by a table: the value whose text it is, and none exactly where no value has
--- this text
-abbrev pub IsReadBy : {V : Type 0} → (V → List ℕ) → List ℕ → Option V → Type 0
+-- A text reads by a table as the value whose text it is, and as none exactly where no value has this text.
+abbrev pub IsReadBy : {V : Type 0} → (V → Text) → Text → Option V → Type 0
 IsReadBy {V} text_of text read =
     MatchOption read ((v : V) → text_of v ≢ text) (λ v. text_of v ≡ text)
 
--- the text of each value reads as that value
-abbrev pub ReadsBack : {V : Type 0} → (V → List ℕ) → (List ℕ → Option V) → Type 0
+-- The text of each value reads as that value.
+abbrev pub ReadsBack : {V : Type 0} → (V → Text) → (Text → Option V) → Type 0
 ReadsBack {V} text_of read = (value : V) → read (text_of value) ≡ Some value
 
--- two values have two texts
-abbrev pub HasTextEach : {V : Type 0} → (V → List ℕ) → Type 0
+-- Two values have two texts.
+abbrev pub HasTextEach : {V : Type 0} → (V → Text) → Type 0
 HasTextEach {V} text_of = (a b : V) → text_of a ≡ text_of b → a ≡ b
 
--- the registration status of a record
-abbrev pub record_status_text : RecordStatus → List ℕ
+-- How the registration status of a record is written.
+abbrev pub record_status_text : RecordStatus → Text
 record_status_text RecordStatus.Issued = codes "ISSUED"
 record_status_text RecordStatus.Lapsed = codes "LAPSED"
 record_status_text RecordStatus.PendingTransfer = codes "PENDING_TRANSFER"
@@ -40,30 +39,34 @@ record_status_text RecordStatus.Retired = codes "RETIRED"
 record_status_text RecordStatus.Duplicate = codes "DUPLICATE"
 record_status_text RecordStatus.Annulled = codes "ANNULLED"
 
+-- Each status of a record that there is.
 abbrev pub record_statuses : List RecordStatus
 record_statuses =
     RecordStatus.Issued ∷ RecordStatus.Lapsed ∷ RecordStatus.PendingTransfer
     ∷ RecordStatus.PendingArchival ∷ RecordStatus.Retired ∷ RecordStatus.Duplicate
     ∷ RecordStatus.Annulled ∷ []
 
-abbrev pub record_status_of : List ℕ → Option RecordStatus
+-- The status of a record that a text writes, if it does.
+abbrev pub record_status_of : Text → Option RecordStatus
 record_status_of = named record_status_text record_statuses
 
--- whether the entity itself is active
-abbrev pub entity_status_text : EntityStatus → List ℕ
+-- How it is written whether the entity itself is active.
+abbrev pub entity_status_text : EntityStatus → Text
 entity_status_text EntityStatus.Active = codes "ACTIVE"
 entity_status_text EntityStatus.Inactive = codes "INACTIVE"
 entity_status_text EntityStatus.Null = codes "NULL"
 
+-- Each entity status that there is.
 abbrev pub entity_statuses : List EntityStatus
 entity_statuses =
     EntityStatus.Active ∷ EntityStatus.Inactive ∷ EntityStatus.Null ∷ []
 
-abbrev pub entity_status_of : List ℕ → Option EntityStatus
+-- The entity status that a text writes, if it does.
+abbrev pub entity_status_of : Text → Option EntityStatus
 entity_status_of = named entity_status_text entity_statuses
 
--- what kind of entity it is
-abbrev pub category_text : Category → List ℕ
+-- How the category of an entity is written.
+abbrev pub category_text : Category → Text
 category_text Category.General = codes "GENERAL"
 category_text Category.Branch = codes "BRANCH"
 category_text Category.Fund = codes "FUND"
@@ -71,31 +74,35 @@ category_text Category.SoleProprietor = codes "SOLE_PROPRIETOR"
 category_text Category.ResidentGovernmentEntity = codes "RESIDENT_GOVERNMENT_ENTITY"
 category_text Category.InternationalOrganization = codes "INTERNATIONAL_ORGANIZATION"
 
+-- Each category that there is.
 abbrev pub categories : List Category
 categories =
     Category.General ∷ Category.Branch ∷ Category.Fund ∷ Category.SoleProprietor
     ∷ Category.ResidentGovernmentEntity ∷ Category.InternationalOrganization ∷ []
 
-abbrev pub category_of : List ℕ → Option Category
+-- The category that a text writes, if it does.
+abbrev pub category_of : Text → Option Category
 category_of = named category_text categories
 
--- how far the data were corroborated
-abbrev pub validation_text : Validation → List ℕ
+-- How it is written how far the data were corroborated.
+abbrev pub validation_text : Validation → Text
 validation_text Validation.Pending = codes "PENDING"
 validation_text Validation.EntitySuppliedOnly = codes "ENTITY_SUPPLIED_ONLY"
 validation_text Validation.PartiallyCorroborated = codes "PARTIALLY_CORROBORATED"
 validation_text Validation.FullyCorroborated = codes "FULLY_CORROBORATED"
 
+-- Each validation that there is.
 abbrev pub validations : List Validation
 validations =
     Validation.Pending ∷ Validation.EntitySuppliedOnly ∷ Validation.PartiallyCorroborated
     ∷ Validation.FullyCorroborated ∷ []
 
-abbrev pub validation_of : List ℕ → Option Validation
+-- The validation that a text writes, if it does.
+abbrev pub validation_of : Text → Option Validation
 validation_of = named validation_text validations
 
--- how the start of a relationship is related to its end
-abbrev pub relation_type_text : RelationType → List ℕ
+-- How the type of a relationship is written: how its start is related to its end.
+abbrev pub relation_type_text : RelationType → Text
 relation_type_text RelationType.IsDirectlyConsolidatedBy = codes "IS_DIRECTLY_CONSOLIDATED_BY"
 relation_type_text RelationType.IsUltimatelyConsolidatedBy = codes "IS_ULTIMATELY_CONSOLIDATED_BY"
 relation_type_text RelationType.IsInternationalBranchOf = codes "IS_INTERNATIONAL_BRANCH_OF"
@@ -103,60 +110,68 @@ relation_type_text RelationType.IsFundManagedBy = codes "IS_FUND-MANAGED_BY"
 relation_type_text RelationType.IsSubfundOf = codes "IS_SUBFUND_OF"
 relation_type_text RelationType.IsFeederTo = codes "IS_FEEDER_TO"
 
+-- Each type of a relationship that there is.
 abbrev pub relation_types : List RelationType
 relation_types =
     RelationType.IsDirectlyConsolidatedBy ∷ RelationType.IsUltimatelyConsolidatedBy
     ∷ RelationType.IsInternationalBranchOf ∷ RelationType.IsFundManagedBy
     ∷ RelationType.IsSubfundOf ∷ RelationType.IsFeederTo ∷ []
 
-abbrev pub relation_type_of : List ℕ → Option RelationType
+-- The type of a relationship that a text writes, if it does.
+abbrev pub relation_type_of : Text → Option RelationType
 relation_type_of = named relation_type_text relation_types
 
--- whether the relationship holds
-abbrev pub relation_status_text : RelationStatus → List ℕ
+-- How it is written whether a relationship holds.
+abbrev pub relation_status_text : RelationStatus → Text
 relation_status_text RelationStatus.Active = codes "ACTIVE"
 relation_status_text RelationStatus.Inactive = codes "INACTIVE"
 
+-- Each status of a relationship that there is.
 abbrev pub relation_statuses : List RelationStatus
 relation_statuses =
     RelationStatus.Active ∷ RelationStatus.Inactive ∷ []
 
-abbrev pub relation_status_of : List ℕ → Option RelationStatus
+-- The status of a relationship that a text writes, if it does.
+abbrev pub relation_status_of : Text → Option RelationStatus
 relation_status_of = named relation_status_text relation_statuses
 
--- the registration status of a relationship
-abbrev pub relation_registration_text : RelationRegistration → List ℕ
+-- How the registration status of a relationship is written.
+abbrev pub relation_registration_text : RelationRegistration → Text
 relation_registration_text RelationRegistration.Issued = codes "ISSUED"
 relation_registration_text RelationRegistration.Published = codes "PUBLISHED"
 relation_registration_text RelationRegistration.Lapsed = codes "LAPSED"
 relation_registration_text RelationRegistration.Retired = codes "RETIRED"
 relation_registration_text RelationRegistration.Annulled = codes "ANNULLED"
 
+-- Each registration status of a relationship that there is.
 abbrev pub relation_registrations : List RelationRegistration
 relation_registrations =
     RelationRegistration.Issued ∷ RelationRegistration.Published ∷ RelationRegistration.Lapsed
     ∷ RelationRegistration.Retired ∷ RelationRegistration.Annulled ∷ []
 
-abbrev pub relation_registration_of : List ℕ → Option RelationRegistration
+-- The registration status of a relationship that a text writes, if it does.
+abbrev pub relation_registration_of : Text → Option RelationRegistration
 relation_registration_of = named relation_registration_text relation_registrations
 
--- which parent a reporting exception speaks of
-abbrev pub exception_category_text : ExceptionCategory → List ℕ
+-- How the category of a reporting exception is written: which parent it speaks of.
+abbrev pub exception_category_text : ExceptionCategory → Text
 exception_category_text ExceptionCategory.DirectAccountingConsolidationParent =
     codes "DIRECT_ACCOUNTING_CONSOLIDATION_PARENT"
 exception_category_text ExceptionCategory.UltimateAccountingConsolidationParent =
     codes "ULTIMATE_ACCOUNTING_CONSOLIDATION_PARENT"
 
+-- Each category of an exception that there is.
 abbrev pub exception_categories : List ExceptionCategory
 exception_categories =
     ExceptionCategory.DirectAccountingConsolidationParent
     ∷ ExceptionCategory.UltimateAccountingConsolidationParent ∷ []
 
-abbrev pub exception_category_of : List ℕ → Option ExceptionCategory
+-- The category of an exception that a text writes, if it does.
+abbrev pub exception_category_of : Text → Option ExceptionCategory
 exception_category_of = named exception_category_text exception_categories
 
--- why no parent is reported
-abbrev pub reason_text : Reason → List ℕ
+-- How it is written why no parent is reported.
+abbrev pub reason_text : Reason → Text
 reason_text Reason.NaturalPersons = codes "NATURAL_PERSONS"
 reason_text Reason.NonConsolidating = codes "NON_CONSOLIDATING"
 reason_text Reason.NoKnownPerson = codes "NO_KNOWN_PERSON"
@@ -168,11 +183,13 @@ reason_text Reason.LegalObstacles = codes "LEGAL_OBSTACLES"
 reason_text Reason.DisclosureDetrimental = codes "DISCLOSURE_DETRIMENTAL"
 reason_text Reason.DetrimentNotExcluded = codes "DETRIMENT_NOT_EXCLUDED"
 
+-- Each reason that there is.
 abbrev pub reasons : List Reason
 reasons =
     Reason.NaturalPersons ∷ Reason.NonConsolidating ∷ Reason.NoKnownPerson ∷ Reason.NoLei
     ∷ Reason.NonPublic ∷ Reason.ConsentNotObtained ∷ Reason.BindingLegalCommitments
     ∷ Reason.LegalObstacles ∷ Reason.DisclosureDetrimental ∷ Reason.DetrimentNotExcluded ∷ []
 
-abbrev pub reason_of : List ℕ → Option Reason
+-- The reason that a text writes, if it does.
+abbrev pub reason_of : Text → Option Reason
 reason_of = named reason_text reasons

@@ -3,60 +3,58 @@ use Rattle.std.specs.Prelude.{ℕ, Bool, true, not, ◌&&◌, ◌||◌, ◌==◌
 use Rattle.std.specs.Char.{is_ascii_digit, is_ascii_uppercase, is_ascii_alphanumeric, is_control}
 use Rattle.std.specs.Int.{is_in_range}
 use Rattle.std.specs.List.{list_all, list_any, starts_with}
+use Rattle.lei_code.specs.Texts.{Lei, Text}
 use Rattle.lei_shapes.specs.declared.shapes.Shape.{Shape}
 use Rattle.lei_shapes.specs.Lists.{record_status_of, entity_status_of, category_of, validation_of, relation_type_of, relation_status_of, relation_registration_of, exception_category_of, reason_of}
 use Rattle.lei_shapes.specs.Moment.{read_moment}
 
--- `0` to `9` or `A` to `Z`
+-- The byte is one of `0` to `9` and `A` to `Z`.
 abbrev pub is_capital_or_digit : ℕ → Bool
 is_capital_or_digit b = is_ascii_uppercase b || is_ascii_digit b
 
--- an ASCII letter, a digit or `-`
+-- The byte is an ASCII letter, a digit or `-`.
 abbrev pub is_lang_byte : ℕ → Bool
 is_lang_byte b = is_ascii_alphanumeric b || (b == 45)
 
--- a code as ISO 17442-1 writes it, whatever its check digits: 18 capital letters and digits, and
--- then two digits
-abbrev pub is_code : List ℕ → Bool
+-- An LEI as ISO 17442-1 writes it, whatever its check digits: 18 capital letters and digits, and then two digits.
+abbrev pub is_code : Lei → Bool
 is_code text = (length text == 20) && list_all is_capital_or_digit (take 18 text)
     && list_all is_ascii_digit (drop 18 text)
 
--- 1 to 500 characters, of which none is below U+0020 or from U+007F to U+009F: these are the
--- control characters
-abbrev pub is_free : List ℕ → Bool
+-- A free text: 1 to 500 characters, of which none is below U+0020 or from U+007F to U+009F. These are the control
+-- characters.
+abbrev pub is_free : Text → Bool
 is_free text = is_in_range 1 500 (length (chars text)) && not (list_any is_control (chars text))
 
--- the tag of a language: 1 to 35 ASCII letters, digits and `-`
-abbrev pub is_lang : List ℕ → Bool
+-- The tag of a language: 1 to 35 ASCII letters, digits and `-`.
+abbrev pub is_lang : Text → Bool
 is_lang text = is_in_range 1 35 (length text) && list_all is_lang_byte text
 
--- the code of a country as ISO 3166-1 writes it: two capital letters
-abbrev pub is_country : List ℕ → Bool
+-- The code of a country as ISO 3166-1 writes it: two capital letters.
+abbrev pub is_country : Text → Bool
 is_country text = (length text == 2) && list_all is_ascii_uppercase text
 
--- the code of a registration authority: `RA` and six digits
-abbrev pub is_authority : List ℕ → Bool
+-- The code of a registration authority: `RA` and six digits.
+abbrev pub is_authority : Text → Bool
 is_authority text = (length text == 8) && starts_with nat_eq text (codes "RA")
     && list_all is_ascii_digit (drop 2 text)
 
--- what may follow the country of a jurisdiction: nothing, or `-` and 1 to 3 capital letters or
--- digits
-abbrev pub is_subdivision : List ℕ → Bool
+-- What may follow the country of a jurisdiction: nothing, or `-` and 1 to 3 capital letters or digits.
+abbrev pub is_subdivision : Text → Bool
 is_subdivision [] = true
 is_subdivision (b ∷ code) =
     (b == 45) && is_in_range 1 3 (length code) && list_all is_capital_or_digit code
 
--- a country or a part of it, as ISO 3166-2 writes it
-abbrev pub is_jurisdiction : List ℕ → Bool
+-- A jurisdiction: a country or a part of it, as ISO 3166-2 writes it.
+abbrev pub is_jurisdiction : Text → Bool
 is_jurisdiction text = is_country (take 2 text) && is_subdivision (drop 2 text)
 
--- the code of a legal form as ISO 20275 writes it: four capital letters or digits
-abbrev pub is_form : List ℕ → Bool
+-- The code of a legal form as ISO 20275 writes it: four capital letters or digits.
+abbrev pub is_form : Text → Bool
 is_form text = (length text == 4) && list_all is_capital_or_digit text
 
--- the text has the shape: its own test, or that the text reads as a moment or as a value of the
--- list
-abbrev pub fits_shape : Shape → List ℕ → Bool
+-- The text has the shape: by the shape's own test, or where it reads as a moment or as a value of the list.
+abbrev pub fits_shape : Shape → Text → Bool
 fits_shape Shape.Code text = is_code text
 fits_shape Shape.Free text = is_free text
 fits_shape Shape.Lang text = is_lang text

@@ -1,7 +1,6 @@
-//! The table of transitions and the sentences on statuses, held against this project's profile.
-use crate::{Party, entity_fits, renewal_fits, transition};
-use lei_shapes::{EntityStatus, RecordStatus};
-use std::process::Abort;
+//! The table of transitions, held against this project's profile.
+use crate::{Party, transition};
+use lei_shapes::RecordStatus;
 
 const STATUSES: [RecordStatus; 7] = [
     RecordStatus::Issued,
@@ -45,49 +44,4 @@ fn the_56_transitions_are_those_of_the_table(rt: HostRuntime) {
             assert_eq!(rt; found, *wanted, "row {row}, {status:?}");
         }
     }
-}
-
-#[test]
-fn entity_statuses_fit(rt: HostRuntime) {
-    // For each status: whether it may stand beside ACTIVE, INACTIVE and NULL.
-    let wanted = ["y--", "yy-", "yy-", "yy-", "-y-", "yyy", "yyy"];
-    let entities = [
-        EntityStatus::Active,
-        EntityStatus::Inactive,
-        EntityStatus::Null,
-    ];
-    for (status, letters) in STATUSES.iter().zip(wanted) {
-        for (entity, letter) in entities.iter().zip(letters.as_bytes()) {
-            let fits = entity_fits(*status, *entity);
-            assert_eq!(rt; fits, *letter == b'y', "{status:?} beside {entity:?}");
-        }
-    }
-}
-
-#[test]
-fn renewals_fit_at_the_edges_of_their_days(rt: HostRuntime) {
-    let today = 20_099;
-    // How many days ahead, and whether it fits ISSUED and LAPSED.
-    let edges = [
-        (-1, false, true),
-        (0, true, false),
-        (400, true, false),
-        (401, false, false),
-    ];
-    for (ahead, issued, lapsed) in edges {
-        let day = today + ahead;
-        assert_eq!(rt;
-            renewal_fits(RecordStatus::Issued, day, today),
-            issued,
-            "{ahead}"
-        );
-        assert_eq!(rt;
-            renewal_fits(RecordStatus::Lapsed, day, today),
-            lapsed,
-            "{ahead}"
-        );
-        assert!(rt; renewal_fits(RecordStatus::Retired, day, today), "{ahead}");
-    }
-    assert!(rt; !renewal_fits(RecordStatus::Issued, i32::MIN, i32::MAX));
-    assert!(rt; !renewal_fits(RecordStatus::Issued, i32::MAX, i32::MIN));
 }

@@ -5,7 +5,7 @@ ghost use Rattle.status_rules.specs.Transitions.{party};
 
 use lei_shapes::RecordStatus;
 
-/// The office that may make a change.
+/// The issuer that may make a change.
 #[derive(Clone, Copy, Debug, PartialEq, Eq)]
 pub enum Party {
     /// The one that the item names as its manager.

@@ -4,13 +4,13 @@ use Rattle.std.proofs.lemmas.Bool.Decides.{nat_tests}
 use Rattle.lei_outside.proofs.Handing.{handed_more, handed_front}
 use Rattle.lei_outside.proofs.sink.write_all.Goals as goal
 
-pub returns-in_err-taken-clause-front : goal.returns-in_err-taken-clause-front
-returns-in_err-taken-clause-front g c =
+pub returns-in_err-written-clause-front : goal.returns-in_err-written-clause-front
+returns-in_err-written-clause-front g c =
     MatchResult-from_err _ _ _ c.from_residual.ensures.0
-    (λ _. handed_front _ _ _ _ _ c.loop-rest.invariant.handed (grind (arith, nat_tests)) c.in_err-taken.ensures.bytes)
+    (λ _. handed_front _ _ _ _ _ c.loop-rest.invariant.handed (grind (arith, nat_tests)) c.in_err-written.ensures.bytes)
 
 pub loop-rest-preserved : goal.loop-rest-preserved
 loop-rest-preserved g c = record {
-  handed = handed_more _ _ _ _ _ _ c.loop-rest.invariant.handed c.in_ok-taken.ensures.bytes.2;
-  count = omega (arith, c.in_ok-taken.ensures.count);
+  handed = handed_more _ _ _ _ _ _ c.loop-rest.invariant.handed c.in_ok-written.ensures.bytes.2;
+  count = omega (arith, c.in_ok-written.ensures.count);
 }
