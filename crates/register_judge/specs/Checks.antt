@@ -25,7 +25,8 @@ c05 item = fails_if (not (entity_fits (status_in item) (entity_status_in item)))
 
 -- C06 fails where LastUpdateDate or NextRenewalDate is before InitialRegistrationDate.
 abbrev pub c06 : Row → Finding
-c06 item = fails_if (int_lt (updated_in item) (initial_in item) || int_lt (renewal_in item) (initial_in item)) 6 Detail.None
+c06 item =
+    fails_if (int_lt (updated_in item) (initial_in item) || int_lt (renewal_in item) (initial_in item)) 6 Detail.None
 
 -- The moment's day is after today.
 abbrev pub is_after : ℤ → ℤ → Bool
@@ -124,7 +125,8 @@ abbrev pub held_checks : Option RecCell → ℤ → Lei → Row → List Finding
 held_checks held today issuer item =
     c10 held item ∷ c11 held item ∷ c12 held issuer item ∷ c13 held item ∷ c14 held item ∷ c15 today item ∷ []
 
--- The checks of the item's successor, C16 to C18: none where it has no successor. The walk goes by the records of the table.
+-- The checks of the item's successor, C16 to C18: none where it has no successor. The walk goes by the records of the
+-- table.
 abbrev pub successor_checks : Table → Row → Option Lei → List Finding
 successor_checks table item None = []
 successor_checks table item (Some successor) =

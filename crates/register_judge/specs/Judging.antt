@@ -92,8 +92,10 @@ judge_record cells full today issuer item =
 abbrev pub judge_item : Cells → Bool → ℤ → Lei → Readied → Result Judged CellKey
 judge_item cells full today issuer (Readied.Bad check) = Ok (rejected check)
 judge_item cells full today issuer (Readied.Good (Item.Record item)) = judge_record cells full today issuer item
-judge_item cells full today issuer (Readied.Good (Item.Relation item)) = judged_by (check_relation cells issuer item) accepted
-judge_item cells full today issuer (Readied.Good (Item.Exception item)) = judged_by (check_exception cells issuer item) accepted
+judge_item cells full today issuer (Readied.Good (Item.Relation item)) =
+    judged_by (check_relation cells issuer item) accepted
+judge_item cells full today issuer (Readied.Good (Item.Exception item)) =
+    judged_by (check_exception cells issuer item) accepted
 
 -- ---- items from the first to the last
 
@@ -137,8 +139,8 @@ before (Err key) item rest = Err key
 before (Ok judged) item (Err key) = Err key
 before (Ok judged) item (Ok rest) = Ok (item_in_front judged item rest)
 
--- What comes of items from the first to the last, each judged on the cells with the accepted ones before it put, where so
--- many further records fit.
+-- What comes of items from the first to the last, each judged on the cells with the accepted ones before it put, where
+-- so many further records fit.
 unfoldable pub judge_items : Cells → ℕ → ℤ → Lei → List Readied → Result Judgement CellKey
 judge_items cells room today issuer [] = Ok (record { verdicts = []; writes = []; new_records = 0 })
 judge_items cells room today issuer (item ∷ items) =

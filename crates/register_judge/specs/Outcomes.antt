@@ -11,7 +11,8 @@ use Rattle.register_judge.specs.Judging.{Judgement}
 use Rattle.register_judge.specs.Taking.{Taken}
 
 -- The outcome has exactly these verdicts, writes and number of new records, and no reads.
-pub record Shows (outcome : Outcome) (verdicts : List Verdict) (writes : List (RowKey × Option Item)) (new_records : ℕ) : Type 0 where
+pub record Shows (outcome : Outcome) (verdicts : List Verdict) (writes : List (RowKey × Option Item)) (new_records : ℕ)
+    : Type 0 where
   pub verdicts_are : outcome.verdicts ≡ verdicts
   pub writes_are : outcome.writes ≡ writes
   pub new_are : outcome.new_records ≡ new_records
@@ -28,8 +29,8 @@ abbrev pub Stops : {X : Type 0} → JudgeStop → Result X CellKey → Type 0
 Stops (JudgeStop.NeedCell key) judged = judged ≡ Err key
 Stops JudgeStop.NoMemory judged = ⊤
 
--- The outcome is what was judged, or it stopped for want of the first cell that is needed and that the view lacks, or memory
--- ran out.
+-- The outcome is what was judged, or it stopped for want of the first cell that is needed and that the view lacks, or
+-- memory ran out.
 abbrev pub Judges : Result Outcome JudgeStop → Result Judgement CellKey → Type 0
 Judges result judged = MatchResult result
     (λ outcome. MatchResult judged (λ j. Shows outcome j.verdicts j.writes j.new_records) (λ key. ⊥))

@@ -26,29 +26,32 @@ use Rattle.register_judge.specs.declared.overlay.Overlay.{Overlay}
 
 -- ---- the cells after one write
 
--- The cells after a record was put: its own cell is the record's, a key that it holds is its own, and nobody holds a key any
--- longer that only it held.
+-- The cells after a record was put: its own cell is the record's, a key that it holds is its own, and nobody holds a key
+-- any longer that only it held.
 abbrev pub put_record : Cells → Row → Cells
 put_record cells row = record cells {
   record_cell = λ lei. if bytes_eq lei (lei_in row) then Seen.Held (rec_cell row) else cells.record_cell lei;
-  holder = λ authority id. if holds authority id row then Seen.Held (lei_in row) else unless_own (lei_in row) (cells.holder authority id);
+  holder = λ authority id.
+      if holds authority id row then Seen.Held (lei_in row) else unless_own (lei_in row) (cells.holder authority id);
 }
 
 -- The relationship has this start, this type and this end.
 abbrev pub is_between : Lei → RelationType → Lei → Row → Bool
 is_between start kind end row = is_from start kind row && bytes_eq (end_in row) end
 
--- The end of the active relationship of its start and type, where the relationship is put: its own where it is active, and
--- else what was held, but for its own.
+-- The end of the active relationship of its start and type, where the relationship is put: its own where it is active,
+-- and else what was held, but for its own.
 abbrev pub with_active : Row → Seen Lei → Seen Lei
 with_active row held = if is_active row then Seen.Held (end_in row) else unless_own (end_in row) held
 
--- The cells after a relationship was put: its own cell is the relationship's, and so is that of its start and type where it
--- is active. Where it isn't, nothing is active there any longer of which it takes the place.
+-- The cells after a relationship was put: its own cell is the relationship's, and so is that of its start and type where
+-- it is active. Where it isn't, nothing is active there any longer of which it takes the place.
 abbrev pub put_relation : Cells → Row → Cells
 put_relation cells row = record cells {
-  relation = λ start kind end. if is_between start kind end row then Seen.Held (rel_cell row) else cells.relation start kind end;
-  active = λ start kind. if is_from start kind row then with_active row (cells.active start kind) else cells.active start kind;
+  relation = λ start kind end.
+      if is_between start kind end row then Seen.Held (rel_cell row) else cells.relation start kind end;
+  active = λ start kind.
+      if is_from start kind row then with_active row (cells.active start kind) else cells.active start kind;
 }
 
 -- The cells after the exception of this LEI and category was put, or withdrawn: its own cell says whether it stands.
@@ -137,7 +140,8 @@ relation_at relations start kind end = option_copied (get_by (λ key.
 
 -- What a map by an LEI and a text has for these.
 abbrev pub pair_at : {X : Type 0} → BTreeMap (Lei × Bor Text) X → Lei → Text → Option X
-pair_at pairs lei text = get_by (λ key. ordering_then (slice_cmp nat_cmp lei key.0) (slice_cmp nat_cmp text key.1.now)) pairs
+pair_at pairs lei text =
+    get_by (λ key. ordering_then (slice_cmp nat_cmp lei key.0) (slice_cmp nat_cmp text key.1.now)) pairs
 
 -- By a start and a type's text, the end of a relationship.
 abbrev pub Ends : Type 0
@@ -164,8 +168,8 @@ unless_relation_put relations start kind (Seen.Held end) =
 unless_relation_put relations start kind Seen.Empty = Seen.Empty
 unless_relation_put relations start kind Seen.Missing = Seen.Missing
 
--- The relationship that was put as an active one last is so as long as its key has an active one. Where there was none, the
--- one below is.
+-- The relationship that was put as an active one last is so as long as its key has an active one. Where there was none,
+-- the one below is.
 abbrev pub with_end : Relations → Lei → RelationType → Option Lei → Seen Lei → Seen Lei
 with_end relations start kind None below = unless_relation_put relations start kind below
 with_end relations start kind (Some end) below =

@@ -23,11 +23,12 @@ item_checks table limit today issuer (Item.Record row) = checks table limit toda
 item_checks table limit today issuer (Item.Relation row) = relation_checks table issuer row
 item_checks table limit today issuer (Item.Exception item) = exception_checks table issuer item
 
--- The verdict on an item: the first of its checks that fails, or that it is accepted. C01 to C04 were asked before, since
--- they need no table.
+-- The verdict on an item: the first of its checks that fails, or that it is accepted. C01 to C04 were asked before,
+-- since they need no table.
 abbrev pub verdict : Table → ℕ → ℤ → Lei → Readied → Verdict
 verdict table limit today issuer (Readied.Bad check) = Verdict.Rejected check
-verdict table limit today issuer (Readied.Good item) = verdict_of (first_failing (item_checks table limit today issuer item))
+verdict table limit today issuer (Readied.Good item) =
+    verdict_of (first_failing (item_checks table limit today issuer item))
 
 -- What is held under an item's key where it is accepted: the item, and nothing where it is a withdrawal.
 abbrev pub written : Item → Option Item

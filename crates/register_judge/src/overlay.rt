@@ -221,7 +221,8 @@ impl<'a, V: View> Overlay<'a, V> {
 // Notes who has a record's key now, if the record holds one.
 fn put_taker<'a>(alloc: Global, takers: &mut Takers<'a>, item: &'a Record) -> Result<(), NoMemory>
     ensures { OnOk result ((authority id : List ℕ) → Overlays.taker_at takers.new authority id
-        ≡ (if Cells.holds authority id item.now then Some (lei_in item.now) else Overlays.taker_at takers.old authority id)) }
+        ≡ (if Cells.holds authority id item.now then Some (lei_in item.now)
+        else Overlays.taker_at takers.old authority id)) }
 {
     if !is_live(item) {
         return Ok(());

@@ -26,7 +26,8 @@ pub fn check_held<V: View>(
     today: i32,
     item: &Record,
 ) -> Result<Checked, NoMemory>
-    ensures { IfOk result (λ checked. checked ≡ Judging.check_held (V.cells view.now) today issuer.now item.now held.now) }
+    ensures { IfOk result (λ checked. checked
+        ≡ Judging.check_held (V.cells view.now) today issuer.now item.now held.now) }
 {
     if let Some(check) = held_check(held, issuer, today, item) {
         return Ok(Checked::Fails(check));
@@ -44,7 +45,8 @@ fn check_successor<V: View>(
     item: &Record,
     successor: &Lei,
 ) -> Result<Checked, NoMemory>
-    ensures { IfOk result (λ checked. checked ≡ Judging.check_successor (V.cells view.now) item.now (Some successor.now)) }
+    ensures { IfOk result (λ checked. checked
+        ≡ Judging.check_successor (V.cells view.now) item.now (Some successor.now)) }
 {
     match view.record_cell(successor) {
         Seen::Held(_) => check_walk(alloc, view, item, successor),
@@ -61,7 +63,8 @@ fn check_walk<V: View>(
     successor: &Lei,
 ) -> Result<Checked, NoMemory>
     ensures { IfOk result (λ checked. checked ≡ Checking.check_walked 17 18
-        (Successors.walk (V.cells view.now) (lei_in item.now) successor.now) (Judging.check_key (V.cells view.now) item.now)) }
+        (Successors.walk (V.cells view.now) (lei_in item.now) successor.now)
+        (Judging.check_key (V.cells view.now) item.now)) }
 {
     match walk(view, successor, &item.lei()) {
         Walked::Meets => Ok(failed(SUCCESSOR_CYCLE)),

@@ -21,11 +21,13 @@ is_of lei row = bytes_eq (lei_in row) lei
 
 -- The relationship has this start, this type and this end.
 abbrev pub is_relation_of : Lei → RelationType → Lei → Row → Bool
-is_relation_of start kind end row = bytes_eq (start_in row) start && is_same_type (kind_in row) kind && bytes_eq (end_in row) end
+is_relation_of start kind end row =
+    bytes_eq (start_in row) start && is_same_type (kind_in row) kind && bytes_eq (end_in row) end
 
 -- The exception has this LEI and this category.
 abbrev pub is_exception_of : Lei → ExceptionCategory → Row × Bool → Bool
-is_exception_of lei category item = bytes_eq (subject_in item.0) lei && is_same_category (exception_category_in item.0) category
+is_exception_of lei category item =
+    bytes_eq (subject_in item.0) lei && is_same_category (exception_category_in item.0) category
 
 -- ---- rows by index
 

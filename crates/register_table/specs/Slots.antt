@@ -22,7 +22,8 @@ note_of (Slot.Exception lei category item) = (RowKey.Exc lei category, option_ma
 abbrev pub IsSlot : Slot → Type 0
 IsSlot (Slot.Record lei row) = IfSome row (λ r. record_key_in r ≡ record_key lei)
 IsSlot (Slot.Relation start kind end row) = IfSome row (λ r. relation_key_in r ≡ relation_key start kind end)
-IsSlot (Slot.Exception lei category item) = IfSome item (λ i. (exception_item_key i ≡ exception_key lei category) × (i.1 ≡ false))
+IsSlot (Slot.Exception lei category item) =
+    IfSome item (λ i. (exception_item_key i ≡ exception_key lei category) × (i.1 ≡ false))
 
 -- A note takes no room of a list: nothing is put, or the key is held, or an exception comes back, which has its own.
 abbrev pub NeedsNoRoom : Table → RowKey × Option Item → Type 0

@@ -38,8 +38,8 @@ abbrev pub StaysKept : WriteList → Table → Type 0
 StaysKept [] table = ⊤
 StaysKept (write ∷ writes) table = IsKept (put_write table write) × StaysKept writes (put_write table write)
 
--- Writes may be applied to a table: each has the key of its item, which is no withdrawal, or none under the key of an exception; and after each of
--- them the table is sound and not too large.
+-- Writes may be applied to a table: each has the key of its item, which is no withdrawal, or none under the key of
+-- an exception; and after each of them the table is sound and not too large.
 pub record MayApply (writes : WriteList) (table : Table) : Type 0 where
   pub own : AreOwn writes
   pub kept : StaysKept writes table
@@ -74,17 +74,21 @@ with_under rows key None = remove rows key
 
 -- The table with this under the key again: the item's row, or nothing.
 abbrev pub put_back : Table → RowKey × Option Item → Table
-put_back table (RowKey.Rec lei, item) = with_records table (with_under table.records (record_key lei) (option_map row_of item))
-put_back table (RowKey.Rel start kind end, item) = with_relations table (with_under table.relations (relation_key start kind end) (option_map row_of item))
-put_back table (RowKey.Exc lei category, item) = with_exceptions table (with_under table.exceptions (exception_key lei category) (option_map row_of item))
+put_back table (RowKey.Rec lei, item) =
+    with_records table (with_under table.records (record_key lei) (option_map row_of item))
+put_back table (RowKey.Rel start kind end, item) =
+    with_relations table (with_under table.relations (relation_key start kind end) (option_map row_of item))
+put_back table (RowKey.Exc lei category, item) =
+    with_exceptions table (with_under table.exceptions (exception_key lei category) (option_map row_of item))
 
 -- The table with all notes put back, from the last to the first.
 abbrev pub undone : Notes → Table → Table
 undone [] table = table
 undone (note ∷ notes) table = put_back (undone notes table) note
 
--- Notes are of the last writes: the table was made by writes to one that could be kept, and these are the notes of it. Its exceptions
--- and the notes are together few enough to be counted, so that each exception that comes back can be joined to the others.
+-- Notes are of the last writes: the table was made by writes to one that could be kept, and these are the notes of
+-- it. Its exceptions and the notes are together few enough to be counted, so that each exception that comes back can
+-- be joined to the others.
 pub record IsOfLast (notes : Notes) (table : Table) : Type 0 where
   pub before : Table
   pub kept : IsKept before

@@ -30,14 +30,18 @@ pub struct Lists {
 pub fn exchange_slot(lists: &mut Lists, slot: Slot) -> Slot
     requires slot { IsSlot slot }
     requires listed { AreListed (listed lists.old) }
-    requires room { NeedsNoRoom (table_of (listed lists.old)) (note_of slot) ⊎ ((vec_len lists.old.records < vec_capacity lists.old.records) × (vec_len lists.old.relations < vec_capacity lists.old.relations)) }
+    requires room { NeedsNoRoom (table_of (listed lists.old)) (note_of slot)
+        ⊎ ((vec_len lists.old.records < vec_capacity lists.old.records)
+            × (vec_len lists.old.relations < vec_capacity lists.old.relations)) }
     requires few { length lists.old.exceptions + 1 < 2 ^ 63 }
     ensures table { table_of (listed lists.new) ≡ put_back (table_of (listed lists.old)) (note_of slot) }
     ensures note { note_of result ≡ ((note_of slot).0, item_at (table_of (listed lists.old)) (note_of slot).0) }
     ensures slot { IsSlot result }
     ensures listed { AreListed (listed lists.new) }
-    ensures capacities { (vec_capacity lists.new.records ≡ vec_capacity lists.old.records) × (vec_capacity lists.new.relations ≡ vec_capacity lists.old.relations) }
-    ensures lens { (vec_len lists.new.records ≤ vec_len lists.old.records + 1) × (vec_len lists.new.relations ≤ vec_len lists.old.relations + 1) }
+    ensures capacities { (vec_capacity lists.new.records ≡ vec_capacity lists.old.records)
+        × (vec_capacity lists.new.relations ≡ vec_capacity lists.old.relations) }
+    ensures lens { (vec_len lists.new.records ≤ vec_len lists.old.records + 1)
+        × (vec_len lists.new.relations ≤ vec_len lists.old.relations + 1) }
     ensures few { length lists.new.exceptions ≤ length lists.old.exceptions + 1 }
 {
     match slot {
@@ -57,7 +61,8 @@ pub fn exchange_slot(lists: &mut Lists, slot: Slot) -> Slot
 fn exchange_record(rows: &mut Vec<Record>, lei: &Lei, new: Option<Record>) -> Option<Record>
     requires own { IfSome new (λ row. record_key_in row ≡ record_key lei.now) }
     requires once { len (record_rows rows.old.items) ≡ length rows.old.items }
-    requires room { get (record_rows rows.old.items) (record_key lei.now) ≡ None → IsSome new → vec_len rows.old < vec_capacity rows.old }
+    requires room { get (record_rows rows.old.items) (record_key lei.now) ≡ None → IsSome new
+        → vec_len rows.old < vec_capacity rows.old }
     ensures rows { record_rows rows.new.items ≡ with_under (record_rows rows.old.items) (record_key lei.now) new }
     ensures out { result ≡ get (record_rows rows.old.items) (record_key lei.now) }
     ensures own { IfSome result (λ row. record_key_in row ≡ record_key lei.now) }
@@ -78,8 +83,10 @@ fn exchange_relation(
 ) -> Option<Relation>
     requires own { IfSome new (λ row. relation_key_in row ≡ relation_key start.now kind end.now) }
     requires once { len (relation_rows rows.old.items) ≡ length rows.old.items }
-    requires room { get (relation_rows rows.old.items) (relation_key start.now kind end.now) ≡ None → IsSome new → vec_len rows.old < vec_capacity rows.old }
-    ensures rows { relation_rows rows.new.items ≡ with_under (relation_rows rows.old.items) (relation_key start.now kind end.now) new }
+    requires room { get (relation_rows rows.old.items) (relation_key start.now kind end.now) ≡ None → IsSome new
+        → vec_len rows.old < vec_capacity rows.old }
+    ensures rows { relation_rows rows.new.items
+        ≡ with_under (relation_rows rows.old.items) (relation_key start.now kind end.now) new }
     ensures out { result ≡ get (relation_rows rows.old.items) (relation_key start.now kind end.now) }
     ensures own { IfSome result (λ row. relation_key_in row ≡ relation_key start.now kind end.now) }
     ensures once { len (relation_rows rows.new.items) ≡ length rows.new.items }
@@ -101,7 +108,8 @@ fn exchange_exception(
     requires once { len (exception_rows rows.old) ≡ length rows.old }
     requires held { HasNoWithdrawal rows.old }
     requires few { length rows.old + 1 < 2 ^ 63 }
-    ensures rows { exception_rows rows.new ≡ with_under (exception_rows rows.old) (exception_key lei.now category) (option_map (λ item. item.0) new) }
+    ensures rows { exception_rows rows.new
+        ≡ with_under (exception_rows rows.old) (exception_key lei.now category) (option_map (λ item. item.0) new) }
     ensures out { option_map (λ item. item.0) result ≡ get (exception_rows rows.old) (exception_key lei.now category) }
     ensures own { IfSome result (λ item. (exception_item_key item ≡ exception_key lei.now category) × (item.1 ≡ false)) }
     ensures once { len (exception_rows rows.new) ≡ length rows.new }

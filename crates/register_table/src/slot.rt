@@ -60,7 +60,8 @@ fn slot_of_item(alloc: Global, item: &Item) -> Result<Slot, NoMemory>
 }
 
 fn slot_of_record(alloc: Global, row: &Record) -> Result<Slot, NoMemory>
-    ensures slot { IfOk result (λ slot. note_of slot ≡ (row_key (item.Item.Record row.now), Some (item.Item.Record row.now))) }
+    ensures slot { IfOk result (λ slot. note_of slot
+        ≡ (row_key (item.Item.Record row.now), Some (item.Item.Record row.now))) }
     ensures own { IfOk result IsSlot }
 {
     let copy = row.copy(alloc)?;
@@ -68,7 +69,8 @@ fn slot_of_record(alloc: Global, row: &Record) -> Result<Slot, NoMemory>
 }
 
 fn slot_of_relation(alloc: Global, relation: &Relation) -> Result<Slot, NoMemory>
-    ensures slot { IfOk result (λ slot. note_of slot ≡ (row_key (item.Item.Relation relation.now), Some (item.Item.Relation relation.now))) }
+    ensures slot { IfOk result (λ slot. note_of slot
+        ≡ (row_key (item.Item.Relation relation.now), Some (item.Item.Relation relation.now))) }
     ensures own { IfOk result IsSlot }
 {
     let (start, kind, end) = (relation.start(), relation.kind(), relation.end());
@@ -78,7 +80,8 @@ fn slot_of_relation(alloc: Global, relation: &Relation) -> Result<Slot, NoMemory
 
 fn slot_of_exception(alloc: Global, exception: &ExceptionItem) -> Result<Slot, NoMemory>
     requires put { exception.now.1 ≡ false }
-    ensures slot { IfOk result (λ slot. note_of slot ≡ (row_key (item.Item.Exception exception.now), Some (item.Item.Exception exception.now))) }
+    ensures slot { IfOk result (λ slot. note_of slot
+        ≡ (row_key (item.Item.Exception exception.now), Some (item.Item.Exception exception.now))) }
     ensures own { IfOk result IsSlot }
 {
     let (lei, category) = (exception.lei(), exception.category());

@@ -53,7 +53,8 @@ impl<'a> View for Partial<'a> {
       record_cell = λ _. if nat_le 1 v.kinds then seen.Seen.Held (rec_cell v.held.now) else seen.Seen.Missing;
       holder = λ _ _. if nat_le 2 v.kinds then seen.Seen.Empty else seen.Seen.Missing;
       relation = λ _ _ _. if nat_le 2 v.kinds then seen.Seen.Empty else seen.Seen.Missing;
-      active = λ start _. if nat_le (if bytes_eq start (lei_in v.held.now) then 3 else 4) v.kinds then seen.Seen.Empty else seen.Seen.Missing;
+      active = λ start _. if nat_le (if bytes_eq start (lei_in v.held.now) then 3 else 4) v.kinds
+          then seen.Seen.Empty else seen.Seen.Missing;
       exception = λ _ _. if nat_le 5 v.kinds then seen.Seen.Empty else seen.Seen.Missing;
     } };
 

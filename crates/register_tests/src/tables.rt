@@ -38,7 +38,8 @@ fn exception(alloc: Global) -> Result<Item, Fail> {
 
 // Whether a record may be put: there is room, and no other live record has its authority key.
 fn may_put_record(table: &Table, new: &Record) -> bool
-    ensures { IsTrue result → MayApply ((row_key (items.Item.Record new.now), Some (items.Item.Record new.now)) ∷ []) table.now }
+    ensures { IsTrue result
+        → MayApply ((row_key (items.Item.Record new.now), Some (items.Item.Record new.now)) ∷ []) table.now }
 {
     let _lei = new.lei();
     match taken(table, new) {
@@ -48,7 +49,8 @@ fn may_put_record(table: &Table, new: &Record) -> bool
 }
 
 fn may_put_exception(table: &Table, new: &ExceptionItem) -> bool
-    ensures { IsTrue result → MayApply ((row_key (items.Item.Exception new.now), Some (items.Item.Exception new.now)) ∷ []) table.now }
+    ensures { IsTrue result
+        → MayApply ((row_key (items.Item.Exception new.now), Some (items.Item.Exception new.now)) ∷ []) table.now }
 {
     let _held = table.held();
     let _lei = new.lei();

@@ -52,7 +52,8 @@ check_walked cycle long (Walked.Missing key) next = Checked.Missing key
 
 -- ---- a relationship
 
--- C40 of a relationship by the category of its parents: whether the exception stands. One that is no parent asks for none.
+-- C40 of a relationship by the category of its parents: whether the exception stands. One that is no parent asks for
+-- none.
 abbrev pub check_category : Cells → Row → Option ExceptionCategory → Checked
 check_category cells item None = Checked.Passes
 check_category cells item (Some category) =
@@ -69,20 +70,21 @@ walk_parents cells start first =
 abbrev pub check_parents : Cells → Row → Checked
 check_parents cells item =
     if is_direct (kind_in item)
-    then check_walked 38 39 (walk_parents cells (start_in item) (end_in item)) (check_category cells item (parent_category (kind_in item)))
+    then check_walked 38 39 (walk_parents cells (start_in item) (end_in item))
+        (check_category cells item (parent_category (kind_in item)))
     else check_category cells item (parent_category (kind_in item))
 
 -- C37 to C40, with the other end of the active relationship of the item's start and type.
 abbrev pub check_other_end : Cells → Row → Option Lei → Checked
 check_other_end cells item other = unless_failed (first_failing (c37 other item ∷ [])) (check_parents cells item)
 
--- The same, where the end isn't known yet: a relationship that isn't active asks for no further cell, and its own end isn't
--- another one.
+-- The same, where the end isn't known yet: a relationship that isn't active asks for no further cell, and its own end
+-- isn't another one.
 abbrev pub check_active : Cells → Row → Checked
 check_active cells item =
     if is_active item
-    then on_seen (unless_own (end_in item) (cells.active (start_in item) (kind_in item))) (CellKey.Act (start_in item) (kind_in item))
-        (check_other_end cells item)
+    then on_seen (unless_own (end_in item) (cells.active (start_in item) (kind_in item)))
+        (CellKey.Act (start_in item) (kind_in item)) (check_other_end cells item)
     else Checked.Passes
 
 -- C36 to C40, with the relationship that is held under the item's key.
@@ -93,8 +95,8 @@ check_held cells item held = unless_failed (first_failing (c36 held item ∷ [])
 abbrev pub check_managed : Cells → Lei → Row → Option RecCell → Checked
 check_managed cells issuer item start =
     unless_failed (first_failing (c34 start issuer item ∷ c35 start item ∷ []))
-    (on_seen (cells.relation (start_in item) (kind_in item) (end_in item)) (CellKey.Rel (start_in item) (kind_in item) (end_in item))
-    (check_held cells item))
+    (on_seen (cells.relation (start_in item) (kind_in item) (end_in item))
+    (CellKey.Rel (start_in item) (kind_in item) (end_in item)) (check_held cells item))
 
 -- C33 to C40, with the records of the start and of the end.
 abbrev pub check_end : Cells → Lei → Row → Option RecCell → Option RecCell → Checked
@@ -130,7 +132,8 @@ check_withdrawal cells item category =
 -- The one or the other, by the action.
 abbrev pub check_action : Cells → Row × Bool → Checked
 check_action cells item =
-    if item.1 then check_withdrawal cells item (exception_category_in item.0) else check_put cells item (parent_type (exception_category_in item.0))
+    if item.1 then check_withdrawal cells item (exception_category_in item.0)
+    else check_put cells item (parent_type (exception_category_in item.0))
 
 -- C50 to C53, with the record of the exception's LEI.
 abbrev pub check_subject : Cells → Lei → Row × Bool → Option RecCell → Checked

@@ -47,7 +47,8 @@ is_managed_elsewhere issuer cell = not (bytes_eq cell.manager issuer)
 -- C34 fails where the item's ManagingLOU or that of its start's record isn't the issuer that uploads it.
 abbrev pub c34 : Option RecCell → Lei → Row → Finding
 c34 start issuer item =
-    fails_if (not (bytes_eq (relation_manager_in item) issuer) || option_map_or (is_managed_elsewhere issuer) start false)
+    fails_if
+    (not (bytes_eq (relation_manager_in item) issuer) || option_map_or (is_managed_elsewhere issuer) start false)
     34 Detail.None
 
 -- The category is BRANCH.
@@ -60,8 +61,8 @@ abbrev pub is_fund : Category → Bool
 is_fund Category.Fund = true
 is_fund other = false
 
--- A relationship of the type may start at an entity of the category: a branch's at a BRANCH alone, a fund's at a FUND alone,
--- and a parent's at each.
+-- A relationship of the type may start at an entity of the category: a branch's at a BRANCH alone, a fund's at a FUND
+-- alone, and a parent's at each.
 abbrev pub may_start : RelationType → Category → Bool
 may_start RelationType.IsDirectlyConsolidatedBy category = true
 may_start RelationType.IsUltimatelyConsolidatedBy category = true
@@ -77,7 +78,8 @@ c35 start item =
 
 -- ---- the other relationships
 
--- C36 fails where the item's registration status may not follow the held one, or ACTIVE stands beside RETIRED or ANNULLED.
+-- C36 fails where the item's registration status may not follow the held one, or ACTIVE stands beside RETIRED or
+-- ANNULLED.
 abbrev pub c36 : Option RelCell → Row → Finding
 c36 held item =
     fails_if (not (may_follow (option_map (λ cell. cell.registration) held) (registration_in item))
@@ -89,7 +91,8 @@ is_from start kind row = bytes_eq (start_in row) start && is_same_type (kind_in 
 
 -- The other relationship is active, and has the item's start and type and another end.
 abbrev pub is_in_the_way : Row → Row → Bool
-is_in_the_way item other = is_active_of (start_in item) (kind_in item) other && not (bytes_eq (end_in other) (end_in item))
+is_in_the_way item other =
+    is_active_of (start_in item) (kind_in item) other && not (bytes_eq (end_in other) (end_in item))
 
 -- The end of a relationship that is in the item's way, and of the first of them in the order of keys.
 abbrev pub other_end : Table → Row → Option Lei

@@ -34,8 +34,8 @@ abbrev pub exception_keys : Lei → Option ExceptionCategory → List CellKey
 exception_keys lei None = []
 exception_keys lei (Some category) = CellKey.Exc lei category ∷ []
 
--- The cells that a relationship names: the records of its start and its end, the relationship itself, the active one of its
--- start and type, and the exception in the place of such a parent.
+-- The cells that a relationship names: the records of its start and its end, the relationship itself, the active one of
+-- its start and type, and the exception in the place of such a parent.
 abbrev pub relation_names : Row → List CellKey
 relation_names item =
     (CellKey.Rec (start_in item) ∷ CellKey.Rec (end_in item) ∷ CellKey.Rel (start_in item) (kind_in item) (end_in item)
@@ -46,7 +46,8 @@ relation_names item =
 pub record IsOfWalk (cells : Cells) (item : Row) (key : CellKey) : Type 0 where
   pub direct : IsTrue (is_direct_parent item)
   pub member : Lei
-  pub stands : Contains (members 200 (known (λ lei. cells.active lei RelationType.IsDirectlyConsolidatedBy)) (end_in item)) member
+  pub stands :
+      Contains (members 200 (known (λ lei. cells.active lei RelationType.IsDirectlyConsolidatedBy)) (end_in item)) member
   pub is : key ≡ CellKey.Act member RelationType.IsDirectlyConsolidatedBy
 
 -- A relationship needs a cell: it names it, or the cell is of its walk.

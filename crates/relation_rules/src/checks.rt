@@ -45,7 +45,8 @@ fn is_before(ended: Option<Moment>, started: Moment) -> bool
 
 // C34 and C35: the start's record, and the issuer that uploads it.
 pub fn start_check(start: &RecCell, issuer: &Lei, item: &Relation) -> Option<Check>
-    ensures { result ≡ first_failing (Checks.c34 (Some start.now) issuer.now item.now ∷ Checks.c35 (Some start.now) item.now ∷ []) }
+    ensures { result ≡ first_failing
+        (Checks.c34 (Some start.now) issuer.now item.now ∷ Checks.c35 (Some start.now) item.now ∷ []) }
 {
     if item.manager() != *issuer || start.manager != *issuer {
         return Some(plain(START_NOT_MANAGED));

@@ -32,7 +32,8 @@ pub fn accepted_relations_keep_parents()
 pub fn records_and_exceptions_keep_parents()
     ensures records { (table : Table) (row : Row) → HasParents table → HasParents (put table (Item.Record row)) }
     ensures apart { (table : Table) (row : Row) → AreApart table → AreApart (put table (Item.Record row)) }
-    ensures exceptions { (table : Table) (item : Row × Bool) → HasParents table → HasParents (put table (Item.Exception item)) }
+    ensures exceptions { (table : Table) (item : Row × Bool)
+        → HasParents table → HasParents (put table (Item.Exception item)) }
 {}
 
 /// Items that pass their checks on a sound table leave no active parent beside the exception of its category.

@@ -136,7 +136,8 @@ fn check_parents<V: View>(view: &V, item: &Relation) -> Checked
 // C40 of an active item: a relationship that is no parent asks for no exception.
 fn check_exception<V: View>(view: &V, item: &Relation) -> Checked
     ensures { Relations.is_active item.now ≡ true
-        → result ≡ Checking.check_category (V.cells view.now) item.now (Parents.parent_category (Relations.kind_in item.now)) }
+        → result ≡ Checking.check_category (V.cells view.now) item.now
+            (Parents.parent_category (Relations.kind_in item.now)) }
 {
     match parent_category(item.kind()) {
         None => Checked::Passes,
