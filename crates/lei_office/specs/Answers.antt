@@ -38,4 +38,5 @@ upload_answer entry issuer items upload =
 
 -- its text, with the verdicts on the upload's items
 unfoldable pub upload_text : ℕ → Lei → ℕ → List Verdict → Text
-upload_text entry issuer upload verdicts = compact_text (upload_answer entry issuer (strings (map verdict_text verdicts)) upload)
+upload_text entry issuer upload verdicts =
+    compact_text (upload_answer entry issuer (strings (map verdict_text verdicts)) upload)

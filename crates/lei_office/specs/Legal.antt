@@ -95,4 +95,5 @@ abbrev pub replies_to : OfficeState → List Asked → List ℤ → List Reply
 replies_to office [] moments = []
 replies_to office (Refuse refusal ∷ asks) moments = Words refusal ∷ replies_to office asks moments
 replies_to office (Ask request ∷ asks) [] = []
-replies_to office (Ask request ∷ asks) (m ∷ moments) = reply office request m ∷ replies_to (next office request m) asks moments
+replies_to office (Ask request ∷ asks) (m ∷ moments) =
+    reply office request m ∷ replies_to (next office request m) asks moments

@@ -50,7 +50,8 @@ entry_changes limits table e =
 -- the changes that entries make, each on the table that those before it left
 abbrev pub changes_from : Limits → Table → History → List Change
 changes_from limits table [] = []
-changes_from limits table (e ∷ rest) = entry_changes limits table e ++ changes_from limits (after_entry limits table e) rest
+changes_from limits table (e ∷ rest) =
+    entry_changes limits table e ++ changes_from limits (after_entry limits table e) rest
 
 -- the changes of records that a history made, from the first
 unfoldable pub changes : OfficeState → List Change

@@ -76,7 +76,8 @@ upload_entry history call moment verdicts =
 -- the items are judged on the table after the history, on the day of the moment
 abbrev pub taken_upload : OfficeState → Call → ℤ → List RawItem → KeptEntry
 taken_upload office call moment raws =
-    let taken = take (after office.limits office.history) office.limits.records (day_of moment) call.office (map ready raws) in
+    let table = after office.limits office.history in
+    let taken = take table office.limits.records (day_of moment) call.office (map ready raws) in
     upload_entry office.history call moment taken.verdicts
 
 -- ---- what a request comes to

@@ -27,7 +27,8 @@ pub fn judge(
     requires count { length raws.now ≤ 5000 }
     requires moment { IsMoment moment }
     requires fits { record_count table.now ≤ records }
-    ensures { IfOk result (λ outcome. ShowsTaken outcome (take table.now records (day_of moment) issuer.now (map ready_of raws.now))) }
+    ensures { IfOk result (λ outcome.
+        ShowsTaken outcome (take table.now records (day_of moment) issuer.now (map ready_of raws.now))) }
 {
     let items = ready_all(alloc, raws)?;
     let room = records.saturating_sub(table.held());

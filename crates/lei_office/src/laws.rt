@@ -68,5 +68,6 @@ pub fn verdicts_are_told()
 /// Where want of memory is never answered, the replies are those that the requests and their moments determine.
 pub fn sessions_are_exact()
     ensures { (old new : OfficeState) (asks : List Asked) (moments : List ℤ) (replies : List Reply) →
-        Session old asks moments replies new → ¬ (Contains replies (Words NoMemory)) → replies ≡ replies_to old asks moments }
+        Session old asks moments replies new → ¬ (Contains replies (Words NoMemory))
+        → replies ≡ replies_to old asks moments }
 {}

@@ -119,7 +119,8 @@ fn reply_to(
     requires numbered { IsNumbered request.now }
     requires moment { IsMoment moment }
     requires table { table.old ≡ after limits entries.old.items }
-    ensures step { Comes (outcome_at (office_of limits entries.old.items) request.now moment) entries.old.items result entries.new.items }
+    ensures step { Comes (outcome_at (office_of limits entries.old.items) request.now moment)
+        entries.old.items result entries.new.items }
     ensures table { table.new ≡ after limits entries.new.items }
     ensures request { IsRequest request.now }
 {
@@ -211,7 +212,8 @@ fn upload(
 ) -> Result<Reply, NoMemory>
     requires moment { IsMoment moment }
     requires table { table.old ≡ after limits entries.old.items }
-    ensures step { Comes (upload_outcome (office_of limits entries.old.items) call.now moment) entries.old.items result entries.new.items }
+    ensures step { Comes (upload_outcome (office_of limits entries.old.items) call.now moment)
+        entries.old.items result entries.new.items }
     ensures table { table.new ≡ after limits entries.new.items }
     ensures lei { IsValid call.now.office }
 {

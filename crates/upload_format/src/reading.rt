@@ -85,9 +85,12 @@ struct Lists {
 }
 
 fn lists_of(mut members: Map<String, Value>) -> Lists
-    ensures records { option_map view result.records ≡ get_member (list_name Kind.Record) (members_view members.entries) }
-    ensures relationships { option_map view result.relationships ≡ get_member (list_name Kind.Relation) (members_view members.entries) }
-    ensures exceptions { option_map view result.exceptions ≡ get_member (list_name Kind.Exception) (members_view members.entries) }
+    ensures records { option_map view result.records
+        ≡ get_member (list_name Kind.Record) (members_view members.entries) }
+    ensures relationships { option_map view result.relationships
+        ≡ get_member (list_name Kind.Relation) (members_view members.entries) }
+    ensures exceptions { option_map view result.exceptions
+        ≡ get_member (list_name Kind.Exception) (members_view members.entries) }
 {
     let records = take_member(&mut members, "records");
     let relationships = take_member(&mut members, "relationships");
@@ -111,7 +114,8 @@ fn take_member(members: &mut Map<String, Value>, name: &str) -> Option<Value>
 // The items of the three lists, one behind the other.
 fn read_lists(alloc: Global, lists: Lists) -> Result<Vec<RawItem>, UploadFault>
     ensures { Gives (λ items. items.items) result
-        (found (in_order (option_map view lists.records) (option_map view lists.relationships) (option_map view lists.exceptions))) }
+        (found (in_order (option_map view lists.records) (option_map view lists.relationships)
+        (option_map view lists.exceptions))) }
 {
     let items = Vec::new(alloc);
     let items = read_list(alloc, items, Kind::Record, lists.records)?;
