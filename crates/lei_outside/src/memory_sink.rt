@@ -79,7 +79,13 @@ impl Model for ByteSink {
 
     ghost Value = { SinkState };
 
-    ghost view = { λ s. record { written = s.sink.written; most = s.sink.most; failing = s.calls.failing; calls = s.calls.count; faults = s.calls.faults } };
+    ghost view = { λ s. record {
+      written = s.sink.written;
+      most = s.sink.most;
+      failing = s.calls.failing;
+      calls = s.calls.count;
+      faults = s.calls.faults;
+    } };
 }
 
 impl ByteSink {
@@ -124,7 +130,10 @@ impl Sink for ByteSink {
         ensures fails { IsErrOf result SinkFault.Failed ↔ FailsNext self.old.failing self.old.calls }
         ensures size { IfOk result (λ n. n ≡ min self.old.most (length piece.now)) }
         ensures ok { IfOk result (λ n.
-            self.new ≡ record self.old { written = self.old.written ++ take n piece.now; calls = counted self.old.calls }) }
+            self.new ≡ record self.old {
+              written = self.old.written ++ take n piece.now;
+              calls = counted self.old.calls;
+            }) }
         ensures fault { IsErrOf result SinkFault.Failed →
             self.new ≡ record self.old { calls = counted self.old.calls; faults = counted self.old.faults } }
         ensures no_memory { IsErrOf result SinkFault.NoMemory →

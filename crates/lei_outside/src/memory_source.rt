@@ -86,7 +86,13 @@ impl Model for ByteSource {
 
     ghost Value = { SourceState };
 
-    ghost view = { λ s. record { left = s.source.left; most = s.source.most; failing = s.calls.failing; calls = s.calls.count; faults = s.calls.faults } };
+    ghost view = { λ s. record {
+      left = s.source.left;
+      most = s.source.most;
+      failing = s.calls.failing;
+      calls = s.calls.count;
+      faults = s.calls.faults;
+    } };
 }
 
 impl ByteSource {

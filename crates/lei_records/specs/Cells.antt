@@ -16,7 +16,7 @@ use Rattle.lei_records.specs.Places.{authority_id_place, authority_place, catego
 use Rattle.lei_records.specs.Rows.{Row, text_at}
 use Rattle.lei_records.specs.Spelled.{is_absent, moment_in, present}
 
--- ---- what a record's texts spell. Each part of a record's row can be read; of another row the value behind it is taken.
+-- ---- what a record's texts spell. Each part of a record's row can be read; of another row the value behind it stands for it.
 
 -- The entity's LEI.
 abbrev pub lei_in : Row → Lei
@@ -34,10 +34,11 @@ entity_status_in row = unwrap_or (entity_status_of (text_at row entity_status_pl
 unfoldable pub category_in : Row → Category
 category_in row = unwrap_or (category_of (text_at row category_place)) Category.General
 
--- The registration authority, and the authority's id of the entity.
+-- The registration authority.
 abbrev pub authority_in : Row → Text
 authority_in row = text_at row authority_place
 
+-- The authority's id of the entity.
 abbrev pub authority_id_in : Row → Text
 authority_id_in row = text_at row authority_id_place
 

@@ -1,5 +1,5 @@
--- What the row of an exception spells by its texts. Each part of such a row can be read; of another row the value behind
--- it is taken.
+-- What the row of an exception spells by its texts. Each part of such a row can be read; for that of another row stands
+-- the value behind it.
 use Rattle.std.specs.Prelude.{Bool, Option, unwrap_or, option_and_then}
 use Rattle.std.specs.Str.{bytes_eq}
 use Rattle.lei_code.specs.Texts.{Lei}
@@ -17,7 +17,8 @@ subject_in row = text_at row subject_place
 -- Which parent it doesn't report.
 unfoldable pub exception_category_in : Row → ExceptionCategory
 exception_category_in row =
-    unwrap_or (exception_category_of (text_at row exception_category_place)) ExceptionCategory.UltimateAccountingConsolidationParent
+    unwrap_or (exception_category_of (text_at row exception_category_place))
+    ExceptionCategory.UltimateAccountingConsolidationParent
 
 -- Why it doesn't, where that is said.
 abbrev pub reason_in : Row → Option Reason

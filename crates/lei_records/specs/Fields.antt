@@ -1,7 +1,7 @@
 -- The fields of the three kinds of items in order of place: how each is named, what it holds, and where it is needed. The
 -- names are those of the columns of a golden copy (level 1, level 2 and reporting exceptions), but for Register.TransferTo
 -- and Action; what they hold and where they are needed is this project's profile.
-use Rattle.std.specs.Prelude.{ℕ, List, [], ◌∷◌, map, take, Bool, true, false, not, ◌||◌, codes}
+use Rattle.std.specs.Prelude.{ℕ, ◌-◌, List, [], ◌∷◌, map, take, slice_index_or, Bool, true, false, not, ◌||◌, codes}
 use Rattle.std.specs.Borrow.{Bor}
 use Rattle.std.specs.Str.{bytes_eq}
 use Rattle.lei_code.specs.Texts.{Text}
@@ -109,6 +109,10 @@ field_names = map (λ field. field.0) fields
 -- The names of the fields of a kind of item in order of place.
 abbrev pub names_of : Kind → List Text
 names_of kind = map (λ field. field.0) (fields_of kind)
+
+-- The field at this place has this name.
+abbrev pub has_name : Kind → ℕ × Text → Bool
+has_name kind named = bytes_eq (slice_index_or (names_of kind) (named.0 - 1) (codes "")) named.1
 
 -- ---- what a field holds
 

@@ -81,14 +81,15 @@ abbrev pub with_exceptions : Table → Rows → Table
 with_exceptions table rows = record table { exceptions = rows }
 
 -- The table with the item: its row takes the place of the row of its key, or stands as a row of its own. An exception that
--- is a withdrawal takes out the row of its key. All other rows stay.
+-- is a withdrawal removes the row of its key. All other rows stay.
 abbrev pub put : Table → Item → Table
 put table (Item.Record row) = with_records table (insert table.records (record_key (lei_in row)) row)
 put table (Item.Relation row) = with_relations table (insert table.relations (relation_key_in row) row)
 put table (Item.Exception item) = with_exceptions table
-    (if item.1 then remove table.exceptions (exception_key_in item.0) else insert table.exceptions (exception_key_in item.0) item.0)
+    (if item.1 then remove table.exceptions (exception_key_in item.0)
+    else insert table.exceptions (exception_key_in item.0) item.0)
 
--- The table after a write: the item that is written is put, and where none is, the exception of the key is taken out. A
+-- The table after a write: the item that is written is put, and where none is, the exception of the key is removed. A
 -- record and a relationship are never withdrawn.
 abbrev pub put_write : Table → RowKey × Option Item → Table
 put_write table (key, Some item) = put table item

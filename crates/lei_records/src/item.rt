@@ -52,7 +52,8 @@ impl PartialEq for Fields {
     ghost use Rattle.std.specs.Cmp.Rules.{comparing};
     ghost use Rattle.std.proofs.Common.{rules};
 
-    ghost eq = { pointwise (eq_of_both (on (λ field. field.0) (pointwise ◌==◌)) (on (λ field. field.1) (pointwise ◌==◌))) };
+    ghost eq = { pointwise (eq_of_both
+        (on (λ field. field.0) (pointwise ◌==◌)) (on (λ field. field.1) (pointwise ◌==◌))) };
 
     ghost laws = { Prim.search (comparing, rules) };
 

@@ -1,8 +1,16 @@
-//! A law of the definitions, as the contract of a function that does nothing.
-ghost use Rattle.std.specs.Prelude.{◌≡◌, List, None};
+//! Laws of the definitions, each as the contract of a function that does nothing.
+ghost use Rattle.std.specs.Prelude.{◌≡◌, List, None, IsTrue};
+ghost use Rattle.std.specs.List.{list_all};
 ghost use Rattle.lei_code.specs.Texts.{Text};
 ghost use Rattle.lei_records.specs.declared.fields.Kind.{Kind};
+ghost use Rattle.lei_records.specs.Fields.{has_name};
 ghost use Rattle.lei_records.specs.Items.{IsRowOf, failed_check, row_of};
+ghost use Rattle.lei_records.specs.Places.{named_places};
+
+/// The places that the definitions speak of are those of the fields that they name.
+pub fn places_have_their_fields()
+    ensures { (kind : Kind) → IsTrue (list_all (has_name kind) (named_places kind)) }
+{}
 
 /// An item that passes its checks has the row of an item of its kind.
 pub fn good_items_have_rows()

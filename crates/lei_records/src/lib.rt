@@ -24,7 +24,7 @@ pub use check::{Check, Detail};
 pub use exception::ExceptionItem;
 pub use fields::{Content, Facts, Field, Kind, Need};
 pub use item::{Fields, Item, RawItem, Readied, Upload};
-pub use laws::good_items_have_rows;
+pub use laws::{good_items_have_rows, places_have_their_fields};
 pub use readying::ready;
 pub use record::Record;
 pub use relation::Relation;

@@ -33,7 +33,7 @@ pub const NOT_ISSUED: u8 = 10;
 /// C11: the held status may not change to the item's. It tells the held status.
 pub const TRANSITION: u8 = 11;
 
-/// C12: the uploader isn't the office that may make this change.
+/// C12: the uploader isn't the issuer that may make this change.
 pub const NOT_MANAGER: u8 = 12;
 
 /// C13: the held record has another date of first registration.

@@ -39,7 +39,8 @@ pub fn sheet_of(kind: Kind, pairs: &[(Text, Text)]) -> Sheet<'_>
 // The index of the field with this name.
 fn index_of(kind: Kind, name: &str) -> Option<usize>
     ensures known { is_some result ≡ is_field kind name.now }
-    ensures index { IfSome result (λ index. (index < field_count kind) × (slice_index_or (names_of kind) index name.now ≡ name.now)) }
+    ensures index { IfSome result
+        (λ index. (index < field_count kind) × (slice_index_or (names_of kind) index name.now ≡ name.now)) }
     ensures bound { IfSome result (λ index. index < record_places) }
 {
     let table = kind.fields();
