@@ -15,8 +15,6 @@ mod record;
 mod relation;
 mod sheet;
 mod tables;
-#[cfg(test)]
-mod tests;
 mod texts;
 mod view;
 
