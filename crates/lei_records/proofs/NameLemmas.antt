@@ -7,7 +7,7 @@ use Rattle.std.specs.Ordering.{is_lt, nat_cmp, ordering_reverse}
 use Rattle.std.specs.declared.cmp.Ordering.TheVariants.{Less}
 use Rattle.std.proofs.Common.{refl, ap, ◌∙◌}
 use Rattle.std.proofs.lemmas.Cmp.{nat_list_cmp_total}
-use Rattle.lei_records.specs.Names.{least, lesser, names}
+use Rattle.lei_records.specs.Names.{least, lesser}
 
 abbrev IsBelowAll : List ℕ → List (List ℕ) → Type 0
 IsBelowAll own ns = AllByRecursion (λ k. slice_cmp nat_cmp own k ≡ Less) ns
