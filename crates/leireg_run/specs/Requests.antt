@@ -17,7 +17,6 @@ use Rattle.leireg_run.specs.declared.requests.FirstWord.{FirstWord}
 use Rattle.leireg_run.specs.declared.requests.FirstWord.TheVariants.{Accredit, Upload, Show}
 
 infixl 10 ◌>>=◌
-
 -- What is made of a value, where there is one.
 abbrev pub ◌>>=◌ : {A B : Type 0} → Option A → (A → Option B) → Option B
 o >>= f = option_and_then f o

@@ -18,4 +18,3 @@ pub use laws::{
     items_keep_tables_sound, writes_make_the_table,
 };
 pub use outcome::{JudgeStop, Outcome, Verdict};
-

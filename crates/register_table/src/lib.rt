@@ -4,8 +4,8 @@
 
 mod laws;
 mod lists;
-mod searches;
 mod rows;
+mod searches;
 mod single;
 mod slot;
 mod table;
@@ -15,4 +15,3 @@ mod writes;
 pub use laws::undone_writes_leave_the_table;
 pub use table::Table;
 pub use undo::Undo;
-

@@ -6,8 +6,8 @@ ghost use Rattle.register_table.specs.Lists.{AreListed, HasNoWithdrawal, excepti
 ghost use Rattle.register_table.specs.Slots.{IsSlot, NeedsNoRoom, listed, note_of};
 ghost use Rattle.register_table.specs.Undos.{item_at, put_back, with_under};
 
-use crate::searches::{exception_index, record_index, relation_index};
 use crate::rows::{exchange, exchange_linked};
+use crate::searches::{exception_index, record_index, relation_index};
 use crate::single::Single;
 use crate::slot::Slot;
 use lei_code::Lei;
@@ -32,7 +32,7 @@ pub fn exchange_slot(lists: &mut Lists, slot: Slot) -> Slot
     requires listed { AreListed (listed lists.old) }
     requires room { NeedsNoRoom (table_of (listed lists.old)) (note_of slot)
         ⊎ ((vec_len lists.old.records < vec_capacity lists.old.records)
-            × (vec_len lists.old.relations < vec_capacity lists.old.relations)) }
+        × (vec_len lists.old.relations < vec_capacity lists.old.relations)) }
     requires few { length lists.old.exceptions + 1 < 2 ^ 63 }
     ensures table { table_of (listed lists.new) ≡ put_back (table_of (listed lists.old)) (note_of slot) }
     ensures note { note_of result ≡ ((note_of slot).0, item_at (table_of (listed lists.old)) (note_of slot).0) }

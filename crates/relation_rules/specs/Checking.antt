@@ -71,7 +71,7 @@ abbrev pub check_parents : Cells → Row → Checked
 check_parents cells item =
     if is_direct (kind_in item)
     then check_walked 38 39 (walk_parents cells (start_in item) (end_in item))
-        (check_category cells item (parent_category (kind_in item)))
+    (check_category cells item (parent_category (kind_in item)))
     else check_category cells item (parent_category (kind_in item))
 
 -- C37 to C40, with the other end of the active relationship of the item's start and type.
@@ -84,7 +84,7 @@ abbrev pub check_active : Cells → Row → Checked
 check_active cells item =
     if is_active item
     then on_seen (unless_own (end_in item) (cells.active (start_in item) (kind_in item)))
-        (CellKey.Act (start_in item) (kind_in item)) (check_other_end cells item)
+    (CellKey.Act (start_in item) (kind_in item)) (check_other_end cells item)
     else Checked.Passes
 
 -- C36 to C40, with the relationship that is held under the item's key.

@@ -110,7 +110,7 @@ fn check_active<V: View>(view: &V, item: &Relation) -> Checked
 fn check_end<V: View>(view: &V, item: &Relation, end: Lei) -> Checked
     ensures { Relations.is_active item.now ≡ true
         → (key : CellKey) → result ≡ Checking.on_seen (unless_own (Relations.end_in item.now) (Seen.Held end)) key
-            (Checking.check_other_end (V.cells view.now) item.now) }
+        (Checking.check_other_end (V.cells view.now) item.now) }
 {
     if end != item.end() {
         return Checked::Fails(telling(ACTIVE_TAKEN, end));
@@ -137,7 +137,7 @@ fn check_parents<V: View>(view: &V, item: &Relation) -> Checked
 fn check_exception<V: View>(view: &V, item: &Relation) -> Checked
     ensures { Relations.is_active item.now ≡ true
         → result ≡ Checking.check_category (V.cells view.now) item.now
-            (Parents.parent_category (Relations.kind_in item.now)) }
+        (Parents.parent_category (Relations.kind_in item.now)) }
 {
     match parent_category(item.kind()) {
         None => Checked::Passes,

@@ -207,7 +207,10 @@ fn ends_where_a_read_fails(rt: HostRuntime) -> Result<(), Fail> {
             .count();
         let replies = sink.written().iter().filter(|byte| **byte == b'\n').count();
         assert_eq!(rt; replies, lines, "read {call}");
-        assert!(rt; REPLIES.as_bytes().starts_with(sink.written()), "read {call}");
+        assert!(rt;
+            REPLIES.as_bytes().starts_with(sink.written()),
+            "read {call}"
+        );
     }
     Ok(())
 }
