@@ -1,5 +1,5 @@
 -- What a line's request, refusal or want of memory does to an office.
-use Rattle.std.proofs.Common.{◌≡◌, ℕ, ℤ, List, [], ◌∷◌, ◌++◌, length, Option, Some, None, Bool, true, false, cond, eqb, ltb, Result, inr, refl, sym, subst, bytes_eq, codes}
+use Rattle.std.proofs.Common.{◌≡◌, ℕ, ℤ, List, [], ◌∷◌, ◌++◌, length, Option, Some, None, Bool, true, false, cond, eqb, ltb, Result, inr, refl, sym, subst}
 use Rattle.std.proofs.lemmas.List.{append-nil}
 use Rattle.std.specs.Option.{option_and_then, option_map}
 use Rattle.lei_office.specs.declared.request.Request.{Request}
@@ -17,7 +17,7 @@ use Rattle.leireg_run.specs.Lines.{Line}
 use Rattle.leireg_run.specs.Limits.{line_limit}
 use Rattle.leireg_run.specs.Outbox.{Puts}
 use Rattle.leireg_run.specs.Replies.{reply_text}
-use Rattle.leireg_run.specs.Requests.{asked, asked_in, asked_by, or_path, cut, code_of, upload_of, accreditation_of, show_of, number_of, first_word, request_by, MayWantMemory}
+use Rattle.leireg_run.specs.Requests.{asked, asked_in, asked_by, or_path, cut, code_of, upload_of, accreditation_of, show_of, number_of, first_word, MayWantMemory}
 use Rattle.leireg_run.specs.Runs.{Answers, AnswersLine, AnswersAndPuts, Progress}
 use Rattle.leireg_run.specs.declared.requests.FirstWord.{FirstWord}
 use Rattle.leireg_run.specs.declared.requests.FirstWord.TheVariants.{Accredit, Upload, Show}
@@ -44,7 +44,8 @@ bind_range (Some x) f each = each x refl
 upload_range : (rest : List ℕ) → AsksInRange (or_path (upload_of rest))
 unfolding upload_of
 upload_range rest =
-    bind_range (cut rest) _ (λ first _. bind_range (cut first.1) _ (λ second _. bind_range (code_of first.0) _ (λ office _.
+    bind_range (cut rest) _
+    (λ first _. bind_range (cut first.1) _ (λ second _. bind_range (code_of first.0) _ (λ office _.
     bind_range (number_of second.0) _ (λ number is. number_of-range second.0 number is))))
 
 accreditation_range : (code : Option (List ℕ)) → AsksInRange (or_path (option_map requests.Accredit code))
@@ -85,8 +86,17 @@ Answers-one old new line moments reply is step =
     }
 
 -- and its text was put
-pub puts_reply : {T E : Type 0} (before after : Progress) (line : Line) (reply : Reply) (result : Result T E) → eqb (length line) 0 ≡ false
+pub puts_reply : {T E : Type 0} (before after : Progress) (line : Line) (reply : Reply) (result : Result T E)
+    → eqb (length line) 0 ≡ false
     → AnswersLine before.office line before.given after.given reply after.office
-    → Puts before.written after.written (before.waits ++ reply_text reply) result after.waits → AnswersAndPuts before (line ∷ []) result after
+    → Puts before.written after.written (before.waits ++ reply_text reply) result after.waits
+    → AnswersAndPuts before (line ∷ []) result after
 puts_reply before after line reply result is step puts =
-    record { moments = step.0; texts = reply_text reply; gives = step.1; answers = Answers-one before.office after.office line step.0 reply is step.2; puts = puts }
+    record {
+      moments = step.0;
+      texts = reply_text reply;
+      gives = step.1;
+      answers = Answers-one before.office
+          after.office line step.0 reply is step.2;
+      puts = puts;
+    }

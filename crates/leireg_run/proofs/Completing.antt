@@ -1,5 +1,5 @@
 -- Where nothing fails and no memory is wanting, all is done.
-use Rattle.std.proofs.Common.{◌≡◌, ◌≢◌, ◌<◌, ◌≤◌, ℕ, List, [], ◌++◌, length, Option, Some, None, unwrap_or, ◌⊎◌, inl, inr, ap, sym, subst, ◌∙◌, arith, length-append}
+use Rattle.std.proofs.Common.{◌≡◌, ◌≢◌, ◌<◌, ◌≤◌, ℕ, List, ◌++◌, length, Option, Some, None, unwrap_or, inl, inr, ap, sym, subst, ◌∙◌, arith, length-append}
 use Rattle.std.proofs.lemmas.List.{append-nil}
 use Rattle.std.specs.Str.Lines.{lines}
 use Rattle.lei_code.specs.Fault.{fault_of}
@@ -20,9 +20,11 @@ told_read bytes read (Some left) loses ended = sym (loses ∙ (ap (λ xs. read +
 
 told_length : (bytes read : List ℕ) (left : Option (List ℕ)) → Loses (Some bytes) left read → length read ≤ length bytes
 told_length bytes read None loses = absurd loses
-told_length bytes read (Some left) loses = let whole : length bytes ≡ length (read ++ left) = ap length loses in omega (arith, whole, length-append read left)
+told_length bytes read (Some left) loses = let whole : length bytes ≡ length (read ++ left) = ap length loses in omega
+    (arith, whole, length-append read left)
 
-complete_of : (bytes : List ℕ) (before after : Outside) (course : Course) (status : ℕ) → status ≡ 0 → IsAtEnd after.left → Leads before course after
+complete_of : (bytes : List ℕ) (before after : Outside) (course : Course) (status : ℕ) → status ≡ 0
+    → IsAtEnd after.left → Leads before course after
     → AnswersLines (lines bytes) course → IsComplete bytes before after status
 complete_of bytes before after course status is ended leads answered =
     let run = answered.1 in
@@ -39,27 +41,33 @@ complete_of bytes before after course status is ended leads answered =
       exact = exact (asks_of (lines bytes)) first_office answered.0 course.moments run.replies run.session;
     }
 
-ends_done : (bytes : List ℕ) (before after : Outside) (course : Course) (status : ℕ) → status ≢ 3 → status ≢ 4 → status ≢ 6 → length bytes < input_limit
-    → before.left ≡ Some bytes → Leads before course after → EndsWith status course after → IsComplete bytes before after status
+ends_done : (bytes : List ℕ) (before after : Outside) (course : Course) (status : ℕ) → status ≢ 3 → status ≢ 4
+    → status ≢ 6 → length bytes < input_limit
+    → before.left ≡ Some bytes → Leads before course after → EndsWith status course after
+    → IsComplete bytes before after status
 ends_done bytes before after course status n3 n4 n6 short told leads (inl (is, (below, ended, answered))) =
     let L : Option (List ℕ) → Type 0 = λ all. Loses all after.left course.read in
     let A : List ℕ → Type 0 = λ xs. AnswersLines (lines xs) course in
-    complete_of bytes before after course status is ended leads (subst A (told_read bytes course.read after.left (subst L told leads.reads) ended) answered)
+    complete_of bytes before after course status is ended leads
+    (subst A (told_read bytes course.read after.left (subst L told leads.reads) ended) answered)
 ends_done bytes before after course status n3 n4 n6 short told leads (inr (inl (is, stops))) = absurd (n3 is)
 ends_done bytes before after course status n3 n4 n6 short told leads (inr (inr (inl (is, stops)))) = absurd (n4 is)
-ends_done bytes before after course status n3 n4 n6 short told leads (inr (inr (inr (inl (is, stops))))) = absurd (n6 is)
+ends_done bytes before after course status n3 n4 n6 short told leads (inr (inr (inr (inl (is, stops))))) = absurd
+    (n6 is)
 ends_done bytes before after course status n3 n4 n6 short told leads (inr (inr (inr (inr (is, stops))))) =
     let L : Option (List ℕ) → Type 0 = λ all. Loses all after.left course.read in
     let within = told_length bytes course.read after.left (subst L told leads.reads) in
     absurd (omega (arith, stops.3, within, short))
 
-tells_done : (fault : Option LeiFault) (line : List ℕ) (before after : Option (List ℕ)) (status : ℕ) → status ≢ 4 → status ≢ 6
+tells_done : (fault : Option LeiFault) (line : List ℕ) (before after : Option (List ℕ)) (status : ℕ) → status ≢ 4
+    → status ≢ 6
     → TellsLine fault line before after status → status ≡ told_status fault
 tells_done fault line before after status n4 n6 (inl told) = told.0
 tells_done fault line before after status n4 n6 (inr (inl stopped)) = absurd (n4 stopped.0)
 tells_done fault line before after status n4 n6 (inr (inr stopped)) = absurd (n6 stopped.0)
 
-pub completes : (what : Meant) (before after : Outside) (status : ℕ) → status ≢ 3 → status ≢ 4 → status ≢ 6 → Does what before after status
+pub completes : (what : Meant) (before after : Outside) (status : ℕ) → status ≢ 3 → status ≢ 4 → status ≢ 6
+    → Does what before after status
     → Completes what before after status
 completes to_answer_lines before after status n3 n4 n6 runs =
     λ bytes told short. ends_done bytes before after runs.course status n3 n4 n6 short told runs.leads runs.ends
@@ -69,7 +77,8 @@ completes (to_make_digits text) before after status n3 n4 n6 tells =
     tells_done (digits_fault text) (digits_line text) before.written after.written status n4 n6 tells
 
 -- nothing stopped what the words mean
-pub completes_meant : (command what : Meant) (meant : Option Meant) (before after : Outside) → Some command ≡ meant → meant ≡ Some what
+pub completes_meant : (command what : Meant) (meant : Option Meant) (before after : Outside) → Some command ≡ meant
+    → meant ≡ Some what
     → Does command before after 0 → Completes what before after 0
 completes_meant command what meant before after is means does =
     let same : command ≡ what = ap (λ o. unwrap_or o command) (is ∙ means) in

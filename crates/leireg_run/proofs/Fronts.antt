@@ -29,15 +29,21 @@ abbrev asks_with : Bool → List ℕ → List Asked → List Asked
 asks_with is_empty line asks = cond is_empty asks (asked line ∷ asks)
 
 -- a whole text, and then the texts of more replies
-AreTextsOf-next : (reply : Reply) (replies : List Reply) (written : List ℕ) → AreTextsOf replies written → AreTextsOf (reply ∷ replies) (reply_text reply ++ written)
-AreTextsOf-next reply [] written texts =
-    (length (reply_text reply), ap (λ xs. reply_text reply ++ xs) texts ∙ (append-nil (reply_text reply) ∙ sym (take-length (reply_text reply))))
+AreTextsOf-next : (reply : Reply) (replies : List Reply) (written : List ℕ) → AreTextsOf replies written
+    → AreTextsOf (reply ∷ replies) (reply_text reply ++ written)
+AreTextsOf-next reply [] written texts = (
+  length (reply_text reply),
+  ap (λ xs. reply_text reply ++ xs) texts
+      ∙ (append-nil (reply_text reply) ∙ sym (take-length (reply_text reply))),
+)
 AreTextsOf-next reply (next ∷ replies) written texts = (written, refl, texts)
 
 -- an empty line more in front
-Front-skips : (old : OfficeState) (line : List ℕ) (others : List (List ℕ)) (moments : List ℤ) (written : List ℕ) → eqb (length line) 0 ≡ true → Front old others moments written → Front old (line ∷ others) moments written
+Front-skips : (old : OfficeState) (line : List ℕ) (others : List (List ℕ)) (moments : List ℤ) (written : List ℕ)
+    → eqb (length line) 0 ≡ true → Front old others moments written → Front old (line ∷ others) moments written
 Front-skips old line others moments written is front =
-    let S : Bool → Type 0 = λ b. Session old (asks_with b line (asks_of front.answered)) front.used front.replies front.office in
+    let S : Bool → Type 0 = λ b. Session old (asks_with b line (asks_of front.answered)) front.used front.replies
+    front.office in
     record {
       answered = line ∷ front.answered;
       left = front.left;
@@ -52,7 +58,9 @@ Front-skips old line others moments written is front =
     }
 
 -- a line whose reply was written as a front alone
-Front-stops : (old mid : OfficeState) (line : List ℕ) (others : List (List ℕ)) (moments used unused : List ℤ) (reply : Reply) (n : ℕ) → eqb (length line) 0 ≡ false → moments ≡ used ++ unused → AskStep old (asked line) used reply mid
+Front-stops : (old mid : OfficeState) (line : List ℕ) (others : List (List ℕ)) (moments used unused : List ℤ)
+    (reply : Reply) (n : ℕ) → eqb (length line) 0 ≡ false → moments ≡ used ++ unused
+    → AskStep old (asked line) used reply mid
     → Front old (line ∷ others) moments (take n (reply_text reply))
 Front-stops old mid line others moments used unused reply n is split step =
     let S : Bool → Type 0 = λ b. Session old (asks_with b line []) used (reply ∷ []) mid in
@@ -70,17 +78,21 @@ Front-stops old mid line others moments used unused reply n is split step =
     }
 
 -- a line whose reply was written whole
-Front-goes : (old mid : OfficeState) (line : List ℕ) (others : List (List ℕ)) (moments used unused : List ℤ) (reply : Reply) (written : List ℕ) → eqb (length line) 0 ≡ false → moments ≡ used ++ unused → AskStep old (asked line) used reply mid
+Front-goes : (old mid : OfficeState) (line : List ℕ) (others : List (List ℕ)) (moments used unused : List ℤ)
+    (reply : Reply) (written : List ℕ) → eqb (length line) 0 ≡ false → moments ≡ used ++ unused
+    → AskStep old (asked line) used reply mid
     → Front mid others unused written → Front old (line ∷ others) moments (reply_text reply ++ written)
 Front-goes old mid line others moments used unused reply written is split step front =
-    let S : Bool → Type 0 = λ b. Session old (asks_with b line (asks_of front.answered)) (used ++ front.used) (reply ∷ front.replies) front.office in
+    let S : Bool → Type 0 = λ b. Session old (asks_with b line (asks_of front.answered)) (used ++ front.used)
+    (reply ∷ front.replies) front.office in
     record {
       answered = line ∷ front.answered;
       left = front.left;
       parts = ap (λ xs. line ∷ xs) front.parts;
       used = used ++ front.used;
       unused = front.unused;
-      moment_parts = split ∙ (ap (λ (ms : List ℤ). used ++ ms) front.moment_parts ∙ sym (append_assoc used front.used front.unused));
+      moment_parts = split
+          ∙ (ap (λ (ms : List ℤ). used ++ ms) front.moment_parts ∙ sym (append_assoc used front.used front.unused));
       replies = reply ∷ front.replies;
       office = front.office;
       session = subst S (sym is) (used, front.used, mid, refl, step, front.session);
@@ -93,37 +105,63 @@ within_or_behind true n len is = let within : n ≤ len = grind (arith, nat_test
 within_or_behind false n len is = let behind : len < n = grind (arith, nat_tests) in inr (n - len, omega arith)
 
 -- the reply to a line, and those to the lines after it
-reply_front : (old mid : OfficeState) (line : List ℕ) (others : List (List ℕ)) (moments used unused : List ℤ) (reply : Reply) (replies : List Reply) (n : ℕ) → eqb (length line) 0 ≡ false → moments ≡ used ++ unused → AskStep old (asked line) used reply mid
+reply_front : (old mid : OfficeState) (line : List ℕ) (others : List (List ℕ)) (moments used unused : List ℤ)
+    (reply : Reply) (replies : List Reply) (n : ℕ) → eqb (length line) 0 ≡ false → moments ≡ used ++ unused
+    → AskStep old (asked line) used reply mid
     → ((m : ℕ) → Front mid others unused (take m (reply_texts replies)))
     → (n ≤ length (reply_text reply)) ⊎ ((m : ℕ) × (n ≡ length (reply_text reply) + m))
     → Front old (line ∷ others) moments (take n (reply_text reply ++ reply_texts replies))
 reply_front old mid line others moments used unused reply replies n is split step rest (inl within) =
     let F : List ℕ → Type 0 = λ written. Front old (line ∷ others) moments written in
-    subst F (sym (take-append-le n (reply_text reply) (reply_texts replies) within)) (Front-stops old mid line others moments used unused reply n is split step)
+    subst F (sym (take-append-le n (reply_text reply) (reply_texts replies) within))
+    (Front-stops old mid line others moments used unused reply n is split step)
 reply_front old mid line others moments used unused reply replies n is split step rest (inr behind) =
     let F : List ℕ → Type 0 = λ written. Front old (line ∷ others) moments written in
-    subst F (sym (ap (λ k. take k (reply_text reply ++ reply_texts replies)) behind.1 ∙ take-append-add (reply_text reply) (reply_texts replies) behind.0))
-    (Front-goes old mid line others moments used unused reply (take behind.0 (reply_texts replies)) is split step (rest behind.0))
+    subst F (sym (ap (λ k. take k (reply_text reply ++ reply_texts replies)) behind.1
+    ∙ take-append-add (reply_text reply) (reply_texts replies) behind.0))
+    (Front-goes old mid line others moments used unused reply (take behind.0 (reply_texts replies)) is split step
+    (rest behind.0))
 
-line_front : (is_empty : Bool) (old new : OfficeState) (line : List ℕ) (others : List (List ℕ)) (moments : List ℤ) (replies : List Reply) (n : ℕ) → eqb (length line) 0 ≡ is_empty
-    → ((mid : OfficeState) (later : List ℤ) (told : List Reply) (m : ℕ) → Session mid (asks_of others) later told new → Front mid others later (take m (reply_texts told)))
-    → Session old (asks_with is_empty line (asks_of others)) moments replies new → Front old (line ∷ others) moments (take n (reply_texts replies))
-line_front true old new line others moments replies n is rest session = Front-skips old line others moments (take n (reply_texts replies)) is (rest old moments replies n session)
+line_front : (is_empty : Bool) (old new : OfficeState) (line : List ℕ) (others : List (List ℕ)) (moments : List ℤ)
+    (replies : List Reply) (n : ℕ) → eqb (length line) 0 ≡ is_empty
+    → ((mid : OfficeState) (later : List ℤ) (told : List Reply) (m : ℕ) → Session mid (asks_of others) later told new
+    → Front mid others later (take m (reply_texts told)))
+    → Session old (asks_with is_empty line (asks_of others)) moments replies new
+    → Front old (line ∷ others) moments (take n (reply_texts replies))
+line_front true old new line others moments replies n is rest session = Front-skips old line others moments
+    (take n (reply_texts replies)) is (rest old moments replies n session)
 line_front false old new line others moments [] n is rest session = absurd session
 line_front false old new line others moments (reply ∷ replies) n is rest session =
-    reply_front old session.2 line others moments session.0 session.1 reply replies n is session.3 session.4 (λ m. rest session.2 session.1 replies m session.5) (within_or_behind (leb n (length (reply_text reply))) n (length (reply_text reply)) refl)
+    reply_front old session.2 line others moments session.0 session.1 reply replies n is session.3 session.4
+    (λ m. rest session.2 session.1 replies m session.5)
+    (within_or_behind (leb n (length (reply_text reply))) n (length (reply_text reply)) refl)
 
-front_of : (old new : OfficeState) (all : List (List ℕ)) (moments : List ℤ) (replies : List Reply) (n : ℕ) → Session old (asks_of all) moments replies new → Front old all moments (take n (reply_texts replies))
+front_of : (old new : OfficeState) (all : List (List ℕ)) (moments : List ℤ) (replies : List Reply) (n : ℕ)
+    → Session old (asks_of all) moments replies new → Front old all moments (take n (reply_texts replies))
 front_of old new [] moments [] n session =
-    record { answered = []; left = []; parts = refl; used = []; unused = moments; moment_parts = refl; replies = []; office = old; session = (refl, refl); texts = take-nil n }
+    record {
+      answered = [];
+      left = [];
+      parts = refl;
+      used = [];
+      unused = moments;
+      moment_parts = refl;
+      replies = [];
+      office = old;
+      session = (refl, refl);
+      texts = take-nil n;
+    }
 front_of old new [] moments (reply ∷ replies) n session = absurd session
 front_of old new (line ∷ others) moments replies n session =
-    line_front (eqb (length line) 0) old new line others moments replies n refl (λ mid later told m. front_of mid new others later told m) session
+    line_front (eqb (length line) 0) old new line others moments replies n refl
+    (λ mid later told m. front_of mid new others later told m) session
 
-pub written_front : (all : List (List ℕ)) (moments : List ℤ) (written : List ℕ) → AnswersFront all moments written → IsWrittenFront all moments written
+pub written_front : (all : List (List ℕ)) (moments : List ℤ) (written : List ℕ) → AnswersFront all moments written
+    → IsWrittenFront all moments written
 written_front all moments written run =
     let F : List ℕ → Type 0 = λ texts. Front first_office run.answered moments texts in
-    let front = subst F (sym run.texts) (front_of first_office run.office run.answered moments run.replies run.front run.session) in
+    let front = subst F (sym run.texts)
+    (front_of first_office run.office run.answered moments run.replies run.front run.session) in
     record {
       answered = front.answered;
       left = front.left ++ run.left;

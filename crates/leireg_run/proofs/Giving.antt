@@ -27,4 +27,5 @@ Gives-one u v m told range = record { told = told; range = All-cons IsClockMomen
 
 -- giving twice is giving both
 pub Gives-join : (u v w : Option (List ℤ)) (xs ys : List ℤ) → Gives u v xs → Gives v w ys → Gives u w (xs ++ ys)
-Gives-join u v w xs ys a b = record { told = Gave-join u v w xs ys a.told b.told; range = All-append IsClockMoment xs ys a.range b.range }
+Gives-join u v w xs ys a b = record
+    { told = Gave-join u v w xs ys a.told b.told; range = All-append IsClockMoment xs ys a.range b.range }

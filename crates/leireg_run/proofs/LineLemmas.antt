@@ -55,23 +55,28 @@ HasNoEnd-before bytes at found =
     found.0.before k (omega arith) lower (eq-eqb (get_or bytes k 0) 10 (sym (get_or-take at bytes k 0 lower) ∙ is)))
 
 -- and the bytes are cut there
-pub cut_at_end : (bytes : List ℕ) (at : ℕ) → IsFirstByte (is_byte 10) bytes (Some at) → bytes ≡ (take at bytes ++ 10 ∷ []) ++ drop (at + 1) bytes
+pub cut_at_end : (bytes : List ℕ) (at : ℕ) → IsFirstByte (is_byte 10) bytes (Some at)
+    → bytes ≡ (take at bytes ++ 10 ∷ []) ++ drop (at + 1) bytes
 cut_at_end bytes at found =
     let within : at < length bytes = found.0.high in
     let is : get_or bytes at 0 ≡ 10 = is_end-true (get_or bytes at 0) found.1 in
-    let rest : drop at bytes ≡ 10 ∷ drop (at + 1) bytes = drop-cons bytes at 0 within ∙ ap (λ byte. byte ∷ drop (suc at) bytes) is ∙ ap (λ n. 10 ∷ drop n bytes) (sym (add-one at)) in
-    sym (take-append-drop at bytes) ∙ ap (λ l. take at bytes ++ l) rest ∙ sym (append_assoc (take at bytes) (10 ∷ []) (drop (at + 1) bytes))
+    let rest : drop at bytes ≡ 10 ∷ drop (at + 1) bytes = drop-cons bytes at 0 within
+    ∙ ap (λ byte. byte ∷ drop (suc at) bytes) is ∙ ap (λ n. 10 ∷ drop n bytes) (sym (add-one at)) in
+    sym (take-append-drop at bytes) ∙ ap (λ l. take at bytes ++ l) rest
+    ∙ sym (append_assoc (take at bytes) (10 ∷ []) (drop (at + 1) bytes))
 
 -- the lines of bytes
 
-lines-cons : (part : List ℕ) (parts : List (List ℕ)) → 0 < length parts → lines_of_parts (part ∷ parts) ≡ line_of part ∷ lines_of_parts parts
+lines-cons : (part : List ℕ) (parts : List (List ℕ)) → 0 < length parts
+    → lines_of_parts (part ∷ parts) ≡ line_of part ∷ lines_of_parts parts
 lines-cons part [] some = absurd (omega arith)
 lines-cons part (next ∷ more) some = refl
 
 -- the first line ends at the first LF
 pub lines-first : (part rest : List ℕ) → HasNoEnd part → lines (part ++ 10 ∷ rest) ≡ line_of part ∷ lines rest
 lines-first part rest none =
-    ap lines_of_parts (slice_split_at is_end part 10 rest (no_test part none) refl) ∙ lines-cons part (slice_split is_end rest) (omega (arith, length-slice_split is_end rest))
+    ap lines_of_parts (slice_split_at is_end part 10 rest (no_test part none) refl)
+    ∙ lines-cons part (slice_split is_end rest) (omega (arith, length-slice_split is_end rest))
 
 -- an LF behind bytes that have none ends one line
 pub lines-one : (part : List ℕ) → HasNoEnd part → lines (part ++ 10 ∷ []) ≡ line_of part ∷ []
@@ -81,14 +86,21 @@ lines-one part none = lines-first part [] none
 pub lines-last : (part : List ℕ) → HasNoEnd part → lines part ≡ cond (length part == 0) [] (part ∷ [])
 lines-last part none = ap lines_of_parts (slice_split_none is_end part (no_test part none))
 
-lines-behind : (before part rest : List ℕ) → HasNoEnd part → lines (part ++ (before ++ 10 ∷ rest)) ≡ lines (part ++ (before ++ 10 ∷ [])) ++ lines rest
+lines-behind : (before part rest : List ℕ) → HasNoEnd part
+    → lines (part ++ (before ++ 10 ∷ rest)) ≡ lines (part ++ (before ++ 10 ∷ [])) ++ lines rest
 lines-behind [] part rest none =
     lines-first part rest none ∙ ap (λ ls. ls ++ lines rest) (sym (lines-first part [] none))
 lines-behind (byte ∷ bytes) part rest none =
-    let P : ℕ → Type 0 = λ x. lines (part ++ (x ∷ (bytes ++ 10 ∷ rest))) ≡ lines (part ++ (x ∷ (bytes ++ 10 ∷ []))) ++ lines rest in
+    let P : ℕ → Type 0 = λ x. lines (part ++ (x ∷ (bytes ++ 10 ∷ rest))) ≡ lines
+    (part ++ (x ∷ (bytes ++ 10 ∷ []))) ++ lines rest in
     elim (eqb_tells byte 10) [
-      | inl is ↦ subst P (sym is.1) (lines-first part (bytes ++ 10 ∷ rest) none ∙ ap (λ ls. line_of part ∷ ls) (lines-behind bytes [] rest HasNoEnd-nil) ∙ ap (λ ls. ls ++ lines rest) (sym (lines-first part (bytes ++ 10 ∷ []) none)))
-      | inr is ↦ ap lines (sym (append_assoc part (byte ∷ []) (bytes ++ 10 ∷ rest))) ∙ lines-behind bytes (part ++ byte ∷ []) rest (All-push IsOther part byte none is.1) ∙ ap (λ l. lines l ++ lines rest) (append_assoc part (byte ∷ []) (bytes ++ 10 ∷ []))
+      | inl is ↦ subst P (sym is.1)
+          (lines-first part (bytes ++ 10 ∷ rest) none
+          ∙ ap (λ ls. line_of part ∷ ls) (lines-behind bytes [] rest HasNoEnd-nil)
+          ∙ ap (λ ls. ls ++ lines rest) (sym (lines-first part (bytes ++ 10 ∷ []) none)))
+      | inr is ↦ ap lines (sym (append_assoc part (byte ∷ []) (bytes ++ 10 ∷ rest)))
+          ∙ lines-behind bytes (part ++ byte ∷ []) rest (All-push IsOther part byte none is.1)
+          ∙ ap (λ l. lines l ++ lines rest) (append_assoc part (byte ∷ []) (bytes ++ 10 ∷ []))
     ]
 
 -- the lines of whole lines come first, whatever stands behind them
@@ -96,7 +108,8 @@ pub lines-closed : (front rest : List ℕ) → IsClosed front → lines (front +
 lines-closed front rest (inl none) = ap (λ l. lines (l ++ rest)) none ∙ sym (ap (λ l. lines l ++ lines rest) none)
 lines-closed front rest (inr ends) =
     let before = ends.0 in
-    ap (λ l. lines (l ++ rest)) ends.1 ∙ ap lines (append_assoc before (10 ∷ []) rest) ∙ lines-behind before [] rest HasNoEnd-nil ∙ sym (ap (λ l. lines l ++ lines rest) ends.1)
+    ap (λ l. lines (l ++ rest)) ends.1 ∙ ap lines (append_assoc before (10 ∷ []) rest)
+    ∙ lines-behind before [] rest HasNoEnd-nil ∙ sym (ap (λ l. lines l ++ lines rest) ends.1)
 
 pub IsClosed-nil : IsClosed []
 IsClosed-nil = inl refl
@@ -106,25 +119,32 @@ IsClosed-more front part = inr (front ++ part, refl)
 
 pub IsClosed-append : (front more : List ℕ) → IsClosed front → IsClosed more → IsClosed (front ++ more)
 IsClosed-append front more closed (inl none) =
-    let P : List ℕ → Type 0 = λ l. IsClosed l in subst P (sym (append-nil front) ∙ ap (λ l. front ++ l) (sym none)) closed
+    let P : List ℕ → Type 0 = λ l. IsClosed l in subst P (sym (append-nil front) ∙ ap (λ l. front ++ l) (sym none))
+    closed
 IsClosed-append front more closed (inr ends) =
     inr (front ++ ends.0, ap (λ l. front ++ l) ends.1 ∙ sym (append_assoc front ends.0 (10 ∷ [])))
 
 -- an LF makes one line more of what stands behind whole lines
-pub lines-more : (front part : List ℕ) → IsClosed front → HasNoEnd part → lines ((front ++ part) ++ 10 ∷ []) ≡ lines front ++ line_of part ∷ []
+pub lines-more : (front part : List ℕ) → IsClosed front → HasNoEnd part
+    → lines ((front ++ part) ++ 10 ∷ []) ≡ lines front ++ line_of part ∷ []
 lines-more front part closed none =
-    ap lines (append_assoc front part (10 ∷ [])) ∙ lines-closed front (part ++ 10 ∷ []) closed ∙ ap (λ ls. lines front ++ ls) (lines-one part none)
+    ap lines (append_assoc front part (10 ∷ [])) ∙ lines-closed front (part ++ 10 ∷ []) closed
+    ∙ ap (λ ls. lines front ++ ls) (lines-one part none)
 
 -- what stands behind whole lines is the last line, where there is a byte
-pub lines-end : (front part : List ℕ) → IsClosed front → HasNoEnd part → lines (front ++ part) ≡ lines front ++ cond (length part == 0) [] (part ∷ [])
+pub lines-end : (front part : List ℕ) → IsClosed front → HasNoEnd part
+    → lines (front ++ part) ≡ lines front ++ cond (length part == 0) [] (part ∷ [])
 lines-end front part closed none =
     lines-closed front part closed ∙ ap (λ ls. lines front ++ ls) (lines-last part none)
 
 -- a line lacks at most one of the bytes before its LF
 pub length-line_of : (part : List ℕ) → length part ≤ length (line_of part) + 1
 length-line_of part =
-    let short : length (take (length part - 1) part) ≡ length part - 1 = length-take-le (length part - 1) part (omega arith) in
-    elim (get_or part (length part - 1) 0 == 13) as (λ test. length part ≤ length (cond test (take (length part - 1) part) part) + 1) [ true ↦ omega arith | false ↦ omega arith ]
+    let short : length (take (length part - 1) part) ≡ length part - 1 = length-take-le (length part - 1) part
+    (omega arith) in
+    elim (get_or part (length part - 1) 0 == 13)
+    as (λ test. length part ≤ length (cond test (take (length part - 1) part) part) + 1)
+    [ true ↦ omega arith | false ↦ omega arith ]
 
 -- whole lines, and what stands behind them
 
@@ -145,13 +165,15 @@ HasNoEnd-untested (byte ∷ bytes) h =
 has_end-none : (bytes : List ℕ) → HasNoEnd bytes → has_end bytes ≡ false
 has_end-none [] none = refl
 has_end-none (byte ∷ bytes) none =
-    ap (λ test. test || has_end bytes) (is_end-other byte (All-head IsOther byte bytes none)) ∙ has_end-none bytes (All-tail IsOther byte bytes none)
+    ap (λ test. test || has_end bytes) (is_end-other byte (All-head IsOther byte bytes none))
+    ∙ has_end-none bytes (All-tail IsOther byte bytes none)
 
 has_end-mid : (before part : List ℕ) → has_end (before ++ 10 ∷ part) ≡ true
 has_end-mid [] part = refl
 has_end-mid (byte ∷ bytes) part = ap (λ test. is_end byte || test) (has_end-mid bytes part) ∙ or_true (is_end byte)
 
-whole_part-some : (byte : ℕ) (bytes : List ℕ) → has_end (byte ∷ bytes) ≡ true → whole_part (byte ∷ bytes) ≡ byte ∷ whole_part bytes
+whole_part-some : (byte : ℕ) (bytes : List ℕ) → has_end (byte ∷ bytes) ≡ true
+    → whole_part (byte ∷ bytes) ≡ byte ∷ whole_part bytes
 unfolding whole_part
 whole_part-some byte bytes h = ap (λ test. cond test (byte ∷ whole_part bytes) []) h
 
@@ -160,7 +182,8 @@ unfolding whole_part
 whole_part-none [] h = refl
 whole_part-none (byte ∷ bytes) h = ap (λ test. cond test (byte ∷ whole_part bytes) []) h
 
-last_part-some : (byte : ℕ) (bytes : List ℕ) → has_end (byte ∷ bytes) ≡ true → last_part (byte ∷ bytes) ≡ last_part bytes
+last_part-some : (byte : ℕ) (bytes : List ℕ) → has_end (byte ∷ bytes) ≡ true
+    → last_part (byte ∷ bytes) ≡ last_part bytes
 unfolding last_part
 last_part-some byte bytes h = ap (λ test. cond test (last_part bytes) (byte ∷ bytes)) h
 
@@ -181,8 +204,10 @@ pub parts_of : (bytes : List ℕ) → whole_part bytes ++ last_part bytes ≡ by
 parts_of [] = ap (λ l. l ++ last_part []) (whole_part-none [] refl) ∙ last_part-none [] refl
 parts_of (byte ∷ bytes) =
     elim (tells (has_end (byte ∷ bytes))) [
-      | inl h ↦ ap (λ l. l ++ last_part (byte ∷ bytes)) (whole_part-some byte bytes h) ∙ ap (λ l. byte ∷ (whole_part bytes ++ l)) (last_part-some byte bytes h) ∙ ap (λ l. byte ∷ l) (parts_of bytes)
-      | inr h ↦ ap (λ l. l ++ last_part (byte ∷ bytes)) (whole_part-none (byte ∷ bytes) h) ∙ last_part-none (byte ∷ bytes) h
+      | inl h ↦ ap (λ l. l ++ last_part (byte ∷ bytes)) (whole_part-some byte bytes h)
+          ∙ ap (λ l. byte ∷ (whole_part bytes ++ l)) (last_part-some byte bytes h) ∙ ap (λ l. byte ∷ l) (parts_of bytes)
+      | inr h ↦ ap (λ l. l ++ last_part (byte ∷ bytes)) (whole_part-none (byte ∷ bytes) h)
+          ∙ last_part-none (byte ∷ bytes) h
     ]
 
 whole_part-ends : (bytes : List ℕ) → has_end bytes ≡ true → (before : List ℕ) × (whole_part bytes ≡ before ++ 10 ∷ [])
@@ -195,7 +220,11 @@ whole_part-ends (byte ∷ bytes) h =
           (byte ∷ later.0, whole ∙ ap (λ l. byte ∷ l) later.1)
           )
       | inr last ↦ (
-          let is : byte ≡ 10 = elim (eqb_tells byte 10) [ inl e ↦ e.1 | inr e ↦ absurd (let bad : true ≡ false = sym h ∙ ap (λ test. test || has_end bytes) e.0 ∙ last in cc) ] in
+          let is : byte ≡ 10 = elim (eqb_tells byte 10) [
+            | inl e ↦ e.1
+            | inr e ↦ absurd
+                (let bad : true ≡ false = sym h ∙ ap (λ test. test || has_end bytes) e.0 ∙ last in cc)
+          ] in
           ([], whole ∙ ap (λ l. byte ∷ l) (whole_part-none bytes last) ∙ ap (λ x. x ∷ []) is)
           )
     ]
@@ -217,7 +246,8 @@ whole_part-mid : (before part : List ℕ) → HasNoEnd part → whole_part (befo
 whole_part-mid [] part none =
     whole_part-some 10 part (has_end-mid [] part) ∙ ap (λ l. 10 ∷ l) (whole_part-none part (has_end-none part none))
 whole_part-mid (byte ∷ bytes) part none =
-    whole_part-some byte (bytes ++ 10 ∷ part) (has_end-mid (byte ∷ bytes) part) ∙ ap (λ l. byte ∷ l) (whole_part-mid bytes part none)
+    whole_part-some byte (bytes ++ 10 ∷ part) (has_end-mid (byte ∷ bytes) part)
+    ∙ ap (λ l. byte ∷ l) (whole_part-mid bytes part none)
 
 last_part-mid : (before part : List ℕ) → HasNoEnd part → last_part (before ++ 10 ∷ part) ≡ part
 last_part-mid [] part none =
@@ -230,13 +260,15 @@ pub whole_part-is : (front part : List ℕ) → IsClosed front → HasNoEnd part
 whole_part-is front part (inl is) none =
     ap (λ l. whole_part (l ++ part)) is ∙ whole_part-none part (has_end-none part none) ∙ sym is
 whole_part-is front part (inr ends) none =
-    ap (λ l. whole_part (l ++ part)) ends.1 ∙ ap whole_part (append_assoc ends.0 (10 ∷ []) part) ∙ whole_part-mid ends.0 part none ∙ sym ends.1
+    ap (λ l. whole_part (l ++ part)) ends.1 ∙ ap whole_part (append_assoc ends.0 (10 ∷ []) part)
+    ∙ whole_part-mid ends.0 part none ∙ sym ends.1
 
 pub last_part-is : (front part : List ℕ) → IsClosed front → HasNoEnd part → last_part (front ++ part) ≡ part
 last_part-is front part (inl is) none =
     ap (λ l. last_part (l ++ part)) is ∙ last_part-none part (has_end-none part none)
 last_part-is front part (inr ends) none =
-    ap (λ l. last_part (l ++ part)) ends.1 ∙ ap last_part (append_assoc ends.0 (10 ∷ []) part) ∙ last_part-mid ends.0 part none
+    ap (λ l. last_part (l ++ part)) ends.1 ∙ ap last_part (append_assoc ends.0 (10 ∷ []) part)
+    ∙ last_part-mid ends.0 part none
 
 -- the texts of items, cut anywhere before their end
 
@@ -250,7 +282,8 @@ pub record CutsAt {X Y : Type 0} (text : X → List Y) (items : List X) (n : ℕ
   pub within : some < length (text item)
   pub front : take n (flat_map text items) ≡ flat_map text before ++ take some (text item)
 
-cuts_later : {X Y : Type 0} (text : X → List Y) (item : X) (items : List X) (left : ℕ) → CutsAt text items left → CutsAt text (item ∷ items) (length (text item) + left)
+cuts_later : {X Y : Type 0} (text : X → List Y) (item : X) (items : List X) (left : ℕ) → CutsAt text items left
+    → CutsAt text (item ∷ items) (length (text item) + left)
 cuts_later text item items left later =
     record {
       before = item ∷ later.before;
@@ -259,10 +292,12 @@ cuts_later text item items left later =
       some = later.some;
       split = ap (λ l. item ∷ l) later.split;
       within = later.within;
-      front = take-append-add (text item) (flat_map text items) left ∙ ap (λ l. text item ++ l) later.front ∙ sym (append_assoc (text item) (flat_map text later.before) (take later.some (text later.item)));
+      front = take-append-add (text item) (flat_map text items) left ∙ ap (λ l. text item ++ l) later.front
+          ∙ sym (append_assoc (text item) (flat_map text later.before) (take later.some (text later.item)));
     }
 
-pub cuts_at : {X Y : Type 0} (text : X → List Y) (items : List X) (n : ℕ) → n < length (flat_map text items) → CutsAt text items n
+pub cuts_at : {X Y : Type 0} (text : X → List Y) (items : List X) (n : ℕ) → n < length (flat_map text items)
+    → CutsAt text items n
 cuts_at text [] n h = absurd (omega arith)
 cuts_at text (item ∷ items) n h =
     elim (cases_lt n (length (text item))) [
@@ -278,6 +313,8 @@ cuts_at text (item ∷ items) n h =
       | inr past ↦ (
           let left = n - length (text item) in
           let whole : length (text item) + left ≡ n = omega arith in
-          subst (λ (k : ℕ). CutsAt text (item ∷ items) k) whole (cuts_later text item items left (cuts_at text items left (omega (arith, length-append (text item) (flat_map text items)))))
+          subst (λ (k : ℕ). CutsAt text (item ∷ items) k) whole
+          (cuts_later text item items left
+          (cuts_at text items left (omega (arith, length-append (text item) (flat_map text items)))))
           )
     ]

@@ -28,7 +28,9 @@ number_of-decimal bytes n low high is =
     let at_least : leb 1 n ≡ true = grind (arith, nat_tests) in
     let at_most : leb n 1000000 ≡ true = grind (arith, nat_tests) in
     let plain = (bytes_eq-Decides (decimal n) bytes).1 (sym is) in
-    ap (plain_number bytes) value ∙ ap (λ test. cond test (Some n) None) (all_three (leb 1 n) (leb n 1000000) (bytes_eq (decimal n) bytes) at_least at_most plain)
+    ap (plain_number bytes) value
+    ∙ ap (λ test. cond test (Some n) None)
+    (all_three (leb 1 n) (leb n 1000000) (bytes_eq (decimal n) bytes) at_least at_most plain)
 
 -- and nothing else stands for one
 pub number_of-none : (bytes : List ℕ) → ((n : ℕ) → 1 ≤ n → n ≤ 1000000 → bytes ≡ decimal n → ⊥) → number_of bytes ≡ None
@@ -43,9 +45,13 @@ number_of-none bytes never =
 
 pub number_of-no_text : (bytes : List ℕ) → ¬ (IsUtf8 bytes) → number_of bytes ≡ None
 number_of-no_text bytes no_text =
-    number_of-none bytes (λ n low high is. let P : List ℕ → Type 0 = λ b. IsUtf8 b in no_text (subst P (sym is) (IsUtf8-from_ascii (decimal n) (IsAscii-decimal n (omega arith)))))
+    number_of-none bytes
+    (λ n low high is. let P : List ℕ
+    → Type 0 = λ b. IsUtf8 b in no_text
+    (subst P (sym is) (IsUtf8-from_ascii (decimal n) (IsAscii-decimal n (omega arith)))))
 
-pub number_of-not_parsed : (bytes : List ℕ) → ParsesUnsigned {E = Unit {0}} 32 10 bytes (Err tt) → number_of bytes ≡ None
+pub number_of-not_parsed : (bytes : List ℕ) → ParsesUnsigned {E = Unit {0}} 32 10 bytes (Err tt)
+    → number_of bytes ≡ None
 number_of-not_parsed bytes parsed =
     number_of-none bytes (λ n low high is.
     let found : Result ℕ (Unit {0}) = Err tt in
@@ -53,7 +59,8 @@ number_of-not_parsed bytes parsed =
     cc)
 
 -- what was read is no number of a request: it is out of range, or isn't written so
-pub number_of-other : (bytes : List ℕ) (number : ℕ) → ParsesUnsigned {E = Unit {0}} 32 10 bytes (Ok number) → (1 ≤ number → number ≤ 1000000 → bytes ≡ decimal number → ⊥) → number_of bytes ≡ None
+pub number_of-other : (bytes : List ℕ) (number : ℕ) → ParsesUnsigned {E = Unit {0}} 32 10 bytes (Ok number)
+    → (1 ≤ number → number ≤ 1000000 → bytes ≡ decimal number → ⊥) → number_of bytes ≡ None
 number_of-other bytes number parsed never =
     number_of-none bytes (λ n low high is.
     let found : Result ℕ (Unit {0}) = Ok number in

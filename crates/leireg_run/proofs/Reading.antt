@@ -1,6 +1,5 @@
 -- How a reader goes on where a line has begun.
 use Rattle.std.proofs.Common.{◌≡◌, ℕ, ◌+◌, ◌<◌, List, [], ◌∷◌, ◌++◌, length, take, drop, Bool, true, false, cond, eqb, ltb, Option, Result, Ok, Err, IsErr, IfOk, inl, inr, refl, sym, ap, ◌∙◌, subst, append_assoc, arith, length-append, take-append-drop}
-use Rattle.std.proofs.lemmas.List.{append-nil}
 use Rattle.std.proofs.lemmas.Bool.Decides.{nat_tests}
 use Rattle.std.specs.Str.Lines.{lines}
 use Rattle.lei_outside.specs.declared.faults.SinkFault.{SinkFault}
@@ -30,7 +29,8 @@ too_long line long =
     let is : ltb line_limit (length line) ≡ true = grind (arith, nat_tests) in
     ap (λ b. cond b (Refuse TooLong) (asked_in line (cut line))) is
 
-Answers-long : (old : OfficeState) (line : Line) → line_limit < length line → Answers old (line ∷ []) [] (reply_text (Words TooLong)) old
+Answers-long : (old : OfficeState) (line : Line) → line_limit < length line
+    → Answers old (line ∷ []) [] (reply_text (Words TooLong)) old
 Answers-long old line long =
     let stands : eqb (length line) 0 ≡ false = grind (arith, nat_tests) in
     let S : Asked → Type 0 = λ what. AskStep old what [] (Words TooLong) old in
@@ -40,19 +40,30 @@ Answers-long old line long =
 abbrev put_so : Progress → List ℕ → Option (List ℕ) → Progress
 put_so at waits written = record at { waits = waits; written = written }
 
-puts_long : {T E : Type 0} (at : Progress) (asked_lines : List Line) (waits : List ℕ) (written : Option (List ℕ)) (result : Result T E)
-    → Answers at.office asked_lines [] (reply_text (Words TooLong)) at.office → Puts at.written written (at.waits ++ reply_text (Words TooLong)) result waits
+puts_long : {T E : Type 0} (at : Progress) (asked_lines : List Line) (waits : List ℕ) (written : Option (List ℕ))
+    (result : Result T E)
+    → Answers at.office asked_lines [] (reply_text (Words TooLong)) at.office
+    → Puts at.written written (at.waits ++ reply_text (Words TooLong)) result waits
     → AnswersAndPuts at asked_lines result (put_so at waits written)
 puts_long at asked_lines waits written result answers puts =
-    record { moments = []; texts = reply_text (Words TooLong); gives = Gives-none at.given; answers = answers; puts = puts }
+    record {
+      moments = [];
+      texts = reply_text (Words TooLong);
+      gives = Gives-none at.given;
+      answers = answers;
+      puts =
+          puts;
+    }
 
 -- ---- lines after lines
 
 -- more lines were answered after those in front
-pub goes_on : {T E : Type 0} (before mid after : Progress) (front more : List ℕ) (result : Result T E) → Answered before front mid
+pub goes_on : {T E : Type 0} (before mid after : Progress) (front more : List ℕ) (result : Result T E)
+    → Answered before front mid
     → AnswersAndPuts mid (lines more) result after → AnswersAndPuts before (lines (front ++ more)) result after
 goes_on before mid after front more result answered then =
-    answers_more before mid after front (lines more) (lines (front ++ more)) result (lines-closed front more answered.closed) answered then
+    answers_more before mid after front (lines more) (lines (front ++ more)) result
+    (lines-closed front more answered.closed) answered then
 
 -- ---- a block behind the begin of a line that is skipped
 
@@ -60,8 +71,10 @@ goes_on before mid after front more result answered then =
 behind : (seen : ℕ) (window : List ℕ) → take seen window ≡ [] → drop seen window ≡ window
 behind seen window none = ap (λ xs. xs ++ drop seen window) (sym none) ∙ take-append-drop seen window
 
-pub skips_all : (E : Type 0) (skips : Bool) (window held : List ℕ) (seen : ℕ) (at : Progress) (part : List ℕ) → skips ≡ true → HasNoEnd window → held ≡ []
-    → Holds skips (take seen window) part → TakesIn {T = Unit {0}} {E = E} part (drop seen window) at (Ok (tt {0})) at skips held
+pub skips_all : (E : Type 0) (skips : Bool) (window held : List ℕ) (seen : ℕ) (at : Progress) (part : List ℕ)
+    → skips ≡ true → HasNoEnd window → held ≡ []
+    → Holds skips (take seen window) part
+    → TakesIn {T = Unit {0}} {E = E} part (drop seen window) at (Ok (tt {0})) at skips held
 skips_all E true window held seen at part is none empty holds =
     let N : List ℕ → Type 0 = λ xs. HasNoEnd xs in
     let more = drop seen window in
@@ -70,23 +83,37 @@ skips_all E true window held seen at part is none empty holds =
       part ++ more,
       refl,
       inl refl,
-      record { moments = nothing.moments; texts = nothing.texts; gives = nothing.gives; answers = nothing.answers; puts = nothing.puts },
-      (HasNoEnd-append part more holds.0 (subst N (sym (behind seen window holds.1)) none), empty, omega (arith, length-append part more, holds.2)),
+      record {
+        moments = nothing.moments;
+        texts = nothing.texts;
+        gives = nothing.gives;
+        answers = nothing.answers;
+        puts = nothing.puts;
+      },
+      (
+        HasNoEnd-append part more holds.0 (subst N (sym (behind seen window holds.1)) none),
+        empty,
+        omega
+            (arith, length-append part more, holds.2),
+      ),
     )
 skips_all E false window held seen at part is none empty holds = cc
 
 -- a long line ends in the block
-long_parts : (seen : ℕ) (window part before after : List ℕ) → take seen window ≡ [] → Ends window before after → part ++ drop seen window ≡ ((part ++ before) ++ 10 ∷ []) ++ after
+long_parts : (seen : ℕ) (window part before after : List ℕ) → take seen window ≡ [] → Ends window before after
+    → part ++ drop seen window ≡ ((part ++ before) ++ 10 ∷ []) ++ after
 long_parts seen window part before after none ends =
     ap (λ xs. part ++ xs) (behind seen window none ∙ ends.parts)
-    ∙ (sym (append_assoc part (before ++ 10 ∷ []) after) ∙ ap (λ xs. xs ++ after) (sym (append_assoc part before (10 ∷ []))))
+    ∙ (sym (append_assoc part (before ++ 10 ∷ []) after)
+    ∙ ap (λ xs. xs ++ after) (sym (append_assoc part before (10 ∷ []))))
 
 long_line : (old : OfficeState) (part before : List ℕ) → HasNoEnd part → HasNoEnd before → line_limit + 1 < length part
     → Answers old (lines ((part ++ before) ++ 10 ∷ [])) [] (reply_text (Words TooLong)) old
 long_line old part before none none' long =
     let A : List Line → Type 0 = λ ls. Answers old ls [] (reply_text (Words TooLong)) old in
     let line = line_of (part ++ before) in
-    let is_long : line_limit < length line = omega (arith, length-line_of (part ++ before), length-append part before, long) in
+    let is_long : line_limit < length line = omega
+    (arith, length-line_of (part ++ before), length-append part before, long) in
     subst A (sym (lines-one (part ++ before) (HasNoEnd-append part before none none'))) (Answers-long old line is_long)
 
 -- nothing is asked of what was refused
@@ -94,18 +121,23 @@ pub never : (P : Type 0) (result : Result (Unit {0}) SinkFault) → IsErr result
 never P (Err fault) failed = tt
 never P (Ok done) failed = cc
 
-pub long_stops : (skips : Bool) (window : List ℕ) (seen : ℕ) (at : Progress) (waits : List ℕ) (written : Option (List ℕ)) (part before after : List ℕ) (fault : SinkFault) (result : Result (Unit {0}) SinkFault)
-    → skips ≡ true → IsErr result → Ends window before after → Puts {T = Unit {0}} at.written written (at.waits ++ reply_text (Words TooLong)) (Err fault) waits
+pub long_stops : (skips : Bool) (window : List ℕ) (seen : ℕ) (at : Progress) (waits : List ℕ)
+    (written : Option (List ℕ)) (part before after : List ℕ) (fault : SinkFault) (result : Result (Unit {0}) SinkFault)
+    → skips ≡ true → IsErr result → Ends window before after
+    → Puts {T = Unit {0}} at.written written (at.waits ++ reply_text (Words TooLong)) (Err fault) waits
     → Holds skips (take seen window) part
-    → (part ++ drop seen window ≡ ((part ++ before) ++ 10 ∷ []) ++ after) × AnswersAndPuts at (lines ((part ++ before) ++ 10 ∷ [])) result (put_so at waits written)
+    → (part ++ drop seen window ≡ ((part ++ before) ++ 10 ∷ []) ++ after)
+    × AnswersAndPuts at (lines ((part ++ before) ++ 10 ∷ [])) result (put_so at waits written)
 long_stops true window seen at waits written part before after fault (Err other) is failed ends puts holds = (
   long_parts seen window part before after holds.1 ends,
-  puts_long at (lines ((part ++ before) ++ 10 ∷ [])) waits written (Err other) (long_line at.office part before holds.0 ends.none holds.2) puts,
+  puts_long at (lines ((part ++ before) ++ 10 ∷ [])) waits written (Err other)
+      (long_line at.office part before holds.0 ends.none holds.2) puts,
 )
 long_stops skips window seen at waits written part before after fault (Ok done) is failed ends puts holds = cc
 long_stops false window seen at waits written part before after fault (Err other) is failed ends puts holds = cc
 
-pub long_goes : (skips : Bool) (window held : List ℕ) (skips_now : Bool) (seen : ℕ) (at : Progress) (waits : List ℕ) (written : Option (List ℕ)) (now : Progress) (part before after : List ℕ) (result : Result (Unit {0}) SinkFault)
+pub long_goes : (skips : Bool) (window held : List ℕ) (skips_now : Bool) (seen : ℕ) (at : Progress) (waits : List ℕ)
+    (written : Option (List ℕ)) (now : Progress) (part before after : List ℕ) (result : Result (Unit {0}) SinkFault)
     → skips ≡ true → Ends window before after → Sends at.written written (at.waits ++ reply_text (Words TooLong)) waits
     → TakesIn [] after (put_so at waits written) result now skips_now held
     → Holds skips (take seen window) part → TakesIn part (drop seen window) at result now skips_now held
@@ -114,11 +146,13 @@ long_goes true window held skips_now seen at waits written now part before after
     let closed : IsClosed long = inr (part ++ before, refl) in
     let answered : Answered at long (put_so at waits written) = record {
       closed = closed;
-      done = puts_long at (lines long) waits written (Ok (tt {0})) (long_line at.office part before holds.0 ends.none holds.2) sent;
+      done = puts_long at (lines long) waits written (Ok (tt {0}))
+          (long_line at.office part before holds.0 ends.none holds.2) sent;
     } in (
       long ++ then.0,
       then.1,
-      long_parts seen window part before after holds.1 ends ∙ (ap (λ xs. long ++ xs) then.2 ∙ sym (append_assoc long then.0 then.1)),
+      long_parts seen window part before after holds.1 ends
+          ∙ (ap (λ xs. long ++ xs) then.2 ∙ sym (append_assoc long then.0 then.1)),
       IsClosed-append long then.0 closed then.3,
       goes_on at (put_so at waits written) now long then.0 result answered then.4,
       then.5,
@@ -127,25 +161,30 @@ long_goes false window held skips_now seen at waits written now part before afte
 
 -- ---- a block behind the begin of a line that is held
 
-pub held_goes : (skips : Bool) (window held : List ℕ) (skips_now : Bool) (seen : ℕ) (at now : Progress) (part : List ℕ) (result : Result (Unit {0}) SinkFault)
+pub held_goes : (skips : Bool) (window held : List ℕ) (skips_now : Bool) (seen : ℕ) (at now : Progress) (part : List ℕ)
+    (result : Result (Unit {0}) SinkFault)
     → skips ≡ false → TakesIn [] window at result now skips_now held
     → Holds skips (take seen window) part → TakesIn part (drop seen window) at result now skips_now held
 held_goes false window held skips_now seen at now part result is then holds =
-    let parts : part ++ drop seen window ≡ window = ap (λ xs. xs ++ drop seen window) (sym holds.1) ∙ take-append-drop seen window in
+    let parts : part ++ drop seen window ≡ window = ap (λ xs. xs ++ drop seen window) (sym holds.1)
+    ∙ take-append-drop seen window in
     (then.0, then.1, parts ∙ then.2, then.3, then.4, then.5)
 held_goes true window held skips_now seen at now part result is then holds = cc
 
 -- ---- the last line
 
-pub last_held : (skips : Bool) (held part : List ℕ) (at now : Progress) (result : Result (Unit {0}) SinkFault) → skips ≡ false
+pub last_held : (skips : Bool) (held part : List ℕ) (at now : Progress) (result : Result (Unit {0}) SinkFault)
+    → skips ≡ false
     → AnswersAndPuts at (held ∷ []) result now → Holds skips held part → AnswersAndPuts at (part ∷ []) result now
 last_held false held part at now result is then holds =
     let A : List ℕ → Type 0 = λ line. AnswersAndPuts at (line ∷ []) result now in
     subst A holds.1 then
 last_held true held part at now result is then holds = cc
 
-pub last_long : (skips : Bool) (held part : List ℕ) (at : Progress) (waits : List ℕ) (written : Option (List ℕ)) (result : Result (Unit {0}) SinkFault) → skips ≡ true
-    → Puts at.written written (at.waits ++ reply_text (Words TooLong)) result waits → Holds skips held part → AnswersAndPuts at (part ∷ []) result (put_so at waits written)
+pub last_long : (skips : Bool) (held part : List ℕ) (at : Progress) (waits : List ℕ) (written : Option (List ℕ))
+    (result : Result (Unit {0}) SinkFault) → skips ≡ true
+    → Puts at.written written (at.waits ++ reply_text (Words TooLong)) result waits → Holds skips held part
+    → AnswersAndPuts at (part ∷ []) result (put_so at waits written)
 last_long true held part at waits written result is puts holds =
     puts_long at (part ∷ []) waits written result (Answers-long at.office part (omega (arith, holds.2))) puts
 last_long false held part at waits written result is puts holds = cc

@@ -20,31 +20,46 @@ use Rattle.leireg_run.proofs.LineLemmas.{lines-more, HasNoEnd-nil, HasNoEnd-appe
 use Rattle.leireg_run.proofs.Sending.{Sends-nothing, Puts-then}
 
 pub Session-join : (old mid new : OfficeState) (asks more : List Asked) (xs ys : List ℤ) (replies others : List Reply)
-    → Session old asks xs replies mid → Session mid more ys others new → Session old (asks ++ more) (xs ++ ys) (replies ++ others) new
+    → Session old asks xs replies mid → Session mid more ys others new
+    → Session old (asks ++ more) (xs ++ ys) (replies ++ others) new
 Session-join old mid new [] more xs ys [] others first second =
     let P : List ℤ → Type 0 = λ ms. Session old more (ms ++ ys) others new in
     let Q : OfficeState → Type 0 = λ h. Session h more ys others new in
     subst P (sym first.0) (subst Q first.1 second)
 Session-join old mid new [] more xs ys (reply ∷ replies) others first second = absurd first
 Session-join old mid new (ask ∷ asks) more xs ys [] others first second = absurd first
-Session-join old mid new (ask ∷ asks) more xs ys (reply ∷ replies) others first second =
-    (first.0, first.1 ++ ys, first.2, ap (λ (l : List ℤ). l ++ ys) first.3 ∙ append_assoc first.0 first.1 ys, first.4, Session-join first.2 mid new asks more first.1 ys replies others first.5 second)
+Session-join old mid new (ask ∷ asks) more xs ys (reply ∷ replies) others first second = (
+  first.0,
+  first.1 ++ ys,
+  first.2,
+  ap (λ (l : List ℤ). l ++ ys) first.3
+      ∙ append_assoc first.0 first.1 ys,
+  first.4,
+  Session-join first.2 mid new asks more first.1 ys replies others
+      first.5 second,
+)
 
 asks_of-append : (xs ys : List (List ℕ)) → asks_of (xs ++ ys) ≡ asks_of xs ++ asks_of ys
 asks_of-append [] ys = refl
 asks_of-append (line ∷ xs) ys =
-    elim (eqb (length line) 0) as (λ b. cond b (asks_of (xs ++ ys)) (asked line ∷ asks_of (xs ++ ys)) ≡ cond b (asks_of xs) (asked line ∷ asks_of xs) ++ asks_of ys) [
+    elim (eqb (length line) 0)
+    as (λ b. cond b (asks_of (xs ++ ys)) (asked line ∷ asks_of (xs ++ ys)) ≡ cond b (asks_of xs)
+    (asked line ∷ asks_of xs) ++ asks_of ys) [
       | true ↦ asks_of-append xs ys
       | false ↦ ap (λ asks. asked line ∷ asks) (asks_of-append xs ys)
     ]
 
-pub Answers-join : (old mid new : OfficeState) (xs ys : List (List ℕ)) (ms ns : List ℤ) (first second : List ℕ) → Answers old xs ms first mid → Answers mid ys ns second new → Answers old (xs ++ ys) (ms ++ ns) (first ++ second) new
+pub Answers-join : (old mid new : OfficeState) (xs ys : List (List ℕ)) (ms ns : List ℤ) (first second : List ℕ)
+    → Answers old xs ms first mid → Answers mid ys ns second new
+    → Answers old (xs ++ ys) (ms ++ ns) (first ++ second) new
 Answers-join old mid new xs ys ms ns first second a b =
     let S : List Asked → Type 0 = λ asks. Session old asks (ms ++ ns) (a.replies ++ b.replies) new in
     record {
       replies = a.replies ++ b.replies;
-      session = subst S (sym (asks_of-append xs ys)) (Session-join old mid new (asks_of xs) (asks_of ys) ms ns a.replies b.replies a.session b.session);
-      texts = ap (λ xs. xs ++ second) a.texts ∙ (ap (λ ys. reply_texts a.replies ++ ys) b.texts ∙ sym (flat_map-append reply_text a.replies b.replies));
+      session = subst S (sym (asks_of-append xs ys))
+          (Session-join old mid new (asks_of xs) (asks_of ys) ms ns a.replies b.replies a.session b.session);
+      texts = ap (λ xs. xs ++ second) a.texts
+          ∙ (ap (λ ys. reply_texts a.replies ++ ys) b.texts ∙ sym (flat_map-append reply_text a.replies b.replies));
     }
 
 pub Answers-nothing : (old : OfficeState) → Answers old [] [] [] old
@@ -54,7 +69,16 @@ Answers-nothing old = record { replies = []; session = (refl, refl); texts = ref
 pub AnswersFront-of : (all more : List Line) (moments : List ℤ) (texts : List ℕ) (new : OfficeState) (n : ℕ)
     → Answers first_office all moments texts new → AnswersFront (all ++ more) moments (take n texts)
 AnswersFront-of all more moments texts new n run =
-    record { answered = all; left = more; parts = refl; replies = run.replies; office = new; session = run.session; front = n; texts = ap (take n) run.texts }
+    record {
+      answered = all;
+      left = more;
+      parts = refl;
+      replies = run.replies;
+      office = new;
+      session = run.session;
+      front = n;
+      texts = ap (take n) run.texts;
+    }
 
 -- ---- lines that were answered in a call
 
@@ -93,37 +117,47 @@ Answered-nothing at =
     }
 
 -- lines more, whatever the output did with their replies
-pub answers_more : {T E : Type 0} (before mid after : Progress) (front : List ℕ) (more all : List Line) (result : Result T E)
-    → all ≡ lines front ++ more → Answered before front mid → AnswersAndPuts mid more result after → AnswersAndPuts before all result after
+pub answers_more : {T E : Type 0} (before mid after : Progress) (front : List ℕ) (more all : List Line)
+    (result : Result T E)
+    → all ≡ lines front ++ more → Answered before front mid → AnswersAndPuts mid more result after
+    → AnswersAndPuts before all result after
 answers_more before mid after front more all result is answered then =
     let first = answered.done in
-    let A : List Line → Type 0 = λ ls. Answers before.office ls (first.moments ++ then.moments) (first.texts ++ then.texts) after.office in
+    let A : List Line → Type 0 = λ ls. Answers before.office ls (first.moments ++ then.moments)
+    (first.texts ++ then.texts) after.office in
     let P : List ℕ → Type 0 = λ sent. Puts before.written after.written sent result after.waits in
     record {
       moments = first.moments ++ then.moments;
       texts = first.texts ++ then.texts;
       gives = Gives-join before.given mid.given after.given first.moments then.moments first.gives then.gives;
-      answers = subst A (sym is) (Answers-join before.office mid.office after.office (lines front) more first.moments then.moments first.texts then.texts first.answers then.answers);
+      answers = subst A (sym is)
+          (Answers-join before.office mid.office after.office (lines front) more first.moments then.moments first.texts
+          then.texts first.answers then.answers);
       puts = subst P (append_assoc before.waits first.texts then.texts)
-          (Puts-then before.written mid.written after.written (before.waits ++ first.texts) mid.waits then.texts after.waits result first.puts then.puts);
+          (Puts-then before.written mid.written after.written (before.waits ++ first.texts) mid.waits then.texts
+          after.waits result first.puts then.puts);
     }
 
 -- what the output refused is the same under any fault
 pub refused_as : {T S E D : Type 0} (before after : Progress) (asked_lines : List Line) (fault : E) (other : D)
-    → AnswersAndPuts {T = T} before asked_lines (Err fault) after → AnswersAndPuts {T = S} before asked_lines (Err other) after
+    → AnswersAndPuts {T = T} before asked_lines (Err fault) after
+    → AnswersAndPuts {T = S} before asked_lines (Err other) after
 refused_as before after asked_lines fault other run =
     record { moments = run.moments; texts = run.texts; gives = run.gives; answers = run.answers; puts = run.puts }
 
 -- a line more that ended
-regrouped : (front part behind : List ℕ) → front ++ ((part ++ 10 ∷ []) ++ behind) ≡ ((front ++ part) ++ 10 ∷ []) ++ behind
+regrouped : (front part behind : List ℕ)
+    → front ++ ((part ++ 10 ∷ []) ++ behind) ≡ ((front ++ part) ++ 10 ∷ []) ++ behind
 regrouped front part behind =
-    sym (append_assoc front (part ++ 10 ∷ []) behind) ∙ ap (λ xs. xs ++ behind) (sym (append_assoc front part (10 ∷ [])))
+    sym (append_assoc front (part ++ 10 ∷ []) behind)
+    ∙ ap (λ xs. xs ++ behind) (sym (append_assoc front part (10 ∷ [])))
 
 pub line_more : {T E : Type 0} (before mid after : Progress) (front part : List ℕ) (result : Result T E)
     → Answered before front mid → HasNoEnd part → AnswersAndPuts mid (line_of part ∷ []) result after
     → AnswersAndPuts before (lines ((front ++ part) ++ 10 ∷ [])) result after
 line_more before mid after front part result answered none line =
-    answers_more before mid after front (line_of part ∷ []) (lines ((front ++ part) ++ 10 ∷ [])) result (lines-more front part answered.closed none) answered line
+    answers_more before mid after front (line_of part ∷ []) (lines ((front ++ part) ++ 10 ∷ [])) result
+    (lines-more front part answered.closed none) answered line
 
 -- the state of a walk over a block: the lines in front were answered, and the rest has no end up to where it was seen
 pub record Walked (block : List ℕ) (before : Progress) (rest : List ℕ) (seen : ℕ) (after : Progress) : Type 0 where
@@ -133,43 +167,56 @@ pub record Walked (block : List ℕ) (before : Progress) (rest : List ℕ) (seen
   pub within : seen ≤ length rest
   pub unseen : HasNoEnd (take seen rest)
 
-pub next_end : (rest : List ℕ) (seen at : ℕ) → seen ≤ length rest → HasNoEnd (take seen rest) → IsFirstByte (is_byte 10) (drop seen rest) (Some at)
+pub next_end : (rest : List ℕ) (seen at : ℕ) → seen ≤ length rest → HasNoEnd (take seen rest)
+    → IsFirstByte (is_byte 10) (drop seen rest) (Some at)
     → Ends rest (take (seen + at) rest) (drop (seen + at + 1) rest)
 next_end rest seen at within unseen found =
     let behind = drop seen rest in
     let part : take (seen + at) rest ≡ take seen rest ++ take at behind = take-add seen at rest in
     let place : seen + at + 1 ≡ seen + (at + 1) = omega arith in
-    let after : drop (seen + at + 1) rest ≡ drop (at + 1) behind = ap (λ n. drop n rest) place ∙ sym (drop-drop (at + 1) seen rest) in
+    let after : drop (seen + at + 1) rest ≡ drop (at + 1) behind = ap (λ n. drop n rest) place
+    ∙ sym (drop-drop (at + 1) seen rest) in
     let N : List ℕ → Type 0 = λ xs. HasNoEnd xs in
     record {
-      parts = sym (take-append-drop seen rest) ∙ (ap (λ xs. take seen rest ++ xs) (cut_at_end behind at found) ∙ (regrouped (take seen rest) (take at behind) (drop (at + 1) behind)
-          ∙ (ap (λ xs. (xs ++ 10 ∷ []) ++ drop (at + 1) behind) (sym part) ∙ ap (λ xs. (take (seen + at) rest ++ 10 ∷ []) ++ xs) (sym after))));
-      none = subst N (sym part) (HasNoEnd-append (take seen rest) (take at behind) unseen (HasNoEnd-before behind at found));
+      parts = sym (take-append-drop seen rest)
+          ∙ (ap (λ xs. take seen rest ++ xs) (cut_at_end behind at found)
+          ∙ (regrouped (take seen rest) (take at behind) (drop (at + 1) behind)
+          ∙ (ap (λ xs. (xs ++ 10 ∷ []) ++ drop (at + 1) behind) (sym part)
+          ∙ ap (λ xs. (take (seen + at) rest ++ 10 ∷ []) ++ xs) (sym after))));
+      none = subst N (sym part)
+          (HasNoEnd-append (take seen rest) (take at behind) unseen (HasNoEnd-before behind at found));
     }
 
-pub no_end : (rest : List ℕ) (seen : ℕ) → HasNoEnd (take seen rest) → IsFirstByte (is_byte 10) (drop seen rest) None → HasNoEnd rest
+pub no_end : (rest : List ℕ) (seen : ℕ) → HasNoEnd (take seen rest) → IsFirstByte (is_byte 10) (drop seen rest) None
+    → HasNoEnd rest
 no_end rest seen unseen nowhere =
     let N : List ℕ → Type 0 = λ xs. HasNoEnd xs in
-    subst N (take-append-drop seen rest) (HasNoEnd-append (take seen rest) (drop seen rest) unseen (HasNoEnd-unfound (drop seen rest) nowhere))
+    subst N (take-append-drop seen rest)
+    (HasNoEnd-append (take seen rest) (drop seen rest) unseen (HasNoEnd-unfound (drop seen rest) nowhere))
 
 -- a step of the walk that the output let go on
-pub walk_on : (block : List ℕ) (before mid after : Progress) (rest part behind : List ℕ) (seen : ℕ) → Walked block before rest seen mid → Ends rest part behind
-    → AnswersAndPuts {T = Unit {0}} {E = SinkFault} mid (line_of part ∷ []) (Ok (tt {0})) after → Walked block before behind 0 after
+pub walk_on : (block : List ℕ) (before mid after : Progress) (rest part behind : List ℕ) (seen : ℕ)
+    → Walked block before rest seen mid → Ends rest part behind
+    → AnswersAndPuts {T = Unit {0}} {E = SinkFault} mid (line_of part ∷ []) (Ok (tt {0})) after
+    → Walked block before behind 0 after
 walk_on block before mid after rest part behind seen walked ends line =
     record {
       front = (walked.front ++ part) ++ 10 ∷ [];
       parts = walked.parts ∙ (ap (λ xs. walked.front ++ xs) ends.parts ∙ regrouped walked.front part behind);
       answered = record {
         closed = inr (walked.front ++ part, refl);
-        done = line_more {T = Unit {0}} {E = SinkFault} before mid after walked.front part (Ok (tt {0})) walked.answered ends.none line;
+        done = line_more {T = Unit {0}} {E = SinkFault} before mid after walked.front part (Ok (tt {0}))
+            walked.answered ends.none line;
       };
       within = omega arith;
       unseen = HasNoEnd-nil;
     }
 
 -- a step that the output stopped
-pub walk_stops : (block : List ℕ) (before mid after : Progress) (rest part behind : List ℕ) (seen : ℕ) (fault : SinkFault) (result : Result ℕ SinkFault) → IsErr result
-    → Walked block before rest seen mid → Ends rest part behind → AnswersAndPuts {T = Unit {0}} mid (line_of part ∷ []) (Err fault) after
+pub walk_stops : (block : List ℕ) (before mid after : Progress) (rest part behind : List ℕ) (seen : ℕ)
+    (fault : SinkFault) (result : Result ℕ SinkFault) → IsErr result
+    → Walked block before rest seen mid → Ends rest part behind
+    → AnswersAndPuts {T = Unit {0}} mid (line_of part ∷ []) (Err fault) after
     → AnswersWhole before block result after
 walk_stops block before mid after rest part behind seen fault (Ok used) failed walked ends line = cc
 walk_stops block before mid after rest part behind seen fault (Err other) failed walked ends line = (
@@ -178,12 +225,14 @@ walk_stops block before mid after rest part behind seen fault (Err other) failed
   walked.parts ∙ (ap (λ xs. walked.front ++ xs) ends.parts ∙ regrouped walked.front part behind),
   inr (walked.front ++ part, refl),
   refused_as {T = Unit {0}} {S = ℕ} before after (lines ((walked.front ++ part) ++ 10 ∷ [])) fault other
-      (line_more {T = Unit {0}} {E = SinkFault} before mid after walked.front part (Err fault) walked.answered ends.none line),
+      (line_more {T = Unit {0}} {E = SinkFault} before mid after walked.front part (Err fault) walked.answered
+      ends.none line),
   tt,
 )
 
 -- the walk's end
-pub walk_ends : (block : List ℕ) (before after : Progress) (rest : List ℕ) (seen : ℕ) → Walked block before rest seen after → HasNoEnd rest
+pub walk_ends : (block : List ℕ) (before after : Progress) (rest : List ℕ) (seen : ℕ)
+    → Walked block before rest seen after → HasNoEnd rest
     → AnswersWhole {E = SinkFault} before block (Ok (length block - length rest)) after
 walk_ends block before after rest seen walked none =
     let done = walked.answered.done in (
@@ -191,6 +240,12 @@ walk_ends block before after rest seen walked none =
       rest,
       walked.parts,
       walked.answered.closed,
-      record { moments = done.moments; texts = done.texts; gives = done.gives; answers = done.answers; puts = done.puts },
+      record {
+        moments = done.moments;
+        texts = done.texts;
+        gives = done.gives;
+        answers = done.answers;
+        puts = done.puts;
+      },
       (omega (arith, ap length walked.parts, length-append walked.front rest), none),
     )

@@ -14,11 +14,13 @@ cause : (fault : SinkFault) → IsCause (stop_status (stop_of fault))
 cause Failed = inl refl
 cause NoMemory = inr refl
 
-pub sink_cause : (fault : SinkFault) (result : Result (Unit {0}) Stop) → IsErrAnd result (IsOf fault) → IsCause (end_status result)
+pub sink_cause : (fault : SinkFault) (result : Result (Unit {0}) Stop) → IsErrAnd result (IsOf fault)
+    → IsCause (end_status result)
 sink_cause fault (Ok done) is = absurd is
 sink_cause fault (Err e) is = let P : Stop → Type 0 = λ e. IsCause (stop_status e) in subst P (sym is) (cause fault)
 
-pub memory_cause : (result : Result (Unit {0}) Stop) → IsErrAnd result (λ e. e ≡ stop.NoMemory) → IsCause (end_status result)
+pub memory_cause : (result : Result (Unit {0}) Stop) → IsErrAnd result (λ e. e ≡ stop.NoMemory)
+    → IsCause (end_status result)
 memory_cause (Ok done) is = absurd is
 memory_cause (Err e) is = let P : Stop → Type 0 = λ e. IsCause (stop_status e) in subst P (sym is) (inr refl)
 
@@ -27,7 +29,8 @@ read_status (Ok done) is = absurd is
 read_status (Err e) is = ap stop_status is
 
 -- a write fault comes only where the output failed
-pub sink_failed : (fault : SinkFault) (result : Result (Unit {0}) Stop) → IsErrAnd result (IsOf fault) → IsErrOf result stop.WriteFault → fault ≡ Failed
+pub sink_failed : (fault : SinkFault) (result : Result (Unit {0}) Stop) → IsErrAnd result (IsOf fault)
+    → IsErrOf result stop.WriteFault → fault ≡ Failed
 sink_failed Failed result of is = refl
 sink_failed NoMemory (Ok done) of is = absurd of
 sink_failed NoMemory (Err e) of is = cc

@@ -3,7 +3,7 @@ use Rattle.std.specs.Prelude.{ℕ, ◌+◌, ◌==◌, List, take, drop, length, 
 use Rattle.std.specs.Str.{bytes_eq}
 use Rattle.std.specs.Str.Parse.{digits_value}
 use Rattle.lei_code.specs.Fault.{fault_of}
-use Rattle.lei_code.specs.Texts.{Lei, Text}
+use Rattle.lei_code.specs.Texts.{Lei}
 use Rattle.lei_office.specs.Legal.{TakesMemoryToRead}
 use Rattle.lei_office.specs.Limits.{number_limit}
 use Rattle.lei_office.specs.declared.request.Request.{Request}

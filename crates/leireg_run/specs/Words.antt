@@ -1,5 +1,5 @@
 -- What the words behind the program's name ask for. This project's profile.
-use Rattle.std.specs.Prelude.{◌≡◌, ℕ, List, [], ◌∷◌, codes, map, string_bytes, String, if◌then◌else◌, Option, None, Some}
+use Rattle.std.specs.Prelude.{◌≡◌, List, [], ◌∷◌, codes, map, string_bytes, String, if◌then◌else◌, Option, None, Some}
 use Rattle.std.specs.Global.{Global}
 use Rattle.std.specs.Str.{bytes_eq}
 use Rattle.lei_code.specs.Texts.{Text}

@@ -115,12 +115,3 @@ fn run_lines<R: Threads + Sync, S: Source, W: Sink, C: Clock>(
     reader.outbox.flush(out)?;
     Ok(())
 }
-
-#[cfg(test)]
-mod parents;
-#[cfg(test)]
-mod rows;
-#[cfg(test)]
-mod sessions;
-#[cfg(test)]
-mod tests;

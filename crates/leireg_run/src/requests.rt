@@ -171,6 +171,3 @@ fn asked_by(alloc: Global, word: Option<FirstWord>, rest: Option<&[u8]>) -> Resu
         None => Ok(Asked::Refuse(Refusal::Path)),
     }
 }
-
-#[cfg(test)]
-mod tests;

@@ -93,6 +93,3 @@ pub fn status_text(status: u8) -> &'static str
         _ => "UNKNOWN",
     }
 }
-
-#[cfg(test)]
-mod tests;

@@ -11,4 +11,5 @@ returns-then-is_empty-clause-answered g c =
 pub returns-clause-answered : goal.returns-clause-answered
 returns-clause-answered g c =
     let stands : eqb (length c.args.line.now) 0 ≡ false = cc in
-    puts_reply _ _ c.args.line.now c.reply_to-reply.result c.put_reply.result stands c.reply_to-reply.ensures c.put_reply.ensures.puts
+    puts_reply _ _ c.args.line.now c.reply_to-reply.result c.put_reply.result stands c.reply_to-reply.ensures
+    c.put_reply.ensures.puts

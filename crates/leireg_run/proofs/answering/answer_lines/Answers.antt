@@ -11,11 +11,14 @@ returns-in_err-answer_line-clause-answered g c =
     let rest = c.loop-end.rest.now in
     let end = c.in-Some.end in
     let mid = progress c.loop-end.office c.loop-end.outbox (given c.loop-end.clock) (written c.loop-end.out) in
-    let after = progress c.answer_line.new.office c.answer_line.new.outbox (given c.answer_line.new.clock) (written c.answer_line.new.out) in
+    let after = progress c.answer_line.new.office c.answer_line.new.outbox (given c.answer_line.new.clock)
+    (written c.answer_line.new.out) in
     let fault = c.in_err-answer_line.field-0.0 in
     let L : List ℕ → Type 0 = λ line. AnswersAndPuts {T = Unit {0}} {E = SinkFault} mid (line ∷ []) (Err fault) after in
-    walk_stops c.args.block.now _ mid after rest (take end rest) (drop (end + 1) rest) c.loop-end.seen fault c.from_residual.result
-    c.from_residual.ensures.0 c.loop-end.invariant.walked c.in-Some.ensures.found (subst L c.line_of.ensures c.in_err-answer_line.ensures.answered)
+    walk_stops c.args.block.now _ mid after rest (take end rest) (drop (end + 1) rest) c.loop-end.seen fault
+    c.from_residual.result
+    c.from_residual.ensures.0 c.loop-end.invariant.walked c.in-Some.ensures.found
+    (subst L c.line_of.ensures c.in_err-answer_line.ensures.answered)
 
 pub loop-end-preserved : goal.loop-end-preserved
 loop-end-preserved g c =
@@ -25,13 +28,19 @@ loop-end-preserved g c =
     let end = c.in-Some.end in
     let before = progress c.args.office.now c.args.outbox.now (given c.args.clock.now) (written c.args.out.now) in
     let mid = progress c.loop-end.office c.loop-end.outbox (given c.loop-end.clock) (written c.loop-end.out) in
-    let after = progress c.answer_line.new.office c.answer_line.new.outbox (given c.answer_line.new.clock) (written c.answer_line.new.out) in
+    let after = progress c.answer_line.new.office c.answer_line.new.outbox (given c.answer_line.new.clock)
+    (written c.answer_line.new.out) in
     let done : Result (Unit {0}) SinkFault = Ok (tt {0}) in
     let L : List ℕ → Type 0 = λ line. AnswersAndPuts mid (line ∷ []) done after in
     let W : List ℕ → Type 0 = λ behind. Walked c.args.block.now before behind 0 after in
     let walked = walk_on c.args.block.now before mid after rest (take end rest) (drop (end + 1) rest) c.loop-end.seen
-    c.loop-end.invariant.walked c.in-Some.ensures.found (subst L c.line_of.ensures c.in_ok-answer_line.ensures.answered) in
-    record { walked = subst W (sym c.split_at.ensures.back) walked; kept = c.in_ok-answer_line.ensures.kept (λ is. cc) ∙ c.loop-end.invariant.kept }
+    c.loop-end.invariant.walked c.in-Some.ensures.found
+    (subst L c.line_of.ensures c.in_ok-answer_line.ensures.answered) in
+    record {
+      walked = subst W (sym c.split_at.ensures.back) walked;
+      kept = c.in_ok-answer_line.ensures.kept (λ is. cc)
+          ∙ c.loop-end.invariant.kept;
+    }
 
 pub loop-end-init : goal.loop-end-init
 loop-end-init g c = record {

@@ -6,7 +6,8 @@ use Rattle.leireg_run.proofs.answering.next_end.Goals as goal
 pub returns-in-Some-clause-found : goal.returns-in-Some-clause-found
 returns-in-Some-clause-found c =
     let F : List ℕ → Type 0 = λ bytes. IsFirstByte (is_byte 10) bytes (Some c.in-Some.at) in
-    next_end c.args.rest.now c.args.seen c.in-Some.at c.requires.within c.requires.seen (subst F c.split_at.ensures.back c.in-Some.ensures)
+    next_end c.args.rest.now c.args.seen c.in-Some.at c.requires.within c.requires.seen
+    (subst F c.split_at.ensures.back c.in-Some.ensures)
 
 pub returns-in-None-clause-none : goal.returns-in-None-clause-none
 returns-in-None-clause-none c =

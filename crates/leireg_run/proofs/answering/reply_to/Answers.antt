@@ -9,4 +9,5 @@ answer-requires g c =
     (c.type_bounds.sync-R, subst P (sym c.in-Ok-Ask.ensures.ok ∙ c.in-Ok-Ask.field-0-is) (in_range c.args.line.now))
 
 pub returns-in-Err : goal.returns-in-Err
-returns-in-Err g c = line_wants c.args.office.now c.args.line.now (g.C.Clock.given c.args.clock.now) c.in-Err.ensures.err
+returns-in-Err g c = line_wants c.args.office.now c.args.line.now (g.C.Clock.given c.args.clock.now)
+    c.in-Err.ensures.err

@@ -13,11 +13,16 @@ loop-piece-preserved g c =
     let done = flat_map (λ piece. piece.now) (take c.loop-piece.piece-index c.args.pieces.now) in
     let S : List ℕ → Type 0 = λ all. Sends (written c.args.out.now) (written c.write_all.new.out) all [] in
     record {
-      sent = subst S (sym (pieces_more c.args.pieces.now c.loop-piece.piece-index _ c.loop-piece-test.true)) (sent_then (written c.args.out.now) (written c.loop-piece.out) (written c.write_all.new.out) done _ c.loop-piece.invariant.sent c.in_ok-write_all.ensures.written);
+      sent = subst S (sym (pieces_more c.args.pieces.now c.loop-piece.piece-index _ c.loop-piece-test.true))
+          (sent_then (written c.args.out.now) (written c.loop-piece.out) (written c.write_all.new.out) done _
+          c.loop-piece.invariant.sent c.in_ok-write_all.ensures.written);
       kept = c.in_ok-write_all.ensures.kept (λ is. cc) ∙ c.loop-piece.invariant.kept;
     }
 
 pub returns-in_err-write_all-clause-written : goal.returns-in_err-write_all-clause-written
 returns-in_err-write_all-clause-written g c =
     let written = g.W.Sink.written in
-    MatchResult-from_err _ _ _ c.from_residual.ensures.0 (λ _. refused (written c.args.out.now) (written c.loop-piece.out) (written c.write_all.new.out) c.args.pieces.now c.loop-piece.piece-index _ [] [] c.loop-piece-test.true c.loop-piece.invariant.sent c.in_err-write_all.ensures.front)
+    MatchResult-from_err _ _ _ c.from_residual.ensures.0
+    (λ _. refused (written c.args.out.now) (written c.loop-piece.out) (written c.write_all.new.out)
+    c.args.pieces.now c.loop-piece.piece-index _ [] [] c.loop-piece-test.true c.loop-piece.invariant.sent
+    c.in_err-write_all.ensures.front)

@@ -24,15 +24,18 @@ returns-in_err-count-clause-runs g c =
     let begin = outside (left c.args.input.now) (given c.args.clock.now) (written c.args.out.now) in
     let after = outside (left c.read_from.new.input) (given c.loop-reader.clock) (written c.flush.new.out) in
     let R : ℕ → Type 0 = λ status. RunsLines begin after status in
-    let at = flushed _ _ _ _ _ _ _ _ c.in_ok-flush.ensures.empty c.loop-reader.invariant.midway c.in_ok-flush.ensures.ok in
+    let at = flushed _ _ _ _ _ _ _ _ c.in_ok-flush.ensures.empty c.loop-reader.invariant.midway
+    c.in_ok-flush.ensures.ok in
     subst R (sym (read_status c.from_residual-in_err-count.result c.from_residual-in_err-count.ensures.1))
     (fails_reading _ _ _ _ _ _ _ _ c.in_ok-flush.ensures.empty at c.in_err-count.ensures.err)
 
 pub returns-then-read-eq-MAX_INPUT-clause-runs : goal.returns-then-read-eq-MAX_INPUT-clause-runs
 returns-then-read-eq-MAX_INPUT-clause-runs g c =
-    let at = flushed _ _ _ _ _ _ _ _ c.in_ok-flush.ensures.empty c.loop-reader.invariant.midway c.in_ok-flush.ensures.ok in
+    let at = flushed _ _ _ _ _ _ _ _ c.in_ok-flush.ensures.empty c.loop-reader.invariant.midway
+    c.in_ok-flush.ensures.ok in
     let some : 0 < c.in_ok-count.count = omega (arith, c.if-count-eq0.false) in
-    ends_too_long _ _ _ _ _ _ _ _ _ _ c.in_ok-flush.ensures.empty at c.in_ok-count.ensures.ok c.in_ok-count.ensures.block some c.if-read-eq-MAX_INPUT.true
+    ends_too_long _ _ _ _ _ _ _ _ _ _ c.in_ok-flush.ensures.empty at c.in_ok-count.ensures.ok
+    c.in_ok-count.ensures.block some c.if-read-eq-MAX_INPUT.true
 
 pub take_in-requires-clause-seen : goal.take_in-requires-clause-seen
 take_in-requires-clause-seen g c =
@@ -41,35 +44,45 @@ take_in-requires-clause-seen g c =
 
 pub loop-reader-preserved : goal.loop-reader-preserved
 loop-reader-preserved g c =
-    let at = flushed _ _ _ _ _ _ _ _ c.in_ok-flush.ensures.empty c.loop-reader.invariant.midway c.in_ok-flush.ensures.ok in
+    let at = flushed _ _ _ _ _ _ _ _ c.in_ok-flush.ensures.empty c.loop-reader.invariant.midway
+    c.in_ok-flush.ensures.ok in
     let fills = c.in_ok-count.ensures.ok in
-    let below : c.loop-reader.read + c.in_ok-count.count < input_limit = omega (arith, fills.2, at.below, c.if-read-eq-MAX_INPUT.false) in
+    let below : c.loop-reader.read + c.in_ok-count.count < input_limit = omega
+    (arith, fills.2, at.below, c.if-read-eq-MAX_INPUT.false) in
     record {
-      midway = takes_in _ _ _ _ _ _ _ _ _ _ _ _ _ _ (ap length c.bytes-held.ensures) at fills below c.in_ok-take_in.ensures.answered;
+      midway = takes_in _ _ _ _ _ _ _ _ _ _ _ _ _ _ (ap length c.bytes-held.ensures) at fills below
+          c.in_ok-take_in.ensures.answered;
       input_kept = c.in_ok-count.ensures.kept ∙ c.loop-reader.invariant.input_kept;
-      out_kept = c.in_ok-take_in.ensures.kept (λ is. cc) ∙ (c.in_ok-flush.ensures.kept (λ is. cc) ∙ c.loop-reader.invariant.out_kept);
+      out_kept = c.in_ok-take_in.ensures.kept (λ is. cc)
+          ∙ (c.in_ok-flush.ensures.kept (λ is. cc) ∙ c.loop-reader.invariant.out_kept);
     }
 
 pub returns-in_err-take_in-clause-runs : goal.returns-in_err-take_in-clause-runs
 returns-in_err-take_in-clause-runs g c =
-    let at = flushed _ _ _ _ _ _ _ _ c.in_ok-flush.ensures.empty c.loop-reader.invariant.midway c.in_ok-flush.ensures.ok in
+    let at = flushed _ _ _ _ _ _ _ _ c.in_ok-flush.ensures.empty c.loop-reader.invariant.midway
+    c.in_ok-flush.ensures.ok in
     let fills = c.in_ok-count.ensures.ok in
     let fault = c.in_err-take_in.field-0.0 in
-    let below : c.loop-reader.read + c.in_ok-count.count < input_limit = omega (arith, fills.2, at.below, c.if-read-eq-MAX_INPUT.false) in
+    let below : c.loop-reader.read + c.in_ok-count.count < input_limit = omega
+    (arith, fills.2, at.below, c.if-read-eq-MAX_INPUT.false) in
     let cause = sink_cause fault c.from_residual-in_err-take_in.result c.from_residual-in_err-take_in.ensures.1 in
-    stops_in _ _ _ _ _ _ _ _ _ _ c.take_in.new.self.skips _ _ c.take_in.new.self.window fault _ cause (ap length c.bytes-held.ensures) at fills below c.in_err-take_in.ensures.answered
+    stops_in _ _ _ _ _ _ _ _ _ _ c.take_in.new.self.skips _ _ c.take_in.new.self.window fault _ cause
+    (ap length c.bytes-held.ensures) at fills below c.in_err-take_in.ensures.answered
 
 pub returns-in_err-answer_last-clause-runs : goal.returns-in_err-answer_last-clause-runs
 returns-in_err-answer_last-clause-runs g c =
-    let at = flushed _ _ _ _ _ _ _ _ c.in_ok-flush.ensures.empty c.loop-reader.invariant.midway c.in_ok-flush.ensures.ok in
+    let at = flushed _ _ _ _ _ _ _ _ c.in_ok-flush.ensures.empty c.loop-reader.invariant.midway
+    c.in_ok-flush.ensures.ok in
     let fault = c.in_err-answer_last.field-0.0 in
     let end = reaches_end _ _ _ _ _ _ _ _ _ _ c.if-count-eq0.true at c.in_ok-count.ensures.ok in
-    let cause = sink_cause fault c.from_residual-in_err-answer_last.result c.from_residual-in_err-answer_last.ensures.1 in
+    let cause = sink_cause fault c.from_residual-in_err-answer_last.result
+    c.from_residual-in_err-answer_last.ensures.1 in
     stops_last _ _ _ _ _ _ fault _ cause end c.in_err-answer_last.ensures.answered
 
 pub returns-in_err-flush-2-clause-runs : goal.returns-in_err-flush-2-clause-runs
 returns-in_err-flush-2-clause-runs g c =
-    let at = flushed _ _ _ _ _ _ _ _ c.in_ok-flush.ensures.empty c.loop-reader.invariant.midway c.in_ok-flush.ensures.ok in
+    let at = flushed _ _ _ _ _ _ _ _ c.in_ok-flush.ensures.empty c.loop-reader.invariant.midway
+    c.in_ok-flush.ensures.ok in
     let fault = c.in_err-flush-2.field-0.0 in
     let end = reaches_end _ _ _ _ _ _ _ _ _ _ c.if-count-eq0.true at c.in_ok-count.ensures.ok in
     let cause = sink_cause fault c.from_residual-in_err-flush-2.result c.from_residual-in_err-flush-2.ensures.1 in
@@ -77,7 +90,8 @@ returns-in_err-flush-2-clause-runs g c =
 
 pub returns-clause-runs : goal.returns-clause-runs
 returns-clause-runs g c =
-    let at = flushed _ _ _ _ _ _ _ _ c.in_ok-flush.ensures.empty c.loop-reader.invariant.midway c.in_ok-flush.ensures.ok in
+    let at = flushed _ _ _ _ _ _ _ _ c.in_ok-flush.ensures.empty c.loop-reader.invariant.midway
+    c.in_ok-flush.ensures.ok in
     let end = reaches_end _ _ _ _ _ _ _ _ _ _ c.if-count-eq0.true at c.in_ok-count.ensures.ok in
     ends_well _ _ _ _ _ _ _ end c.in_ok-answer_last.ensures.answered c.in_ok-flush-2.ensures.ok
 
@@ -89,25 +103,31 @@ returns-in_err-count-clause-read_fault g c is =
 
 pub returns-in_err-flush-clause-write_fault : goal.returns-in_err-flush-clause-write_fault
 returns-in_err-flush-clause-write_fault g c is =
-    let failed = sink_failed c.in_err-flush.field-0.0 c.from_residual-in_err-flush.result c.from_residual-in_err-flush.ensures.1 is in
-    fails_later g.W.Sink.written g.W.Sink.faults _ _ _ c.loop-reader.invariant.out_kept (c.in_err-flush.ensures.failed (ap Err failed))
+    let failed = sink_failed c.in_err-flush.field-0.0 c.from_residual-in_err-flush.result
+    c.from_residual-in_err-flush.ensures.1 is in
+    fails_later g.W.Sink.written g.W.Sink.faults _ _ _ c.loop-reader.invariant.out_kept
+    (c.in_err-flush.ensures.failed (ap Err failed))
 
 pub returns-in_err-take_in-clause-write_fault : goal.returns-in_err-take_in-clause-write_fault
 returns-in_err-take_in-clause-write_fault g c is =
     let kept = c.in_ok-flush.ensures.kept (λ ok. cc) ∙ c.loop-reader.invariant.out_kept in
-    let failed = sink_failed c.in_err-take_in.field-0.0 c.from_residual-in_err-take_in.result c.from_residual-in_err-take_in.ensures.1 is in
+    let failed = sink_failed c.in_err-take_in.field-0.0 c.from_residual-in_err-take_in.result
+    c.from_residual-in_err-take_in.ensures.1 is in
     fails_later g.W.Sink.written g.W.Sink.faults _ _ _ kept (c.in_err-take_in.ensures.failed (ap Err failed))
 
 pub returns-in_err-answer_last-clause-write_fault : goal.returns-in_err-answer_last-clause-write_fault
 returns-in_err-answer_last-clause-write_fault g c is =
     let kept = c.in_ok-flush.ensures.kept (λ ok. cc) ∙ c.loop-reader.invariant.out_kept in
-    let failed = sink_failed c.in_err-answer_last.field-0.0 c.from_residual-in_err-answer_last.result c.from_residual-in_err-answer_last.ensures.1 is in
+    let failed = sink_failed c.in_err-answer_last.field-0.0 c.from_residual-in_err-answer_last.result
+    c.from_residual-in_err-answer_last.ensures.1 is in
     fails_later g.W.Sink.written g.W.Sink.faults _ _ _ kept (c.in_err-answer_last.ensures.failed (ap Err failed))
 
 pub returns-in_err-flush-2-clause-write_fault : goal.returns-in_err-flush-2-clause-write_fault
 returns-in_err-flush-2-clause-write_fault g c is =
-    let kept = c.in_ok-answer_last.ensures.kept (λ ok. cc) ∙ (c.in_ok-flush.ensures.kept (λ ok. cc) ∙ c.loop-reader.invariant.out_kept) in
-    let failed = sink_failed c.in_err-flush-2.field-0.0 c.from_residual-in_err-flush-2.result c.from_residual-in_err-flush-2.ensures.1 is in
+    let kept = c.in_ok-answer_last.ensures.kept (λ ok. cc)
+    ∙ (c.in_ok-flush.ensures.kept (λ ok. cc) ∙ c.loop-reader.invariant.out_kept) in
+    let failed = sink_failed c.in_err-flush-2.field-0.0 c.from_residual-in_err-flush-2.result
+    c.from_residual-in_err-flush-2.ensures.1 is in
     fails_later g.W.Sink.written g.W.Sink.faults _ _ _ kept (c.in_err-flush-2.ensures.failed (ap Err failed))
 
 pub loop-reader-init : goal.loop-reader-init

@@ -13,4 +13,6 @@ returns-clause-ok g c =
     let within : held ≤ length items = search rules in
     let fits : held + length block ≤ c.args.buffer.now.len = search rules in
     let few : length block ≤ c.args.most = search rules in
-    fills _ _ c.read.result c.args.buffer.now.len held c.args.most _ items block rest (drop (length written) c.args.buffer.now.items) (ap (take held) c.deref_mut.ensures.value) within fits few c.read.ensures.bytes
+    fills _ _ c.read.result c.args.buffer.now.len held c.args.most _ items block rest
+    (drop (length written) c.args.buffer.now.items) (ap (take held) c.deref_mut.ensures.value) within fits few
+    c.read.ensures.bytes

@@ -7,6 +7,7 @@ invariant-loop-piece g l =
     let written = g.W.Sink.written in
     let faults = g.W.Sink.faults in
     record {
-      sent : Sends (written l.fn.out) (written l.out) (l.fn.outbox ++ flat_map (λ piece. piece.now) (take l.piece-index l.pieces)) l.outbox;
+      sent : Sends (written l.fn.out) (written l.out)
+          (l.fn.outbox ++ flat_map (λ piece. piece.now) (take l.piece-index l.pieces)) l.outbox;
       kept : faults l.out ≡ faults l.fn.out;
     }

@@ -10,9 +10,18 @@ returns-then-piece-gt-BLOCK-clause-ok g c =
     let written = g.W.Sink.written in
     let waited = c.args.self.now in
     let piece = c.args.piece.now in
-    on_ok_weaker c.write_all.result (λ grown. (waited ++ piece, Grows-join (written c.args.out.now) (written c.flush.new.out) (written c.write_all.new.out) waited piece c.in_ok-flush.ensures.ok grown, sym (append-nil (waited ++ piece)) ∙ ap (λ rest. (waited ++ piece) ++ rest) (sym c.in_ok-flush.ensures.empty))) c.write_all.ensures.written
+    on_ok_weaker c.write_all.result
+    (λ grown. (
+      waited ++ piece,
+      Grows-join (written c.args.out.now) (written c.flush.new.out)
+          (written c.write_all.new.out) waited piece c.in_ok-flush.ensures.ok grown,
+      sym (append-nil (waited ++ piece))
+          ∙ ap (λ rest. (waited ++ piece) ++ rest) (sym c.in_ok-flush.ensures.empty),
+    )) c.write_all.ensures.written
 
 pub returns-then-piece-gt-BLOCK-clause-err : goal.returns-then-piece-gt-BLOCK-clause-err
 returns-then-piece-gt-BLOCK-clause-err g c =
     let written = g.W.Sink.written in
-    on_err_weaker c.write_all.result (λ front. Grows-front (written c.args.out.now) (written c.flush.new.out) (written c.write_all.new.out) c.args.self.now c.args.piece.now c.in_ok-flush.ensures.ok front) c.write_all.ensures.front
+    on_err_weaker c.write_all.result
+    (λ front. Grows-front (written c.args.out.now) (written c.flush.new.out) (written c.write_all.new.out)
+    c.args.self.now c.args.piece.now c.in_ok-flush.ensures.ok front) c.write_all.ensures.front

@@ -3,4 +3,5 @@ use Rattle.leireg_run.proofs.reader.Reader.answer_last.Goals as goal
 
 pub returns-then-self-clause-answered : goal.returns-then-self-clause-answered
 returns-then-self-clause-answered g c part holds =
-    last_long c.args.self.now.skips c.args.self.now.window part _ _ _ c.put_too_long.result c.if-self.true c.put_too_long.ensures.puts holds
+    last_long c.args.self.now.skips c.args.self.now.window part _ _ _ c.put_too_long.result c.if-self.true
+    c.put_too_long.ensures.puts holds

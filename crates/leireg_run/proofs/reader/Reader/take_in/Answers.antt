@@ -13,17 +13,28 @@ returns-then-not-skip_line-clause-answered g c part holds =
 pub returns-in_err-put_too_long-clause-answered : goal.returns-in_err-put_too_long-clause-answered
 returns-in_err-put_too_long-clause-answered g c part holds =
     let ends = c.if-not-skip_line.ensures in
-    let at = progress c.args.self.now.office c.args.self.now.outbox (g.C.Clock.given c.args.clock.now) (g.W.Sink.written c.args.out.now) in
-    let stopped = long_stops c.args.self.now.skips c.args.self.now.window c.args.seen at _ _ part ends.0 c.skip_line.new.self c.in_err-put_too_long.field-0.0 c.from_residual.result
-    c.if-self.true c.from_residual.ensures.0 ends.1 c.in_err-put_too_long.ensures.puts holds in
-    ((part ++ ends.0) ++ 10 ∷ [], c.skip_line.new.self, stopped.0, inr (part ++ ends.0, refl), stopped.1, never _ c.from_residual.result c.from_residual.ensures.0)
+    let at = progress c.args.self.now.office c.args.self.now.outbox (g.C.Clock.given c.args.clock.now)
+    (g.W.Sink.written c.args.out.now) in
+    let stopped = long_stops c.args.self.now.skips c.args.self.now.window c.args.seen at _ _ part ends.0
+    c.skip_line.new.self c.in_err-put_too_long.field-0.0 c.from_residual.result
+    c.if-self.true c.from_residual.ensures.0 ends.1 c.in_err-put_too_long.ensures.puts holds in (
+      (part ++ ends.0) ++ 10 ∷ [],
+      c.skip_line.new.self,
+      stopped.0,
+      inr (part ++ ends.0, refl),
+      stopped.1,
+      never _
+          c.from_residual.result c.from_residual.ensures.0,
+    )
 
 pub returns-then-self-clause-answered : goal.returns-then-self-clause-answered
 returns-then-self-clause-answered g c part holds =
     let ends = c.if-not-skip_line.ensures in
-    long_goes c.args.self.now.skips c.args.self.now.window _ _ c.args.seen _ _ _ _ part ends.0 c.skip_line.new.self c.answer_whole.result
+    long_goes c.args.self.now.skips c.args.self.now.window _ _ c.args.seen _ _ _ _ part ends.0 c.skip_line.new.self
+    c.answer_whole.result
     c.if-self.true ends.1 c.in_ok-put_too_long.ensures.puts c.answer_whole.ensures.answered holds
 
 pub returns-then-self-clause-failed : goal.returns-then-self-clause-failed
 returns-then-self-clause-failed g c is =
-    fails_later g.W.Sink.written g.W.Sink.faults _ _ _ (c.in_ok-put_too_long.ensures.kept (λ ok. cc)) (c.answer_whole.ensures.failed is)
+    fails_later g.W.Sink.written g.W.Sink.faults _ _ _ (c.in_ok-put_too_long.ensures.kept (λ ok. cc))
+    (c.answer_whole.ensures.failed is)

@@ -8,4 +8,5 @@ returns c =
     let items = c.self.inside.buffer.items in
     let some : c.args.count ≤ held = search rules in
     let within : held ≤ length items = search rules in
-    ap (take (held - c.args.count)) c.copy_within.ensures.items ∙ used_up held c.args.count items within some ∙ ap (drop c.args.count) c.self.view_is
+    ap (take (held - c.args.count)) c.copy_within.ensures.items ∙ used_up held c.args.count items within some
+    ∙ ap (drop c.args.count) c.self.view_is
