@@ -3,15 +3,15 @@ use Rattle.worked_examples.specs.Numbers.{number_after}
 use Rattle.worked_examples.proofs.Digits.{number_after-other, number_after-great, number_after-next, number_after-end}
 use Rattle.worked_examples.proofs.numbers.number_of.Goals as goal
 
-pub returns-then-not-is_ascii_digit : goal.returns-then-not-is_ascii_digit
-returns-then-not-is_ascii_digit c =
+pub returns-then-not-is_ascii_digit-clause-value : goal.returns-then-not-is_ascii_digit-clause-value
+returns-then-not-is_ascii_digit-clause-value c =
     let bytes = c.as_bytes-byte-items.result.now in
     let other = sym c.if-not-is_ascii_digit.ensures.value in
     sym (number_after-other c.args.most c.loop-byte.number bytes c.loop-byte.byte-index c.loop-byte-test.true other)
     ∙ (c.loop-byte.invariant.same ∙ ap (number_after c.args.most 0) c.as_bytes-byte-items.ensures.value)
 
-pub returns-then-number-from : goal.returns-then-number-from
-returns-then-number-from c =
+pub returns-then-number-from-clause-value : goal.returns-then-number-from-clause-value
+returns-then-number-from-clause-value c =
     let bytes = c.as_bytes-byte-items.result.now in
     let digit = sym c.if-not-is_ascii_digit.ensures.value in
     let most = c.from-in-loop-byte.ensures in
@@ -32,7 +32,7 @@ loop-byte-preserved c =
       same = ap (λ n. number_after c.args.most (c.loop-byte.number * 10 + n) (drop (i + 1) bytes)) value ∙ (sym next ∙ c.loop-byte.invariant.same);
     }
 
-pub returns : goal.returns
-returns c =
+pub returns-clause-value : goal.returns-clause-value
+returns-clause-value c =
     sym (number_after-end c.args.most c.loop-byte.number c.as_bytes-byte-items.result.now c.loop-byte.byte-index c.loop-byte-test.false)
     ∙ (c.loop-byte.invariant.same ∙ ap (number_after c.args.most 0) c.as_bytes-byte-items.ensures.value)

@@ -1,9 +1,10 @@
-use Rattle.std.proofs.Common.{rules, ◌≡◌, ◌++◌, ◌≤◌, map, IfOk, string_bytes, ℕ, ◌+◌, ◌-◌, ◌*◌, ◌<◌, length, ◌/◌, ◌%◌, Bool, true, false, nat_eq, nat_lt, List, [], ◌∷◌, slice_index_or, slice_set, bit_and, bit_or, Fits, w8, w32, w64, Bor, MutBor}
-use Rattle.worked_examples.specs.Reading.{Gives}
-use Rattle.worked_examples.specs.Sessions
-use Rattle.worked_examples.specs.Texts
+use Rattle.std.proofs.Common.{arith}
+use Rattle.worked_examples.proofs.Repeats.{repeated-more}
 use Rattle.worked_examples.proofs.run.repeated.Goals as goal
 
--- src/run.rt:254:5
 pub loop-number-preserved : goal.loop-number-preserved
-loop-number-preserved c = ?
+loop-number-preserved c =
+    record {
+      within = omega arith;
+      bytes = repeated-more c.args.parts.now c.args.end.now c.args.first c.loop-number.number c.loop-number.bytes.items c.in_ok-bytes.bytes.items _ c.loop-number.auto.number c.loop-number.invariant.bytes c.in_ok-bytes.ensures c.in_ok-extend_from_slice.ensures.items;
+    }
