@@ -17,12 +17,14 @@ pub record DocumentState : Type 0 where
 
 -- ---- a line of named texts
 
+-- the known texts with one more of this name, these parameters and this text
 abbrev pub known_with : List Named → List (List ℕ) → List ℕ → Option (List Named)
 known_with known [] text = None
 known_with known (name ∷ parameters) text = if is_some (text_named known name (length parameters)) then None
     else option_map (λ parts. known ++ record { name = name; parameters = length parameters; parts = parts } ∷ [])
     (text_parts known parameters text)
 
+-- the same of a line that was cut at its `=`
 abbrev pub known_cut : List Named → Option (List ℕ × List ℕ) → Option (List Named)
 known_cut known None = None
 known_cut known (Some parts) = known_with known (pieces 32 parts.0) parts.1
@@ -33,6 +35,7 @@ known_after known line = known_cut known (cut 61 line)
 
 -- ---- a line of a document
 
+-- what a line begins, by its first word
 abbrev pub begun_by : List ℕ → Option (List ℕ × List ℕ) → Place
 begun_by line None = if bytes_eq line (codes "```texts") then places.Texts else places.Outside
 begun_by line (Some parts) = if bytes_eq parts.0 (codes "```session")
@@ -42,9 +45,11 @@ begun_by line (Some parts) = if bytes_eq parts.0 (codes "```session")
 abbrev pub begun : List ℕ → Place
 begun line = begun_by line (cut 32 line)
 
+-- a line of three backquotes ends what was begun
 abbrev pub is_end : List ℕ → Bool
 is_end line = bytes_eq line (codes "```")
 
+-- what was read after one more line, by where it stands
 abbrev pub at_place : DocumentState → Place → List ℕ → Option DocumentState
 at_place document places.Outside line = Some (record document { place = begun line })
 at_place document places.Texts line = if is_end line then Some (record document { place = places.Outside })
@@ -57,6 +62,7 @@ at_place document (places.Session session) line =
 unfoldable pub after_line : DocumentState → List ℕ → Option DocumentState
 after_line document line = at_place document document.place line
 
+-- what was read after these lines
 abbrev pub after_lines : DocumentState → List (List ℕ) → Option DocumentState
 after_lines document [] = Some document
 after_lines document (line ∷ others) = option_and_then (λ after. after_lines after others) (after_line document line)
@@ -71,6 +77,7 @@ ended_at document places.Outside = Some document
 ended_at document places.Texts = None
 ended_at document (places.Session session) = None
 
+-- what was read of a document that is whole
 abbrev pub ended : DocumentState → Option DocumentState
 ended document = ended_at document document.place
 

@@ -14,6 +14,7 @@ abbrev pub parts_or : List ℕ → Option Named → List Part
 parts_or word None = Plain word ∷ []
 parts_or word (Some text) = text.parts
 
+-- the hole of a parameter, and these parts where there is none
 abbrev pub hole_or : List Part → Option ℕ → List Part
 hole_or parts None = parts
 hole_or parts (Some index) = Hole index ∷ []
@@ -22,6 +23,7 @@ hole_or parts (Some index) = Hole index ∷ []
 abbrev pub argument_parts : List Named → List (List ℕ) → List ℕ → List Part
 argument_parts known parameters word = hole_or (parts_or word (text_named known word 0)) (index_of parameters word)
 
+-- the parts of an argument that is given, and none of one that isn't
 abbrev pub given_parts : List Named → List (List ℕ) → Option (List ℕ) → List Part
 given_parts known parameters None = []
 given_parts known parameters (Some word) = argument_parts known parameters word
@@ -31,6 +33,7 @@ abbrev pub part_with : List Named → List (List ℕ) → List (List ℕ) → Pa
 part_with known parameters arguments (Plain bytes) = Plain bytes ∷ []
 part_with known parameters arguments (Hole index) = given_parts known parameters (slice_get arguments index)
 
+-- the parts of a known text, with its holes filled by arguments
 abbrev pub parts_with : List Named → List (List ℕ) → List (List ℕ) → List Part → List Part
 parts_with known parameters arguments parts = flat_map (part_with known parameters arguments) parts
 
@@ -41,10 +44,12 @@ byte_parts name (text ∷ []) =
     if bytes_eq name (codes "byte") then option_map (λ byte. Plain (byte ∷ []) ∷ []) (number 255 text) else None
 byte_parts name (text ∷ other ∷ others) = None
 
+-- what a name with arguments stands for: a known text, or else a byte
 abbrev pub parts_of_text : List Named → List (List ℕ) → List ℕ → List (List ℕ) → Option Named → Option (List Part)
 parts_of_text known parameters name arguments None = byte_parts name arguments
 parts_of_text known parameters name arguments (Some text) = Some (parts_with known parameters arguments text.parts)
 
+-- the hole of a parameter, and else these parts
 abbrev pub hole_or_text : Option (List Part) → Option ℕ → Option (List Part)
 hole_or_text parts None = parts
 hole_or_text parts (Some index) = Some (Hole index ∷ [])
@@ -62,6 +67,7 @@ meant known parameters (name ∷ []) = alone known parameters name
 meant known parameters (name ∷ word ∷ words) =
     parts_of_text known parameters name (word ∷ words) (text_named known name (length (word ∷ words)))
 
+-- the parts of a piece that was cut at its `>`
 abbrev pub piece_cut : List Named → List (List ℕ) → Option (List ℕ × List ℕ) → Option (List Part)
 piece_cut known parameters None = None
 piece_cut known parameters (Some parts) = behind (meant known parameters (pieces 32 parts.0)) (Some (Plain parts.1 ∷ []))
@@ -70,11 +76,13 @@ piece_cut known parameters (Some parts) = behind (meant known parameters (pieces
 abbrev pub piece_parts : List Named → List (List ℕ) → List ℕ → Option (List Part)
 piece_parts known parameters piece = piece_cut known parameters (cut 62 piece)
 
+-- the parts of pieces in order
 abbrev pub pieces_parts : List Named → List (List ℕ) → List (List ℕ) → Option (List Part)
 pieces_parts known parameters [] = Some []
 pieces_parts known parameters (piece ∷ others) =
     behind (piece_parts known parameters piece) (pieces_parts known parameters others)
 
+-- the parts of a text that was cut at each `<`: the plain text before the first, and then the pieces
 abbrev pub parts_from : List Named → List (List ℕ) → List (List ℕ) → Option (List Part)
 parts_from known parameters [] = Some []
 parts_from known parameters (first ∷ others) = behind (Some (Plain first ∷ [])) (pieces_parts known parameters others)

@@ -3,6 +3,7 @@ use Rattle.std.specs.Prelude.{◌≡◌, List, ◌++◌, Option, Some, None, Res
 use Rattle.worked_examples.specs.declared.fault.Fault.{Fault}
 use Rattle.worked_examples.specs.declared.fault.Fault.TheVariants.{Form, Memory}
 
+-- a reader that fails found nothing of the form, or memory was wanting
 abbrev pub Fails : {Y : Type 0} → Fault → Option Y → Type 0
 Fails Form found = found ≡ None
 Fails Memory found = Unit {0}

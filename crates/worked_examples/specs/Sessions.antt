@@ -30,6 +30,7 @@ pub record SessionState : Type 0 where
 abbrev pub word_of : List ℕ → List ℕ
 word_of text = if bytes_eq text (codes "\"\"") then [] else text
 
+-- the run of a command's words, of which the first names the program
 abbrev pub run_of_words : List (List ℕ) → Option RunState
 run_of_words [] = None
 run_of_words (program ∷ words) = if bytes_eq program (codes "./leireg")
@@ -60,6 +61,7 @@ goes_on text = slice_index text (length text - 1) == 92
 abbrev pub front_of : List ℕ → List ℕ
 front_of text = if goes_on text then take (length text - 1) text else text
 
+-- the line end of a text: none where it goes on
 abbrev pub end_of : List ℕ → List ℕ
 end_of text = if goes_on text then [] else 10 ∷ []
 
@@ -73,6 +75,7 @@ with_text known run sign text =
 abbrev pub number_names : List (List ℕ)
 number_names = codes "NUMBER" ∷ codes "LEI" ∷ codes "BEFORE" ∷ []
 
+-- what these names stand for in the line of a number
 abbrev pub number_texts : ℕ → List (List ℕ)
 number_texts n = decimal n ∷ code_of n ∷ code_of (n - 1) ∷ []
 
@@ -80,9 +83,11 @@ number_texts n = decimal n ∷ code_of n ∷ code_of (n - 1) ∷ []
 abbrev pub repeated : List Part → List ℕ → List ℕ → List ℕ
 repeated parts end numbers = flat_map (λ n. filled (number_texts n) parts ++ end) numbers
 
+-- the numbers from the first to the last
 abbrev pub numbers_between : ℕ → ℕ → List ℕ
 numbers_between first last = range_with_len first (last + 1 - first)
 
+-- a line for each number from the first to the last is sent or must come back
 abbrev pub with_repeated : List Named → RunState → ℕ → ℕ → List ℕ → List ℕ → Option RunState
 with_repeated known run first last sign text =
     option_and_then (λ parts. with_bytes run sign (repeated parts (end_of text) (numbers_between first last)))

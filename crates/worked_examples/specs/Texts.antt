@@ -13,6 +13,7 @@ text_named known name count = find (λ text. bytes_eq text.name name && text.par
 abbrev pub index_of : List (List ℕ) → List ℕ → Option ℕ
 index_of names name = position (λ other. bytes_eq other name) names
 
+-- a text, and the empty one where there is none
 abbrev pub or_nothing : Option (List ℕ) → List ℕ
 or_nothing None = []
 or_nothing (Some text) = text
