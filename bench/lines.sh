@@ -17,7 +17,7 @@ input=$folder/input
 mib256=268435456
 office=506700GE1G29325QX363
 
-# Lines as long as the uploads of examples/first_run.txt, 102 bytes, and lines of 8 bytes.
+# Lines of 102 bytes, as short uploads have, and lines of 8 bytes.
 unknown_words() {
     yes "DOWNLOAD $office 1 {\"records\":[{\"Entity.LegalName\":\"Alp\",\"LEI\":\"00000000000000000195\"}]}" | head -c $mib256
 }
