@@ -17,6 +17,8 @@ import time
 ROOT = pathlib.Path(__file__).resolve().parent.parent
 TICKS = os.sysconf("SC_CLK_TCK")
 STEPS = ("proofs", "tests", "edits")
+# Where the gate tries an edit of a crate.
+EDITED = f"{tempfile.gettempdir()}/rt-edit-"
 
 
 def step_of(words):
@@ -24,7 +26,7 @@ def step_of(words):
     if "--crate-name" not in words:
         return None
     crate = words[words.index("--crate-name") + 1]
-    if words[1] == "check":
+    if words[1] == "check" and "--incremental" in words:
         return crate, "edits"
     return crate, "tests" if "--test" in words else "proofs"
 
@@ -38,7 +40,8 @@ def processes(clone):
             words = pathlib.Path(entry.path, "cmdline").read_bytes().decode(errors="replace").split("\0")
             numbers = pathlib.Path(entry.path, "stat").read_text().rpartition(")")[2].split()
             step = step_of(words)
-            is_ours = step and (os.readlink(f"{entry.path}/cwd").startswith(clone) or any(clone in word for word in words))
+            folder = os.readlink(f"{entry.path}/cwd")
+            is_ours = step and (folder.startswith((clone, EDITED)) or any(clone in word for word in words))
         except OSError:
             continue
         if is_ours:
