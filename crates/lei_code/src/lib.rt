@@ -10,6 +10,3 @@ mod remainder;
 pub use code::Lei;
 pub use digits::check_digits;
 pub use fault::LeiFault;
-
-#[cfg(test)]
-mod tests;

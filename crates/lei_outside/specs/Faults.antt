@@ -1,6 +1,8 @@
--- What a device tells of a call that fails.
-use Rattle.std.specs.Prelude.{◌≡◌, ◌≤◌, ℕ}
+-- What is told of a call of a device that fails.
+use Rattle.std.specs.Prelude.{◌≡◌, ◌≤◌, ℕ, List, codes}
 use Rattle.lei_outside.specs.Count.{Rose}
+use Rattle.lei_outside.specs.declared.faults.SinkFault.{SinkFault}
+use Rattle.lei_outside.specs.declared.faults.SinkFault.TheVariants.{Failed, NoMemory}
 
 -- A call of a device failed, and nothing was read or written behind it: there was a time at which no call had failed and
 -- the device told what it tells now, and behind that time its count of faults rose.
@@ -10,3 +12,8 @@ pub record FailsLast {D T : Type 0} (told : D → T) (faults : D → ℕ) (befor
   pub unchanged : told last ≡ told after
   pub counts : faults last ≤ faults after
   pub rose : Rose (faults last) (faults after)
+
+-- why a sink took nothing, in words
+abbrev pub sink_fault_text : SinkFault → List ℕ
+sink_fault_text Failed = codes "the device failed"
+sink_fault_text NoMemory = codes "out of memory"

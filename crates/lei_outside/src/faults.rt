@@ -10,6 +10,10 @@ use std::fmt;
 pub struct NoMemory;
 
 impl fmt::Display for NoMemory {
+    ghost use Rattle.std.specs.Prelude.{Some, codes};
+
+    ghost output = { λ _. Some (codes "out of memory") };
+
     fn fmt<W: fmt::Write>(&self, f: &mut fmt::Formatter<W>) -> fmt::Result {
         write!(f, "out of memory")
     }
@@ -34,6 +38,10 @@ impl<T: Drop> From<AllocFailed<T>> for NoMemory {
 pub struct Failed;
 
 impl fmt::Display for Failed {
+    ghost use Rattle.std.specs.Prelude.{Some, codes};
+
+    ghost output = { λ _. Some (codes "the device failed") };
+
     fn fmt<W: fmt::Write>(&self, f: &mut fmt::Formatter<W>) -> fmt::Result {
         write!(f, "the device failed")
     }
@@ -51,6 +59,11 @@ pub enum SinkFault {
 }
 
 impl fmt::Display for SinkFault {
+    ghost use Rattle.std.specs.Prelude.{Some};
+    ghost use Rattle.lei_outside.specs.Faults.{sink_fault_text};
+
+    ghost output = { λ fault. Some (sink_fault_text fault) };
+
     fn fmt<W: fmt::Write>(&self, f: &mut fmt::Formatter<W>) -> fmt::Result {
         match self {
             SinkFault::Failed => write!(f, "the device failed"),

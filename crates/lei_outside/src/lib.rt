@@ -21,6 +21,3 @@ pub use memory_sink::{ByteSink, SureSink};
 pub use memory_source::{ByteSource, SureSource};
 pub use sink::{Sink, write_all};
 pub use source::Source;
-
-#[cfg(test)]
-mod tests;

@@ -14,6 +14,3 @@ pub use lists::{
 };
 pub use moments::Moment;
 pub use shapes::{Shape, fits};
-
-#[cfg(test)]
-mod tests;

@@ -5,9 +5,9 @@
 #[cfg(test)]
 mod items;
 #[cfg(test)]
-mod judging;
-#[cfg(test)]
 mod limits;
+#[cfg(test)]
+mod moments;
 #[cfg(test)]
 mod runs;
 #[cfg(test)]

@@ -8,6 +8,3 @@ mod transitions;
 
 pub use statuses::{entity_fits, renewal_fits};
 pub use transitions::{Party, transition};
-
-#[cfg(test)]
-mod tests;

@@ -9,6 +9,3 @@ mod walks;
 pub use laws::{clear_ways_keep_ends, ending_walks_keep_ends, ending_ways_never_return};
 pub use successors::walk;
 pub use walks::{Chain, Walked, follow};
-
-#[cfg(test)]
-mod tests;
