@@ -2,3 +2,4 @@ pub mod Handing
 pub mod Told
 pub mod Clocks
 pub mod Faulting
+pub mod PieceLemmas

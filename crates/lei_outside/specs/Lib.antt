@@ -3,3 +3,4 @@ pub mod Count
 pub mod Faults
 pub mod Memory
 pub mod Clock
+pub mod Pieces

@@ -11,6 +11,7 @@ mod memory_sink;
 mod memory_source;
 mod sink;
 mod source;
+mod texts;
 
 pub use clock::Clock;
 pub use entry::KeptEntry;
@@ -21,3 +22,4 @@ pub use memory_sink::{ByteSink, SureSink};
 pub use memory_source::{ByteSource, SureSource};
 pub use sink::{Sink, write_all};
 pub use source::Source;
+pub use texts::Texts;

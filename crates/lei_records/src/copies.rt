@@ -1,4 +1,4 @@
-//! Copies of items and checks in memory of their own.
+//! Items once more, and copies of checks in memory of their own.
 ghost use Rattle.std.specs.Prelude.{◌≡◌, IfOk};
 
 use crate::check::{Check, Detail};
@@ -7,14 +7,14 @@ use lei_outside::{NoMemory, Text};
 use std::alloc::Global;
 
 impl Item {
-    /// The item in memory of its own.
-    pub fn copy(&self, alloc: Global) -> Result<Item, NoMemory>
-        ensures { IfOk result (λ copy. copy ≡ self.now) }
+    /// The item once more. It shares its texts, and takes no memory for them.
+    pub fn share(&self) -> Result<Item, NoMemory>
+        ensures { IfOk result (λ shared. shared ≡ self.now) }
     {
         match self {
-            Item::Record(record) => Ok(Item::Record(record.copy(alloc)?)),
-            Item::Relation(relation) => Ok(Item::Relation(relation.copy(alloc)?)),
-            Item::Exception(exception) => Ok(Item::Exception(exception.copy(alloc)?)),
+            Item::Record(record) => Ok(Item::Record(record.share()?)),
+            Item::Relation(relation) => Ok(Item::Relation(relation.share()?)),
+            Item::Exception(exception) => Ok(Item::Exception(exception.share()?)),
         }
     }
 }

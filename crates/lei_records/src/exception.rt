@@ -5,18 +5,19 @@ ghost use Rattle.lei_records.specs.Rows.{text_at};
 ghost use Rattle.lei_records.specs.Spelled.{IsExceptionRow};
 
 use crate::places;
-use crate::texts::{code_at, copied, text_at};
+use crate::texts::{code_at, text_at};
 use lei_code::Lei;
-use lei_outside::{NoMemory, Text};
+use lei_outside::{NoMemory, Texts};
 use lei_shapes::{ExceptionCategory, Reason};
 use std::alloc::Global;
 use std::marker::Model;
+use std::sync::Arc;
 
 /// A reporting exception: why an entity reports no parent of a category. Or the withdrawal of one. Clauses see its row,
 /// its four texts in order of place, where an absent field is the empty text, and whether it is a withdrawal.
 #[derive(Debug, Drop)]
 pub struct ExceptionItem {
-    texts: Vec<Text>,
+    texts: Arc<Texts, Global>,
     withdraws: bool,
     lei: Lei,
     category: ExceptionCategory,
@@ -25,13 +26,14 @@ pub struct ExceptionItem {
 
 impl Model for ExceptionItem {
     ghost use Rattle.std.specs.Prelude.{Bool};
+    ghost use Rattle.std.specs.Arc.{arc_value};
     ghost use Rattle.lei_records.specs.Rows.{Row};
 
     ghost Value = { Row × Bool };
 
     ghost use Rattle.lei_records.specs.Parts.{IsExceptionSpelled};
 
-    ghost view = { λ e. (e.texts.items, e.withdraws) };
+    ghost view = { λ e. (arc_value e.texts, e.withdraws) };
 
     ghost invariant = { IsExceptionSpelled };
 }
@@ -49,7 +51,7 @@ impl PartialEq for ExceptionItem {
     ghost laws = { Prim.search (comparing, rules) depth 8 };
 
     fn eq(&self, other: &Self) -> bool {
-        self.texts == other.texts && self.withdraws == other.withdraws
+        *self.texts == *other.texts && self.withdraws == other.withdraws
     }
 }
 
@@ -63,17 +65,17 @@ impl Eq for ExceptionItem {
 impl ExceptionItem {
     /// The exception with these texts, which move, or its withdrawal. The condition is that they are the row of an
     /// exception.
-    pub fn of(texts: Vec<Text>, withdraws: bool) -> Self
-        requires { IsExceptionRow texts.items }
-        ensures { result ≡ (texts.items, withdraws) }
+    pub fn of(alloc: Global, texts: Texts, withdraws: bool) -> Result<Self, NoMemory>
+        requires { IsExceptionRow texts }
+        ensures { IfOk result (λ made. made ≡ (texts, withdraws)) }
     {
-        ExceptionItem {
+        Ok(ExceptionItem {
             lei: code_at(&texts, places::SUBJECT),
             category: category_of(&texts),
             reason: reason_of(&texts),
-            texts,
+            texts: Arc::new(alloc, texts)?,
             withdraws,
-        }
+        })
     }
 
     /// The text of a field, by its place from 1 to 4: the empty text where the field is absent.
@@ -115,11 +117,11 @@ impl ExceptionItem {
         self.withdraws
     }
 
-    /// The exception in memory of its own.
-    pub fn copy(&self, alloc: Global) -> Result<ExceptionItem, NoMemory>
-        ensures { IfOk result (λ copy. copy ≡ self.now) }
+    /// The exception once more. It shares its texts, and takes no memory for them.
+    pub fn share(&self) -> Result<ExceptionItem, NoMemory>
+        ensures { IfOk result (λ shared. shared ≡ self.now) }
     {
-        let texts = copied(alloc, &self.texts)?;
+        let texts = Arc::try_clone(&self.texts)?;
         Ok(ExceptionItem {
             texts,
             withdraws: self.withdraws,
@@ -131,7 +133,7 @@ impl ExceptionItem {
 }
 
 #[tactic(auto, unfolding(crate::specs::Exceptions::exception_category_in))]
-fn category_of(texts: &[Text]) -> ExceptionCategory
+fn category_of(texts: &Texts) -> ExceptionCategory
     requires { IsExceptionRow texts.now }
     ensures { result ≡ Exceptions.exception_category_in texts.now }
 {
@@ -142,7 +144,7 @@ fn category_of(texts: &[Text]) -> ExceptionCategory
 }
 
 // The reason that the text at its place reads as, and none where the text is absent.
-fn reason_of(texts: &[Text]) -> Option<Reason>
+fn reason_of(texts: &Texts) -> Option<Reason>
     requires { IsExceptionRow texts.now }
     ensures { result ≡ Exceptions.reason_in texts.now }
 {

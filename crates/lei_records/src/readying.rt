@@ -1,4 +1,4 @@
-ghost use Rattle.std.specs.Prelude.{◌≡◌, codes, length, IfOk, None, option_map, unwrap_or};
+ghost use Rattle.std.specs.Prelude.{◌≡◌, ◌++◌, ◌∷◌, [], codes, length, IfOk, OnOk, None, option_map, unwrap_or};
 ghost use Rattle.std.specs.Str.{bytes_eq};
 ghost use Rattle.std.specs.Option.{option_copied};
 ghost use Rattle.lei_shapes.specs.Clock.{moment_text};
@@ -23,7 +23,7 @@ use crate::record::Record;
 use crate::relation::Relation;
 use crate::sheet::sheet_of;
 use lei_code::Lei;
-use lei_outside::{NoMemory, Text};
+use lei_outside::{NoMemory, Text, Texts};
 use lei_shapes::{Moment, Shape, fits};
 use std::alloc::Global;
 
@@ -107,18 +107,19 @@ fn good(alloc: Global, kind: Kind, texts: &[&str]) -> Result<Readied, NoMemory>
     ensures { let row = read_texts texts.now in IfOk result (λ item. item ≡ readied_by kind row None) }
 {
     let row = printed_texts(alloc, kind, texts)?;
-    Ok(Readied::Good(item_of(kind, facts_at(kind, texts).withdrawal, row)))
+    let withdraws = facts_at(kind, texts).withdrawal;
+    Ok(Readied::Good(item_of(alloc, kind, withdraws, row)?))
 }
 
 // The item of a kind with this row. Of an exception it is said whether it is a withdrawal.
-fn item_of(kind: Kind, withdraws: bool, row: Vec<Text>) -> Item
-    requires { IsRowOf kind row.items }
-    ensures { result ≡ Items.item_of kind withdraws row.items }
+fn item_of(alloc: Global, kind: Kind, withdraws: bool, row: Texts) -> Result<Item, NoMemory>
+    requires { IsRowOf kind row }
+    ensures { IfOk result (λ item. item ≡ Items.item_of kind withdraws row) }
 {
     match kind {
-        Kind::Record => Item::Record(Record::of(row)),
-        Kind::Relation => Item::Relation(Relation::of(row)),
-        Kind::Exception => Item::Exception(ExceptionItem::of(row, withdraws)),
+        Kind::Record => Ok(Item::Record(Record::of(alloc, row)?)),
+        Kind::Relation => Ok(Item::Relation(Relation::of(alloc, row)?)),
+        Kind::Exception => Ok(Item::Exception(ExceptionItem::of(alloc, row, withdraws)?)),
     }
 }
 
@@ -195,36 +196,42 @@ fn has_other_remainder(text: &str) -> bool
 
 // The texts of the row, each a copy or, of a moment, its printed form.
 #[tactic(auto, unfolding(crate::specs::Sheets::printed_at))]
-fn printed_texts(alloc: Global, kind: Kind, texts: &[&str]) -> Result<Vec<Text>, NoMemory>
+fn printed_texts(alloc: Global, kind: Kind, texts: &[&str]) -> Result<Texts, NoMemory>
     requires { length texts.now ≡ field_count kind }
-    ensures { IfOk result (λ row. row.items ≡ printed_at kind (read_texts texts.now)) }
+    ensures { IfOk result (λ row. row ≡ printed_at kind (read_texts texts.now)) }
 {
     let table = &kind.fields()[..kind.row_len()];
-    let mut row = Vec::with_capacity(alloc, table.len())?;
+    let mut row = Texts::with_capacity(alloc, table.len(), size_of(texts))?;
     for (index, field) in table.iter().enumerate() {
-        row.push(row_text(alloc, field.1, texts[index])?)?;
+        push_row_text(&mut row, field.1, texts[index])?;
     }
     Ok(row)
 }
 
-// The text of a field as a row has it.
-fn row_text(alloc: Global, content: Content, text: &str) -> Result<Text, NoMemory>
-    ensures { IfOk result (λ made. made ≡ Items.row_text content text.now) }
+// How many bytes the texts have, which are about those of their row.
+fn size_of(texts: &[&str]) -> usize {
+    texts.iter().fold(0usize, |size, text| size.saturating_add(text.len()))
+}
+
+// Puts the text of a field, as a row has it, behind the others.
+fn push_row_text(row: &mut Texts, content: Content, text: &str) -> Result<(), NoMemory>
+    ensures { OnOk result (row.new ≡ row.old ++ Items.row_text content text.now ∷ []) }
 {
     match content {
-        Content::Shaped(Shape::Moment) if !text.is_empty() => moment_text(alloc, text),
-        _ => Text::copy_of(alloc, text),
+        Content::Shaped(Shape::Moment) if !text.is_empty() => push_moment(row, text),
+        _ => row.push(text),
     }
 }
 
-// The printed form of the moment that a text reads as, and else the text.
-fn moment_text(alloc: Global, text: &str) -> Result<Text, NoMemory>
-    ensures { IfOk result (λ made. made ≡ unwrap_or (option_map moment_text (read_moment text.now)) text.now) }
+// Puts the printed form of the moment that a text reads as, and else the text.
+fn push_moment(row: &mut Texts, text: &str) -> Result<(), NoMemory>
+    ensures { OnOk result
+        (row.new ≡ row.old ++ unwrap_or (option_map moment_text (read_moment text.now)) text.now ∷ []) }
 {
     match Moment::read(text) {
-        None => Text::copy_of(alloc, text),
+        None => row.push(text),
         Some(moment) => match str::from_utf8(&moment.text()) {
-            Ok(form) => Text::copy_of(alloc, form),
+            Ok(form) => row.push(form),
             Err(_) => unreachable!(),
         },
     }

@@ -5,18 +5,19 @@ ghost use Rattle.lei_records.specs.Rows.{text_at};
 ghost use Rattle.lei_records.specs.Spelled.{IsRow};
 
 use crate::places;
-use crate::texts::{code_at, copied, moment_at, present_code_at, present_moment_at, text_at};
+use crate::texts::{code_at, moment_at, present_code_at, present_moment_at, text_at};
 use lei_code::Lei;
-use lei_outside::{NoMemory, Text};
+use lei_outside::{NoMemory, Texts};
 use lei_shapes::{Category, EntityStatus, Moment, RecordStatus};
 use std::alloc::Global;
 use std::marker::Model;
+use std::sync::Arc;
 
 /// A record of the register: a legal entity and its registration. Clauses see its row: its 28 texts in order of
 /// place, where an absent field is the empty text and a moment stands in printed form.
 #[derive(Debug, Drop)]
 pub struct Record {
-    texts: Vec<Text>,
+    texts: Arc<Texts, Global>,
     lei: Lei,
     status: RecordStatus,
     entity_status: EntityStatus,
@@ -31,13 +32,14 @@ pub struct Record {
 }
 
 impl Model for Record {
+    ghost use Rattle.std.specs.Arc.{arc_value};
     ghost use Rattle.lei_records.specs.Rows.{Row};
 
     ghost Value = { Row };
 
     ghost use Rattle.lei_records.specs.Parts.{IsSpelled};
 
-    ghost view = { λ r. r.texts.items };
+    ghost view = { λ r. arc_value r.texts };
 
     ghost invariant = { IsSpelled };
 }
@@ -53,7 +55,7 @@ impl PartialEq for Record {
     ghost laws = { Prim.search (comparing, rules) };
 
     fn eq(&self, other: &Self) -> bool {
-        self.texts == other.texts
+        *self.texts == *other.texts
     }
 }
 
@@ -66,11 +68,11 @@ impl Eq for Record {
 
 impl Record {
     /// The record with these texts, which move. The condition is that they are the row of a record.
-    pub fn of(texts: Vec<Text>) -> Self
-        requires { IsRow texts.items }
-        ensures { result ≡ texts.items }
+    pub fn of(alloc: Global, texts: Texts) -> Result<Self, NoMemory>
+        requires { IsRow texts }
+        ensures { IfOk result (λ made. made ≡ texts) }
     {
-        Record {
+        Ok(Record {
             lei: code_at(&texts, places::LEI),
             category: category_of(&texts),
             entity_status: entity_status_of(&texts),
@@ -82,8 +84,8 @@ impl Record {
             renewal: moment_at(&texts, places::RENEWAL),
             manager: code_at(&texts, places::MANAGER),
             transfer_to: present_code_at(&texts, places::TRANSFER_TO),
-            texts,
-        }
+            texts: Arc::new(alloc, texts)?,
+        })
     }
 
     /// The text of a field, by its place from 1 to 28: the empty text where the field is absent.
@@ -189,11 +191,11 @@ impl Record {
         self.created
     }
 
-    /// The record in memory of its own.
-    pub fn copy(&self, alloc: Global) -> Result<Record, NoMemory>
-        ensures { IfOk result (λ copy. copy ≡ self.now) }
+    /// The record once more. It shares its texts, and takes no memory for them.
+    pub fn share(&self) -> Result<Record, NoMemory>
+        ensures { IfOk result (λ shared. shared ≡ self.now) }
     {
-        let texts = copied(alloc, &self.texts)?;
+        let texts = Arc::try_clone(&self.texts)?;
         Ok(Record {
             texts,
             lei: self.lei,
@@ -212,7 +214,7 @@ impl Record {
 }
 
 #[tactic(auto, unfolding(crate::specs::Cells::status_in))]
-fn status_of(texts: &[Text]) -> RecordStatus
+fn status_of(texts: &Texts) -> RecordStatus
     requires { IsRow texts.now }
     ensures { result ≡ Cells.status_in texts.now }
 {
@@ -223,7 +225,7 @@ fn status_of(texts: &[Text]) -> RecordStatus
 }
 
 #[tactic(auto, unfolding(crate::specs::Cells::entity_status_in))]
-fn entity_status_of(texts: &[Text]) -> EntityStatus
+fn entity_status_of(texts: &Texts) -> EntityStatus
     requires { IsRow texts.now }
     ensures { result ≡ Cells.entity_status_in texts.now }
 {
@@ -234,7 +236,7 @@ fn entity_status_of(texts: &[Text]) -> EntityStatus
 }
 
 #[tactic(auto, unfolding(crate::specs::Cells::category_in))]
-fn category_of(texts: &[Text]) -> Category
+fn category_of(texts: &Texts) -> Category
     requires { IsRow texts.now }
     ensures { result ≡ Cells.category_in texts.now }
 {

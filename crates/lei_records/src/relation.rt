@@ -5,18 +5,19 @@ ghost use Rattle.lei_records.specs.Rows.{text_at};
 ghost use Rattle.lei_records.specs.Spelled.{IsRelationRow};
 
 use crate::places;
-use crate::texts::{code_at, copied, moment_at, present_moment_at, text_at};
+use crate::texts::{code_at, moment_at, present_moment_at, text_at};
 use lei_code::Lei;
-use lei_outside::{NoMemory, Text};
+use lei_outside::{NoMemory, Texts};
 use lei_shapes::{Moment, RelationRegistration, RelationStatus, RelationType};
 use std::alloc::Global;
 use std::marker::Model;
+use std::sync::Arc;
 
 /// A relationship of the register: how one entity is related to another. Clauses see its row: its 11 texts in order
 /// of place, where an absent field is the empty text and a moment stands in printed form.
 #[derive(Debug, Drop)]
 pub struct Relation {
-    texts: Vec<Text>,
+    texts: Arc<Texts, Global>,
     start: Lei,
     kind: RelationType,
     end: Lei,
@@ -30,13 +31,14 @@ pub struct Relation {
 }
 
 impl Model for Relation {
+    ghost use Rattle.std.specs.Arc.{arc_value};
     ghost use Rattle.lei_records.specs.Rows.{Row};
 
     ghost Value = { Row };
 
     ghost use Rattle.lei_records.specs.Parts.{IsRelationSpelled};
 
-    ghost view = { λ r. r.texts.items };
+    ghost view = { λ r. arc_value r.texts };
 
     ghost invariant = { IsRelationSpelled };
 }
@@ -52,7 +54,7 @@ impl PartialEq for Relation {
     ghost laws = { Prim.search (comparing, rules) };
 
     fn eq(&self, other: &Self) -> bool {
-        self.texts == other.texts
+        *self.texts == *other.texts
     }
 }
 
@@ -65,11 +67,11 @@ impl Eq for Relation {
 
 impl Relation {
     /// The relationship with these texts, which move. The condition is that they are the row of a relationship.
-    pub fn of(texts: Vec<Text>) -> Self
-        requires { IsRelationRow texts.items }
-        ensures { result ≡ texts.items }
+    pub fn of(alloc: Global, texts: Texts) -> Result<Self, NoMemory>
+        requires { IsRelationRow texts }
+        ensures { IfOk result (λ made. made ≡ texts) }
     {
-        Relation {
+        Ok(Relation {
             start: code_at(&texts, places::START),
             kind: kind_of(&texts),
             end: code_at(&texts, places::END),
@@ -80,8 +82,8 @@ impl Relation {
             updated: moment_at(&texts, places::RELATION_UPDATED),
             registration: registration_of(&texts),
             manager: code_at(&texts, places::RELATION_MANAGER),
-            texts,
-        }
+            texts: Arc::new(alloc, texts)?,
+        })
     }
 
     /// The text of a field, by its place from 1 to 11: the empty text where the field is absent.
@@ -172,11 +174,11 @@ impl Relation {
         self.manager
     }
 
-    /// The relationship in memory of its own.
-    pub fn copy(&self, alloc: Global) -> Result<Relation, NoMemory>
-        ensures { IfOk result (λ copy. copy ≡ self.now) }
+    /// The relationship once more. It shares its texts, and takes no memory for them.
+    pub fn share(&self) -> Result<Relation, NoMemory>
+        ensures { IfOk result (λ shared. shared ≡ self.now) }
     {
-        let texts = copied(alloc, &self.texts)?;
+        let texts = Arc::try_clone(&self.texts)?;
         Ok(Relation {
             texts,
             start: self.start,
@@ -200,7 +202,7 @@ fn is_active_status(status: RelationStatus) -> bool
 }
 
 #[tactic(auto, unfolding(crate::specs::Relations::kind_in))]
-fn kind_of(texts: &[Text]) -> RelationType
+fn kind_of(texts: &Texts) -> RelationType
     requires { IsRelationRow texts.now }
     ensures { result ≡ Relations.kind_in texts.now }
 {
@@ -211,7 +213,7 @@ fn kind_of(texts: &[Text]) -> RelationType
 }
 
 #[tactic(auto, unfolding(crate::specs::Relations::relation_status_in))]
-fn status_of(texts: &[Text]) -> RelationStatus
+fn status_of(texts: &Texts) -> RelationStatus
     requires { IsRelationRow texts.now }
     ensures { result ≡ Relations.relation_status_in texts.now }
 {
@@ -222,7 +224,7 @@ fn status_of(texts: &[Text]) -> RelationStatus
 }
 
 #[tactic(auto, unfolding(crate::specs::Relations::registration_in))]
-fn registration_of(texts: &[Text]) -> RelationRegistration
+fn registration_of(texts: &Texts) -> RelationRegistration
     requires { IsRelationRow texts.now }
     ensures { result ≡ Relations.registration_in texts.now }
 {

@@ -1,37 +1,25 @@
 //! What the texts of a row spell, by place.
-ghost use Rattle.std.specs.Prelude.{◌≡◌, ◌≤◌, length, IfOk, IfSome, option_and_then};
+ghost use Rattle.std.specs.Prelude.{◌≡◌, ◌≤◌, length, IfSome, option_and_then};
 ghost use Rattle.lei_code.specs.Code.{IsValid};
 ghost use Rattle.lei_shapes.specs.Moment.{read_moment};
 ghost use Rattle.lei_records.specs.Rows.{text_at};
 ghost use Rattle.lei_records.specs.Spelled.{IsPrinted, moment_in, present};
 
 use lei_code::Lei;
-use lei_outside::{NoMemory, Text};
+use lei_outside::Texts;
 use lei_shapes::Moment;
-use std::alloc::Global;
-
-// The same texts in memory of their own.
-pub fn copied(alloc: Global, texts: &[Text]) -> Result<Vec<Text>, NoMemory>
-    ensures { IfOk result (λ copies. copies.items ≡ texts.now) }
-{
-    let mut copies = Vec::with_capacity(alloc, texts.len())?;
-    for text in texts {
-        copies.push(Text::copy_of(alloc, text.as_str())?)?;
-    }
-    Ok(copies)
-}
 
 // The text at a place, places counted from 1.
-pub fn text_at(texts: &[Text], place: usize) -> &str
+pub fn text_at(texts: &Texts, place: usize) -> &str
     requires first { 1 ≤ place }
     requires last { place ≤ length texts.now }
     ensures { result.now ≡ text_at texts.now place }
 {
-    texts[place - 1].as_str()
+    texts.text(place - 1)
 }
 
 // The code that the text at a place is.
-pub fn code_at(texts: &[Text], place: usize) -> Lei
+pub fn code_at(texts: &Texts, place: usize) -> Lei
     requires first { 1 ≤ place }
     requires last { place ≤ length texts.now }
     requires valid { IsValid (text_at texts.now place) }
@@ -44,7 +32,7 @@ pub fn code_at(texts: &[Text], place: usize) -> Lei
 }
 
 // The same where the text may be absent.
-pub fn present_code_at(texts: &[Text], place: usize) -> Option<Lei>
+pub fn present_code_at(texts: &Texts, place: usize) -> Option<Lei>
     requires first { 1 ≤ place }
     requires last { place ≤ length texts.now }
     requires valid { IfSome (present (text_at texts.now place)) IsValid }
@@ -58,7 +46,7 @@ pub fn present_code_at(texts: &[Text], place: usize) -> Option<Lei>
 
 // The moment that the text at a place reads as.
 #[tactic(auto, unfolding(crate::specs::Spelled::moment_in))]
-pub fn moment_at(texts: &[Text], place: usize) -> Moment
+pub fn moment_at(texts: &Texts, place: usize) -> Moment
     requires first { 1 ≤ place }
     requires last { place ≤ length texts.now }
     requires printed { IsPrinted (text_at texts.now place) }
@@ -71,7 +59,7 @@ pub fn moment_at(texts: &[Text], place: usize) -> Moment
 }
 
 // The same where the text may be absent.
-pub fn present_moment_at(texts: &[Text], place: usize) -> Option<Moment>
+pub fn present_moment_at(texts: &Texts, place: usize) -> Option<Moment>
     requires first { 1 ≤ place }
     requires last { place ≤ length texts.now }
     ensures { result ≡ option_and_then read_moment (present (text_at texts.now place)) }

@@ -112,17 +112,17 @@ fn accept<'a, V: View>(
     ensures writes { OnOk result (writes.new.items ≡ writes.old.items ++ (row_key item.now, written item.now) ∷ []) }
 {
     overlay.put(alloc, item)?;
-    writes.push((row_key(item), written(alloc, item)?))?;
+    writes.push((row_key(item), written(item)?))?;
     Ok(())
 }
 
-// What is held under the item's key then: a copy of it, or nothing where it is a withdrawal.
-fn written(alloc: Global, item: &Item) -> Result<Option<Item>, NoMemory>
-    ensures { IfOk result (λ copy. copy ≡ Taking.written item.now) }
+// What is held under the item's key then: the item, or nothing where it is a withdrawal.
+fn written(item: &Item) -> Result<Option<Item>, NoMemory>
+    ensures { IfOk result (λ held. held ≡ Taking.written item.now) }
 {
     match item {
         Item::Exception(exception) if exception.withdraws() => Ok(None),
-        item => Ok(Some(item.copy(alloc)?)),
+        item => Ok(Some(item.share()?)),
     }
 }
 

@@ -64,7 +64,7 @@ fn slot_of_record(alloc: Global, row: &Record) -> Result<Slot, NoMemory>
         ≡ (row_key (item.Item.Record row.now), Some (item.Item.Record row.now))) }
     ensures own { IfOk result IsSlot }
 {
-    let copy = row.copy(alloc)?;
+    let copy = row.share()?;
     Ok(Slot::Record(row.lei(), Some(copy)))
 }
 
@@ -74,7 +74,7 @@ fn slot_of_relation(alloc: Global, relation: &Relation) -> Result<Slot, NoMemory
     ensures own { IfOk result IsSlot }
 {
     let (start, kind, end) = (relation.start(), relation.kind(), relation.end());
-    let copy = relation.copy(alloc)?;
+    let copy = relation.share()?;
     Ok(Slot::Relation(start, kind, end, Some(copy)))
 }
 
@@ -85,7 +85,7 @@ fn slot_of_exception(alloc: Global, exception: &ExceptionItem) -> Result<Slot, N
     ensures own { IfOk result IsSlot }
 {
     let (lei, category) = (exception.lei(), exception.category());
-    let single = Single::some(alloc, exception.copy(alloc)?)?;
+    let single = Single::some(alloc, exception.share()?)?;
     Ok(Slot::Exception(lei, category, single))
 }
 

@@ -4,4 +4,4 @@ use Rattle.lei_records.proofs.readying.printed_texts.Given as goal
 
 -- the texts so far, and those of the rest, are the texts of the row
 abbrev pub invariant-loop-index : goal.invariant-loop-index
-invariant-loop-index l = l.row.items ++ printed_in (drop l.index l.table) (drop l.index l.texts) ≡ printed_in l.table l.texts
+invariant-loop-index l = l.row ++ printed_in (drop l.index l.table) (drop l.index l.texts) ≡ printed_in l.table l.texts
