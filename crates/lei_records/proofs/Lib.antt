@@ -5,3 +5,4 @@ pub mod NameLemmas
 pub mod PassLemmas
 pub mod OptionLemmas
 pub mod FindLemmas
+pub mod PairLemmas

@@ -1,5 +1,5 @@
 -- Names in a list of fields.
-use Rattle.std.specs.Prelude.{ℕ, List, [], ◌∷◌, map, if◌then◌else◌, Option, Some, None}
+use Rattle.std.specs.Prelude.{◌≡◌, ℕ, ◌+◌, List, [], ◌∷◌, length, map, if◌then◌else◌, Option, Some, None}
 use Rattle.std.specs.Ordering.{is_lt, nat_cmp}
 use Rattle.std.specs.Cmp.Lexicographic.{slice_cmp}
 use Rattle.std.specs.List.Sorted.{IsStrictlySortedBy}
@@ -22,3 +22,14 @@ lesser name (Some other) = if is_lt (slice_cmp nat_cmp other name) then other el
 abbrev pub least : List Text → Option Text
 least [] = None
 least (name ∷ names) = Some (lesser name (least names))
+
+-- Texts two by two: each a name with its text. One that is left over belongs to none.
+abbrev pub paired : List Text → List (Text × Text)
+paired [] = []
+paired (name ∷ []) = []
+paired (name ∷ text ∷ texts) = (name, text) ∷ paired texts
+
+-- The texts are names with their texts, and none is left over. The names rise.
+pub record ArePaired (texts : List Text) : Type 0 where
+  pub even : length (paired texts) + length (paired texts) ≡ length texts
+  pub rising : AreRising (paired texts)

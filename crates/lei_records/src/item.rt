@@ -2,75 +2,83 @@ use crate::check::Check;
 use crate::exception::ExceptionItem;
 use crate::record::Record;
 use crate::relation::Relation;
-use lei_outside::{List, Text};
+use lei_outside::{List, NoMemory, Texts};
+use std::alloc::Global;
 use std::marker::Model;
 
-/// The fields of an item as they were sent: pairs of a name and a text, both UTF-8, in byte order of the names,
-/// of which none stands twice. Names that no item knows and empty texts are kept: the checks of the item decide
-/// on them.
+/// The fields of an item as they were sent: names, each with its text, both UTF-8, in byte order of the names, of which
+/// none stands twice. Names that no item knows and empty texts are kept: the checks of the item decide on them. All lie
+/// in one piece of memory. Contracts see the list of pairs.
 #[derive(Debug, Drop)]
 pub struct Fields {
-    pairs: Vec<(Text, Text)>,
+    // A name, its text, the next name, and so on.
+    texts: Texts,
 }
 
 impl Model for Fields {
     ghost use Rattle.std.specs.Prelude.{List as Listed, ℕ};
-    ghost use Rattle.lei_records.specs.Names.{AreRising};
+    ghost use Rattle.lei_records.specs.Names.{ArePaired, paired};
 
     ghost Value = { Listed (Listed ℕ × Listed ℕ) };
 
-    ghost view = { λ fields. fields.pairs.items };
+    ghost view = { λ fields. paired fields.texts };
 
-    ghost invariant = { λ fields. AreRising fields.pairs.items };
+    ghost invariant = { λ fields. ArePaired fields.texts };
 }
 
 impl Fields {
-    ghost use Rattle.std.specs.Prelude.{◌≡◌};
+    ghost use Rattle.std.specs.Prelude.{◌≡◌, ◌<◌, ◌++◌, ◌∷◌, [], codes, length, slice_index_or, IfOk};
     ghost use Rattle.lei_records.specs.Names.{AreRising};
 
-    /// The fields with these pairs, which move. The condition is that their names rise in byte order.
-    pub fn of(pairs: Vec<(Text, Text)>) -> Self
-        requires { AreRising pairs.items }
-        ensures { result ≡ pairs.items }
+    /// No field, with room for so many names and texts of so many bytes together.
+    pub fn with_capacity(alloc: Global, fields: usize, bytes: usize) -> Result<Self, NoMemory>
+        ensures { IfOk result (λ made. made ≡ []) }
     {
-        Fields { pairs }
+        let texts = Texts::with_capacity(alloc, fields.saturating_mul(2), bytes)?;
+        Ok(Fields { texts })
     }
 
-    /// The pairs of a name and a text, in byte order of the names.
-    pub fn as_slice(&self) -> &[(Text, Text)]
-        ensures pairs { result.now ≡ self.now }
+    /// These fields and one more. The condition is that the names rise still.
+    pub fn with(self, name: &str, text: &str) -> Result<Self, NoMemory>
+        requires { AreRising (self ++ (name.now, text.now) ∷ []) }
+        ensures { IfOk result (λ made. made ≡ self ++ (name.now, text.now) ∷ []) }
+    {
+        let mut texts = self.texts;
+        texts.push(name)?;
+        texts.push(text)?;
+        Ok(Fields { texts })
+    }
+
+    /// How many they are.
+    pub fn len(&self) -> usize
+        ensures value { result ≡ length self.now }
         ensures rising { AreRising self.now }
     {
-        &self.pairs
+        self.texts.len() / 2
     }
-}
 
-impl PartialEq for Fields {
-    ghost use Rattle.std.specs.Prelude.{◌==◌};
-    ghost use Rattle.std.specs.Ordering.{eq_of_both, on};
-    ghost use Rattle.std.specs.Cmp.Lexicographic.{pointwise};
-    ghost use Rattle.std.specs.Cmp.Rules.{comparing};
-    ghost use Rattle.std.proofs.Common.{rules};
-
-    ghost eq = { pointwise (eq_of_both
-        (on (λ field. field.0) (pointwise ◌==◌)) (on (λ field. field.1) (pointwise ◌==◌))) };
-
-    ghost laws = { Prim.search (comparing, rules) };
-
-    fn eq(&self, other: &Self) -> bool {
-        self.pairs == other.pairs
+    /// The name of the field at this index.
+    pub fn name(&self, index: usize) -> &str
+        requires { index < length self.now }
+        ensures { result.now ≡ (slice_index_or self.now index (codes "", codes "")).0 }
+    {
+        // So many texts there are, and twice the index is one of them.
+        let _count = self.texts.len();
+        self.texts.text(2 * index)
     }
-}
 
-impl Eq for Fields {
-    ghost use Rattle.std.specs.Cmp.Rules.{comparing};
-    ghost use Rattle.std.proofs.Common.{rules};
-
-    ghost laws = { Prim.search (comparing, rules) };
+    /// The text of the field at this index.
+    pub fn text(&self, index: usize) -> &str
+        requires { index < length self.now }
+        ensures { result.now ≡ (slice_index_or self.now index (codes "", codes "")).1 }
+    {
+        let _count = self.texts.len();
+        self.texts.text(2 * index + 1)
+    }
 }
 
 /// An item as it was sent, before any check of its fields.
-#[derive(Debug, PartialEq, Eq, Drop)]
+#[derive(Debug, Drop)]
 pub enum RawItem {
     /// An entity's record: a member of the list `records`.
     Record(Fields),
@@ -82,7 +90,7 @@ pub enum RawItem {
 
 /// The items of a body, in the order in which they are judged: records, relationships, exceptions, and within each list
 /// in the order in which they were sent.
-#[derive(Debug, PartialEq, Eq, Drop)]
+#[derive(Debug, Drop)]
 pub struct Upload {
     pub items: List<RawItem>,
 }

@@ -7,7 +7,6 @@ ghost use Rattle.lei_records.specs.Checks.{IsNumber};
 ghost use Rattle.lei_records.specs.Fields.{field_count, read_field};
 ghost use Rattle.lei_records.specs.Items;
 ghost use Rattle.lei_records.specs.Items.{failed_check, failed_field, ready_as};
-ghost use Rattle.lei_records.specs.Names.{AreRising};
 ghost use Rattle.lei_records.specs.Sheets;
 ghost use Rattle.lei_records.specs.Sheets.{failed_at, field_fails, first_at, printed_at, read_texts, readied_by};
 ghost use Rattle.lei_records.specs.Spelled.{IsRowOf};
@@ -16,7 +15,7 @@ ghost use Rattle.lei_records.specs.declared.readying.FieldCheck.{FieldCheck};
 use crate::check::{Check, Detail};
 use crate::exception::ExceptionItem;
 use crate::fields::{Content, Facts, Field, Kind};
-use crate::item::{Item, RawItem, Readied};
+use crate::item::{Fields, Item, RawItem, Readied};
 use crate::numbers::{CHECK_DIGITS, FIELD_MISSING, FIELD_SHAPE, FIELD_UNKNOWN};
 use crate::places;
 use crate::record::Record;
@@ -33,19 +32,19 @@ pub fn ready(alloc: Global, raw: &RawItem) -> Result<Readied, NoMemory>
     ensures { IfOk result (λ item. item ≡ Items.ready raw.now) }
 {
     match raw {
-        RawItem::Record(fields) => by_names(alloc, Kind::Record, fields.as_slice()),
-        RawItem::Relation(fields) => by_names(alloc, Kind::Relation, fields.as_slice()),
-        RawItem::Exception(fields) => by_names(alloc, Kind::Exception, fields.as_slice()),
+        RawItem::Record(fields) => by_names(alloc, Kind::Record, fields),
+        RawItem::Relation(fields) => by_names(alloc, Kind::Relation, fields),
+        RawItem::Exception(fields) => by_names(alloc, Kind::Exception, fields),
     }
 }
 
 // C01, and then the checks after it.
 #[tactic(auto, unfolding(crate::specs::Items::failed_check))]
-fn by_names(alloc: Global, kind: Kind, pairs: &[(Text, Text)]) -> Result<Readied, NoMemory>
-    requires { AreRising pairs.now }
-    ensures { IfOk result (λ item. item ≡ ready_as kind pairs.now) }
+fn by_names(alloc: Global, kind: Kind, fields: &Fields) -> Result<Readied, NoMemory>
+    ensures { IfOk result (λ item. item ≡ ready_as kind fields.now) }
 {
-    let sheet = sheet_of(kind, pairs);
+    let _rising = fields.len();
+    let sheet = sheet_of(kind, fields);
     match sheet.unknown {
         Some(name) => bad(alloc, FIELD_UNKNOWN, name),
         None => by_presence(alloc, kind, &sheet.texts[..kind.field_count()]),

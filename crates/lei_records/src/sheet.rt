@@ -6,8 +6,8 @@ ghost use Rattle.lei_records.specs.Places.{record_places};
 ghost use Rattle.lei_records.specs.Sheets.{first_unknown, read_texts, texts_of};
 
 use crate::fields::Kind;
+use crate::item::Fields;
 use crate::places::RECORD_PLACES;
-use lei_outside::Text;
 
 // What an item has under the names of fields, and the name that it should not have.
 #[derive(Drop)]
@@ -18,18 +18,18 @@ pub struct Sheet<'a> {
     pub unknown: Option<&'a str>,
 }
 
-// Puts each text at the place of its name. From the last pair to the first, so that the first stands.
-pub fn sheet_of(kind: Kind, pairs: &[(Text, Text)]) -> Sheet<'_>
-    ensures texts { take (field_count kind) (read_texts result.texts) ≡ texts_of kind pairs.now }
-    ensures unknown { option_copied result.unknown ≡ first_unknown kind pairs.now }
+// Puts each text at the place of its name. From the last field to the first, so that the first stands.
+pub fn sheet_of(kind: Kind, fields: &Fields) -> Sheet<'_>
+    ensures texts { take (field_count kind) (read_texts result.texts) ≡ texts_of kind fields.now }
+    ensures unknown { option_copied result.unknown ≡ first_unknown kind fields.now }
 {
     let mut texts = [""; RECORD_PLACES];
     let mut unknown = None;
-    for index in (0..pairs.len()).rev() {
-        let pair = &pairs[index];
-        let name = pair.0.as_str();
+    for index in (0..fields.len()).rev() {
+        let name = fields.name(index);
+        let text = fields.text(index);
         match index_of(kind, name) {
-            Some(at) => texts[at] = pair.1.as_str(),
+            Some(at) => texts[at] = text,
             None => unknown = Some(name),
         }
     }

@@ -1,5 +1,6 @@
 -- Loops that turn a list into another, item by item: what was found so far, and what the rest gives.
-use Rattle.std.proofs.Common.{◌≡◌, ℕ, List, [], ◌∷◌, ◌++◌, map, Option, Some, None, option_map, option_and_then, unwrap_or, Ok, String, Global, Less, Bool, ◌&&◌, refl, sym, ap, ◌∙◌, rules, append_assoc}
+use Rattle.std.proofs.Common.{◌≡◌, ℕ, List, [], ◌∷◌, ◌++◌, map, Option, Some, None, option_map, option_and_then, unwrap_or, Ok, String, Global, Less, Bool, ◌&&◌, refl, sym, subst, ap, ◌∙◌, rules, append_assoc}
+use Rattle.std.proofs.lemmas.List.{map-append}
 use Rattle.std.proofs.lemmas.Grind.{common_steps}
 use Rattle.std.specs.Prelude.{string_bytes}
 use Rattle.std.specs.String.{string_cmp}
@@ -48,21 +49,36 @@ unfolding IsStrictlySortedBy
 sorted [] h = tt
 sorted (e ∷ es) h = (below e es h.0, sorted es h.1)
 
-first_pair : (name text : List ℕ) (more : Option (List (List ℕ × List ℕ))) (keys : List (List ℕ)) (fields : List (List ℕ × List ℕ)) → option_map (λ others. (name, text) ∷ others) more ≡ Some fields
-    → ((others : List (List ℕ × List ℕ)) → more ≡ Some others → names others ≡ keys) → names fields ≡ name ∷ keys
-first_pair name text None keys fields is rest = cc
-first_pair name text (Some others) keys fields is rest = ap (λ o. names (unwrap_or o [])) (sym is) ∙ ap (λ ns. name ∷ ns) (rest others refl)
+below_front : (own : List ℕ) (xs ys : List (List ℕ)) → AllByRecursion (λ k. slice_cmp nat_cmp own k ≡ Less) (xs ++ ys)
+    → AllByRecursion (λ k. slice_cmp nat_cmp own k ≡ Less) xs
+below_front own [] ys all = tt
+below_front own (x ∷ xs) ys all = (all.0, below_front own xs ys all.1)
 
-some_pairs : (es : List (String Global × Value)) (fields : List (List ℕ × List ℕ)) → fields_of (members_view es) ≡ Some fields → names fields ≡ map string_bytes (keys_of es)
-some_pairs [] fields is = ap (λ o. names (unwrap_or o [])) (sym is)
-some_pairs (e ∷ es) fields is =
-    elim (as_str (view e.1)) as (λ text. option_and_then (λ t. option_map (λ more. (string_bytes e.0, t) ∷ more) (fields_of (members_view es))) text ≡ Some fields → names fields ≡ string_bytes e.0 ∷ map string_bytes (keys_of es)) [
-      | None ↦ λ bad. cc
-      | Some t ↦ λ good. first_pair (string_bytes e.0) t (fields_of (members_view es)) (map string_bytes (keys_of es)) fields good (some_pairs es)
-    ] is
+sorted_front : (xs ys : List (List ℕ)) → IsStrictlySortedBy (slice_cmp nat_cmp) (xs ++ ys) → IsStrictlySortedBy (slice_cmp nat_cmp) xs
+unfolding IsStrictlySortedBy
+sorted_front [] ys all = tt
+sorted_front (x ∷ xs) ys all = (below_front x xs ys all.0, sorted_front xs ys all.1)
 
-pub rising_fields : (es : List (String Global × Value)) (fields : List (List ℕ × List ℕ)) → IsStrictlySortedBy string_cmp (keys_of es) → fields_of (members_view es) ≡ Some fields → AreRising fields
-rising_fields es fields rising is = let P : List (List ℕ) → Type 0 = λ ns. IsStrictlySortedBy (slice_cmp nat_cmp) ns in rw (some_pairs es fields is) (sorted (keys_of es) rising)
+-- the names of the pairs so far, and those that are left
+abbrev pub names_with : List (List ℕ × List ℕ) → List (String Global × Value) → List (List ℕ)
+names_with front rest = names front ++ map string_bytes (keys_of rest)
+
+-- the next name is one of the front's
+pub names_step : (front : List (List ℕ × List ℕ)) (name : String Global) (value : Value) (text : List ℕ) (rest : List (String Global × Value))
+    → names_with (front ++ (string_bytes name, text) ∷ []) rest ≡ names_with front ((name, value) ∷ rest)
+names_step front name value text rest =
+    ap (λ ns. ns ++ map string_bytes (keys_of rest)) (map-append (λ field. field.0) front ((string_bytes name, text) ∷ []))
+    ∙ append_assoc (names front) (string_bytes name ∷ []) (map string_bytes (keys_of rest))
+
+-- so the pairs with the next one rise, where the keys do
+pub rising_step : (es : List (String Global × Value)) (front : List (List ℕ × List ℕ)) (name : String Global) (value : Value) (text : List ℕ) (rest : List (String Global × Value))
+    → IsStrictlySortedBy string_cmp (keys_of es) → names_with front ((name, value) ∷ rest) ≡ map string_bytes (keys_of es)
+    → AreRising (front ++ (string_bytes name, text) ∷ [])
+rising_step es front name value text rest ordered is =
+    let P : List (List ℕ) → Type 0 = λ ns. IsStrictlySortedBy (slice_cmp nat_cmp) ns in
+    let all : P (names_with (front ++ (string_bytes name, text) ∷ []) rest) =
+        subst P (sym (names_step front name value text rest ∙ is)) (sorted (keys_of es) ordered) in
+    sorted_front (names (front ++ (string_bytes name, text) ∷ [])) (map string_bytes (keys_of rest)) all
 
 pub list_all-member_names : (test : List ℕ → Bool) (es : List (String Global × Value)) → list_all (λ k. test (string_bytes k)) (keys_of es) ≡ list_all test (member_names (members_view es))
 list_all-member_names test [] = refl

@@ -176,11 +176,12 @@ fn sent(kind: Kind, fields: Fields) -> RawItem
 fn read_fields(alloc: Global, members: Map<String, Value>) -> Result<Fields, UploadFault>
     ensures { Gives (λ fields. fields) result (found (fields_of (members_view members.entries))) }
 {
-    let mut pairs = Vec::with_capacity(alloc, members.len())?;
+    let mut fields = Fields::with_capacity(alloc, members.len(), 0)?;
     for (name, value) in members {
-        pairs.push((Text::from(name), read_text(value)?))?;
+        let text = read_text(value)?;
+        fields = fields.with(name.as_str(), text.as_str())?;
     }
-    Ok(Fields::of(pairs))
+    Ok(fields)
 }
 
 fn read_text(value: Value) -> Result<Text, UploadFault>

@@ -4,9 +4,9 @@ use Rattle.lei_records.specs.Fields.{field_count}
 use Rattle.lei_records.specs.Sheets.{first_unknown, read_texts, texts_of}
 use Rattle.lei_records.proofs.sheet.sheet_of.Given as goal
 
--- the pairs from the index on are placed
+-- the fields from the index on are placed
 abbrev pub invariant-loop-index : goal.invariant-loop-index
 invariant-loop-index l = record {
-  texts : take (field_count l.kind) (read_texts l.texts) ≡ texts_of l.kind (drop l.index l.pairs);
-  unknown : option_copied l.unknown ≡ first_unknown l.kind (drop l.index l.pairs);
+  texts : take (field_count l.kind) (read_texts l.texts) ≡ texts_of l.kind (drop l.index l.fields);
+  unknown : option_copied l.unknown ≡ first_unknown l.kind (drop l.index l.fields);
 }
