@@ -46,10 +46,10 @@ AreEnds-start start (end ∷ ends) bytes (suc index) first are within =
 
 boundary_of_front : (bytes text : List ℕ) (i : ℕ) → IsUtf8 text → IsCharBoundary bytes i → IsCharBoundary (bytes ++ text) i
 boundary_of_front bytes text i utf8 is = elim (leb_tells (length bytes) i) [
-      inl past ↦ (let same : i ≡ length bytes = omega (arith, past.1, is.0) in rw same (IsCharBoundary-at_seam (bytes ++ text) bytes text refl utf8))
-    | inr within ↦ (let before : i < length bytes = omega (arith, within.1) in
-        (rw (length-append bytes text) (omega (arith, is.0)), λ _. rw (get_or_append_left bytes text 0 i before) (is.1 before)))
-    ]
+  | inl past ↦ (let same : i ≡ length bytes = omega (arith, past.1, is.0) in rw same (IsCharBoundary-at_seam (bytes ++ text) bytes text refl utf8))
+  | inr within ↦ (let before : i < length bytes = omega (arith, within.1) in
+      (rw (length-append bytes text) (omega (arith, is.0)), λ _. rw (get_or_append_left bytes text 0 i before) (is.1 before)))
+]
 
 piece_of_front : (bytes text : List ℕ) (start end : ℕ) → start ≤ end → end ≤ length bytes
     → piece start end (bytes ++ text) ≡ piece start end bytes
@@ -108,7 +108,7 @@ compared_at : (start end : ℕ) (bytes bytes' : List ℕ) (q r : Bool) → start
 compared_at start end bytes bytes' q r rise within within' rest =
     let at : start + (end - start) ≡ end = omega (arith, rise) in
     let parts = compared_by_parts (end - start) (drop start bytes) (drop start bytes')
-        (rw (length-drop start bytes) (omega (arith, rise, within))) (rw (length-drop start bytes') (omega (arith, rise, within'))) in
+    (rw (length-drop start bytes) (omega (arith, rise, within))) (rw (length-drop start bytes') (omega (arith, rise, within'))) in
     let first : drop (end - start) (drop start bytes) ≡ drop end bytes = drop-drop (end - start) start bytes ∙ ap (λ n. drop n bytes) at in
     let second : drop (end - start) (drop start bytes') ≡ drop end bytes' = drop-drop (end - start) start bytes' ∙ ap (λ n. drop n bytes') at in
     rw (rest, parts, first, second)
@@ -121,7 +121,7 @@ length-piece start end bytes within =
 compared_same : (start end end' : ℕ) (ends ends' bytes bytes' : List ℕ) → end ≡ end'
     → AreEnds start (end ∷ ends) bytes → AreEnds start (end' ∷ ends') bytes'
     → (AreEnds end ends' bytes' → pointwise (pointwise ◌==◌) (pieces end ends bytes) (pieces end ends' bytes')
-        ≡ (pointwise ◌==◌ ends ends' && pointwise ◌==◌ (drop end bytes) (drop end bytes')))
+    ≡ (pointwise ◌==◌ ends ends' && pointwise ◌==◌ (drop end bytes) (drop end bytes')))
     → pointwise (pointwise ◌==◌) (pieces start (end ∷ ends) bytes) (pieces start (end' ∷ ends') bytes')
     ≡ (pointwise ◌==◌ (end ∷ ends) (end' ∷ ends') && pointwise ◌==◌ (drop start bytes) (drop start bytes'))
 compared_same start end end' ends ends' bytes bytes' same are are' rest =
@@ -129,7 +129,7 @@ compared_same start end end' ends ends' bytes bytes' same are are' rest =
     let from : AreEnds end ends' bytes' = rw same are'.2 in
     rw (sym same, eq-eqb end end refl)
     (compared_at start end bytes bytes' (pointwise ◌==◌ ends ends')
-        (pointwise (pointwise ◌==◌) (pieces end ends bytes) (pieces end ends' bytes')) are.0 (are.1).0 within' (rest from))
+    (pointwise (pointwise ◌==◌) (pieces end ends bytes) (pieces end ends' bytes')) are.0 (are.1).0 within' (rest from))
 
 -- texts are the same where their ends are and the piece of memory is
 pub pieces_compare : (start : ℕ) (ends ends' bytes bytes' : List ℕ) → AreEnds start ends bytes → AreEnds start ends' bytes'
@@ -142,14 +142,14 @@ pieces_compare start [] [] bytes bytes' are are' =
 pieces_compare start [] (end' ∷ ends') bytes bytes' are are' = refl
 pieces_compare start (end ∷ ends) [] bytes bytes' are are' = refl
 pieces_compare start (end ∷ ends) (end' ∷ ends') bytes bytes' are are' = elim (eqb_tells end end') [
-      inl is ↦ compared_same start end end' ends ends' bytes bytes' is.1 are are'
-        (λ same. pieces_compare end ends ends' bytes bytes' are.2 same)
-    | inr not ↦
-        (let rise : start ≤ end = are.0 in let rise' : start ≤ end' = are'.0 in
-        let other : length (piece start end bytes) ≢ length (piece start end' bytes') =
-            (λ same. not.1 (omega (arith, rise, rise', sym (length-piece start end bytes (are.1).0) ∙ same ∙ length-piece start end' bytes' (are'.1).0))) in
-        rw (unequal ◌==◌ (piece start end bytes) (piece start end' bytes') other, not.0) refl)
-    ]
+  | inl is ↦ compared_same start end end' ends ends' bytes bytes' is.1 are are'
+      (λ same. pieces_compare end ends ends' bytes bytes' are.2 same)
+  | inr not ↦
+      (let rise : start ≤ end = are.0 in let rise' : start ≤ end' = are'.0 in
+      let other : length (piece start end bytes) ≢ length (piece start end' bytes') =
+      (λ same. not.1 (omega (arith, rise, rise', sym (length-piece start end bytes (are.1).0) ∙ same ∙ length-piece start end' bytes' (are'.1).0))) in
+      rw (unequal ◌==◌ (piece start end bytes) (piece start end' bytes') other, not.0) refl)
+]
 
 -- the same of what the texts are seen as
 pub texts_compare : (ends ends' bytes bytes' : List ℕ) (xs ys : List (List ℕ)) → AreEnds 0 ends bytes → AreEnds 0 ends' bytes'

@@ -102,7 +102,9 @@ impl Eq for Texts {
 
 impl fmt::Debug for Texts {
     fn fmt<W: fmt::Write>(&self, f: &mut fmt::Formatter<W>) -> fmt::Result {
-        f.debug_list().entries((0..self.len()).map(|index| self.text(index))).finish()
+        f.debug_list()
+            .entries((0..self.len()).map(|index| self.text(index)))
+            .finish()
     }
 }
 

@@ -209,7 +209,9 @@ fn printed_texts(alloc: Global, kind: Kind, texts: &[&str]) -> Result<Texts, NoM
 
 // How many bytes the texts have, which are about those of their row.
 fn size_of(texts: &[&str]) -> usize {
-    texts.iter().fold(0usize, |size, text| size.saturating_add(text.len()))
+    texts
+        .iter()
+        .fold(0usize, |size, text| size.saturating_add(text.len()))
 }
 
 // Puts the text of a field, as a row has it, behind the others.

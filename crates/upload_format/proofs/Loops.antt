@@ -77,7 +77,7 @@ pub rising_step : (es : List (String Global × Value)) (front : List (List ℕ �
 rising_step es front name value text rest ordered is =
     let P : List (List ℕ) → Type 0 = λ ns. IsStrictlySortedBy (slice_cmp nat_cmp) ns in
     let all : P (names_with (front ++ (string_bytes name, text) ∷ []) rest) =
-        subst P (sym (names_step front name value text rest ∙ is)) (sorted (keys_of es) ordered) in
+    subst P (sym (names_step front name value text rest ∙ is)) (sorted (keys_of es) ordered) in
     sorted_front (names (front ++ (string_bytes name, text) ∷ [])) (map string_bytes (keys_of rest)) all
 
 pub list_all-member_names : (test : List ℕ → Bool) (es : List (String Global × Value)) → list_all (λ k. test (string_bytes k)) (keys_of es) ≡ list_all test (member_names (members_view es))

@@ -1,6 +1,7 @@
 ghost use Rattle.std.specs.Prelude.{◌≡◌, Some};
 ghost use Rattle.upload_format.specs.declared.fault.UploadFault.TheVariants as faults;
 
+use lei_outside::NoMemory;
 use std::alloc::{AllocError, AllocFailed};
 use std::error::Error;
 use std::fmt;
@@ -75,6 +76,14 @@ impl<T: Drop> From<AllocFailed<T>> for UploadFault {
     ghost from_gives = { λ _ fault. fault ≡ faults.NoMemory };
 
     fn from(_refused: AllocFailed<T>) -> Self {
+        UploadFault::NoMemory
+    }
+}
+
+impl From<NoMemory> for UploadFault {
+    ghost from_gives = { λ _ fault. fault ≡ faults.NoMemory };
+
+    fn from(_refused: NoMemory) -> Self {
         UploadFault::NoMemory
     }
 }
