@@ -1,3 +1,4 @@
 pub mod Loops
 pub mod Members
 pub mod Values
+pub mod OrderedLemmas

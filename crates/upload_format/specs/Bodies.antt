@@ -129,3 +129,8 @@ parsed (Some y) = Ok y
 abbrev pub found : {Y : Type 0} → Option Y → Result Y Malformed
 found None = Err NotAnUpload
 found (Some y) = Ok y
+
+-- the items of a value before they are counted; where there is no value, the body is no JSON
+abbrev pub uncounted : Option Data → Result (List RawItem) Malformed
+uncounted None = Err NotJson
+uncounted (Some value) = found (items_of value)

@@ -3,6 +3,7 @@
 #![tactic(auto)]
 
 mod fault;
+mod ordered;
 mod reading;
 
 pub use fault::{Malformed, UploadFault};

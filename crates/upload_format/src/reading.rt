@@ -5,9 +5,10 @@ ghost use Rattle.serde_json.specs.Find.{as_str, get_member};
 ghost use Rattle.serde_json.specs.View.{view, members_view, items_view};
 ghost use Rattle.lei_records.specs.declared.fields.Kind.{Kind};
 ghost use Rattle.upload_format.specs.Bodies;
-ghost use Rattle.upload_format.specs.Bodies.{Gives, behind, fields_of, found, in_order, item_of, items_of, list_name, list_of, listed, member_names, parsed, upload, value_of};
+ghost use Rattle.upload_format.specs.Bodies.{Gives, behind, fields_of, found, in_order, item_of, items_of, list_name, list_of, listed, member_names, parsed, uncounted, upload, value_of};
 
 use crate::fault::{Malformed, UploadFault};
+use crate::ordered::read_ordered;
 use lei_outside::{List, Text};
 use lei_records::{Fields, Kind, RawItem, Upload};
 use serde_json::{Map, Value};
@@ -24,8 +25,7 @@ pub const MAX_ITEMS: usize = 5000;
 pub fn read_upload(alloc: Global, body: &[u8]) -> Result<Upload, UploadFault>
     ensures { Gives (λ read. read.items) result (upload body.now) }
 {
-    let value = read_value(alloc, body)?;
-    let items = read_items(alloc, value)?;
+    let items = read_body(alloc, body)?;
     if items.is_empty() {
         return Err(UploadFault::Malformed(Malformed::NoItems));
     }
@@ -35,6 +35,23 @@ pub fn read_upload(alloc: Global, body: &[u8]) -> Result<Upload, UploadFault>
     Ok(Upload {
         items: List::from(items),
     })
+}
+
+// The items of a body before they are counted. Where they have their names in byte order, no value becomes a tree.
+fn read_body(alloc: Global, body: &[u8]) -> Result<Vec<RawItem>, UploadFault>
+    ensures { Gives (λ items. items.items) result (uncounted (value_of body.now)) }
+{
+    match read_ordered(alloc, body)? {
+        Some(items) => Ok(items),
+        None => read_tree(alloc, body),
+    }
+}
+
+fn read_tree(alloc: Global, body: &[u8]) -> Result<Vec<RawItem>, UploadFault>
+    ensures { Gives (λ items. items.items) result (uncounted (value_of body.now)) }
+{
+    let value = read_value(alloc, body)?;
+    read_items(alloc, value)
 }
 
 fn read_value(alloc: Global, body: &[u8]) -> Result<Value, UploadFault>
@@ -163,7 +180,7 @@ fn read_item(alloc: Global, kind: Kind, value: Value) -> Result<RawItem, UploadF
     Ok(sent(kind, read_fields(alloc, members)?))
 }
 
-fn sent(kind: Kind, fields: Fields) -> RawItem
+pub(crate) fn sent(kind: Kind, fields: Fields) -> RawItem
     ensures { result ≡ Bodies.sent kind fields }
 {
     match kind {
