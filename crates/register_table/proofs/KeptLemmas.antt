@@ -1,14 +1,20 @@
--- Tables that stay kept.
-use Rattle.std.specs.Prelude.{◌≡◌, ◌+◌, ◌<◌, ◌≤◌, [], ◌∷◌, ◌++◌, length, Some, Result, Ok, Err, OnOk, OnErr, IfOk}
-use Rattle.std.specs.FinMap.{empty, get, get-empty, len-empty}
-use Rattle.std.proofs.Common.{refl, sym, ap, subst, rules, ◌∙◌}
+-- The table without cells.
+use Rattle.std.specs.Prelude.{◌≡◌, ℕ, ◌<◌, ◌≤◌, Bool, true, false, cond, List, [], ◌∷◌, Option, Some}
+use Rattle.std.specs.FinMap.{empty, get, get-empty, get-insert, len-empty}
+use Rattle.std.specs.Ordering.{eq_by_cmp}
+use Rattle.std.proofs.Common.{sym, ap, subst, arith, rules, ◌∙◌}
+use Rattle.lei_shapes.specs.declared.lists.RelationType.{RelationType}
+use Rattle.lei_records.specs.declared.item.Item.{Item}
+use Rattle.lei_records.specs.declared.view.RowKey.{RowKey}
 use Rattle.lei_records.specs.Rows.{Row}
-use Rattle.lei_records.specs.Tables.{KeyTexts, Table, key_cmp, put_write, put_all, record_key, record_count, IsSound}
-use Rattle.authority_rules.proofs.HolderLemmas.{some_apart}
-use Rattle.register_table.specs.Lists.{AreKept, AreListed, Listed, exception_count, IsKept, no_rows, rows_under, table_of}
-use Rattle.register_table.specs.Undos.{WriteList, Notes, AreOwn, StaysKept, notes_of, IsOfLast}
-
--- ---- the table without rows
+use Rattle.lei_records.specs.Tables.{KeyTexts, key_cmp, record_key, record_count, IsSound}
+use Rattle.authority_rules.proofs.HolderLemmas.{keys_total, some_apart}
+use Rattle.register_table.specs.declared.parts.Parts.{Parts}
+use Rattle.register_table.specs.Held.{Cell, Held, IsKept, cell_key, no_rows, rows}
+use Rattle.register_table.specs.Indexes.{end_in_index, holder_in}
+use Rattle.register_table.specs.Parts.{AreIndexes, AreParts}
+use Rattle.register_table.specs.Undos.{IsLater, WriteList, cell_of, touch, touch_all}
+use Rattle.register_table.proofs.RowsLemmas.{rows-empty}
 
 nothing : {P : Type 0} (key : KeyTexts) (row : Row) → get (empty {R = key_cmp}) key ≡ Some row → P
 nothing key row at = absurd (some_apart row (sym at ∙ get-empty key_cmp key))
@@ -28,58 +34,41 @@ none_sound = record {
 none_counted : record_count no_rows ≤ 4294967295
 none_counted = subst (λ n. n ≤ 4294967295) (sym (len-empty key_cmp Row)) (search rules)
 
-no_list : Listed
-no_list = record { records = []; relations = []; exceptions = [] }
+none_kept : IsKept no_rows
+none_kept = record { sound = none_sound; count = none_counted }
 
-table_of-no_list : table_of no_list ≡ no_rows
-unfolding rows_under no_list
-table_of-no_list = refl
-
-no_list_kept : AreKept no_list
-unfolding rows_under no_list
-no_list_kept = record {
-  listed = record {
-    once = record { records = len-empty key_cmp Row; relations = len-empty key_cmp Row; exceptions = len-empty key_cmp Row };
-    held = tt;
-  };
-  kept = record { sound = none_sound; count = none_counted };
+none_indexed : (holders : List ℕ → List ℕ → Option (List ℕ)) (ends : List ℕ → RelationType → Option (List ℕ)) → AreIndexes no_rows holders ends
+none_indexed holders ends = record {
+  by_key = λ a i key row at holds. nothing key row at;
+  by_start = λ s kind key row at active. nothing key row at;
 }
 
-module _ (lists : Listed) (no_records : lists.records ≡ []) (no_relations : lists.relations ≡ []) (no_exceptions : lists.exceptions ≡ []) where
-  are_none : no_list ≡ lists
-  unfolding no_list
-  are_none = λ i. record { records = sym no_records i; relations = sym no_relations i; exceptions = sym no_exceptions i }
+pub no_parts : (parts : Parts) → parts.cells ≡ empty → AreParts parts
+no_parts parts none =
+    let is : rows parts.cells ≡ no_rows = ap rows none ∙ rows-empty in
+    record { kept = subst IsKept (sym is) none_kept; indexes = subst (λ t. AreIndexes t (holder_in parts.holders) (end_in_index parts.ends)) (sym is) (none_indexed (holder_in parts.holders) (end_in_index parts.ends)) }
 
-  pub none_kept : AreKept lists
-  none_kept = subst AreKept are_none no_list_kept
+pub no_rows_of : (parts : Parts) → parts.cells ≡ empty → rows parts.cells ≡ no_rows
+no_rows_of parts none = ap rows none ∙ rows-empty
 
-  pub table_of-none : table_of lists ≡ no_rows
-  table_of-none = ap table_of (sym are_none) ∙ table_of-no_list
+-- ---- numbers of cells
 
--- ---- writes
+pub later_none : (held : Held) (n : ℕ) → held ≡ empty → IsLater n held
+later_none held n none key cell at = absurd (some_apart cell (sym at ∙ (ap (λ h. get h key) none ∙ get-empty key_cmp key)))
 
-pub kept_behind : (writes : WriteList) (table : Table) → IsKept table → StaysKept writes table → IsKept (put_all writes table)
-kept_behind [] table kept stays = kept
-kept_behind (write ∷ writes) table kept stays = kept_behind writes (put_write table write) stays.0 stays.1
+at_put : (b : Bool) (new : Cell) (old : Option Cell) (cell : Cell) (P : Type 0) → cond b (Some new) old ≡ Some cell → (new ≡ cell → P) → (old ≡ Some cell → P) → P
+at_put true new old cell P at here there = here (cc)
+at_put false new old cell P at here there = there at
 
-pub own-append : (first second : WriteList) → AreOwn first → AreOwn second → AreOwn (first ++ second)
-own-append [] second own others = others
-own-append (write ∷ writes) second own others = (own.0, own-append writes second own.1 others)
+later_touch : (entry n : ℕ) (held : Held) (write : RowKey × Option Item) → IsLater n held → entry < n → IsLater n (touch entry held write)
+later_touch entry n held write later less key cell at =
+    at_put (eq_by_cmp key_cmp key (cell_key write.0)) (cell_of entry write.1) (get held key) cell (cell.entry < n)
+    (sym (get-insert keys_total held (cell_key write.0) (cell_of entry write.1) key) ∙ at)
+    (λ same. subst (λ c. c.entry < n) same less) (λ there. later key cell there)
 
-pub stays-append : (first second : WriteList) (table : Table) → StaysKept first table → StaysKept second (put_all first table) → StaysKept (first ++ second) table
-stays-append [] second table stays others = others
-stays-append (write ∷ writes) second table stays others = (stays.0, stays-append writes second (put_write table write) stays.1 others)
+pub later_all : (entry n : ℕ) (writes : WriteList) (held : Held) → IsLater n held → entry < n → IsLater n (touch_all entry writes held)
+later_all entry n [] held later less = later
+later_all entry n (write ∷ writes) held later less = later_all entry n writes (touch entry held write) (later_touch entry n held write later less) less
 
--- writes that were put, or not
-pub kept_after : {X E : Type 0} (result : Result X E) (old new : Listed) (writes : WriteList) → OnOk result (table_of new ≡ put_all writes (table_of old)) → OnErr result (new ≡ old)
-    → AreListed new → AreKept old → StaysKept writes (table_of old) → AreKept new
-kept_after (Ok undo) old new writes put same listed kept stays =
-    record { listed = listed; kept = subst IsKept (sym put) (kept_behind writes (table_of old) kept.kept stays) }
-kept_after (Err fault) old new writes put same listed kept stays = subst AreKept (sym same) kept
-
-pub last_after : {E : Type 0} (result : Result Notes E) (old new : Listed) (writes : WriteList) → OnOk result (table_of new ≡ put_all writes (table_of old))
-    → IfOk result (λ undo. undo ≡ notes_of writes (table_of old)) → IfOk result (λ undo. exception_count (table_of new) + length undo < 9223372036854775808)
-    → AreKept old → AreOwn writes → IfOk result (λ undo. IsOfLast undo (table_of new))
-last_after (Ok undo) old new writes put noted few kept own =
-    record { before = table_of old; kept = kept.kept; writes = writes; own = own; noted = noted; made = put; few = few }
-last_after (Err fault) old new writes put noted few kept own = tt
+pub later_more : (n m : ℕ) (held : Held) → n ≤ m → IsLater n held → IsLater m held
+later_more n m held less later key cell at = let own = later key cell at in omega (arith, less, own)

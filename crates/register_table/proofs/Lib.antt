@@ -1,11 +1,7 @@
-mod KeyLemmas
-mod MapLemmas
-mod ListLemmas
-mod ExchangeLemmas
-mod HeldLemmas
-mod ValueLemmas
-mod PartLemmas
-mod TableLemmas
-pub mod UndoLemmas
-mod WriteLemmas
+pub mod CellLemmas
+pub mod IndexLemmas
+pub mod RowsLemmas
+pub mod PartLemmas
+pub mod NoteLemmas
+pub mod ReadLemmas
 pub mod KeptLemmas

@@ -1,3 +1,7 @@
-pub mod Lists
+pub mod Held
 pub mod Undos
-pub mod Slots
+pub mod Cells
+pub mod Counts
+pub mod Indexes
+pub mod Parts
+pub mod Reading

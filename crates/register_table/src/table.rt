@@ -1,44 +1,52 @@
-ghost use Rattle.std.specs.Prelude.{◌≡◌, IfOk, OnOk, OnErr, option_map};
-ghost use Rattle.lei_records.specs.Tables;
+ghost use Rattle.std.specs.Prelude.{◌≡◌, ℕ, ◌+◌, Some, None, IfOk, OnOk, OnErr, IsSome, option_map};
+ghost use Rattle.std.specs.FinMap.{empty, len};
 ghost use Rattle.lei_records.specs.Tables.{cells_of, put_all, record_count, row_at};
-ghost use Rattle.register_table.specs.Lists.{IsKept, no_rows};
-ghost use Rattle.register_table.specs.Undos.{AreOwn, IsOfLast, MayApply, WriteList, notes_of, undone};
+ghost use Rattle.register_table.specs.Held.{IsKept, no_rows, rows};
+ghost use Rattle.register_table.specs.Undos.{IsLater, MayApply, touch_all};
 
-use crate::lists::Lists;
-use crate::searches::{find_active, find_holder, find_record, find_relation, has_exception};
-use crate::undo::Undo;
+use crate::cells::CellMap;
+use crate::ends::Ends;
+use crate::holders::Holders;
+use crate::parts::{Note, Parts};
 use crate::writes::{put_writes, undo_notes};
 use lei_code::Lei;
 use lei_outside::NoMemory;
 use lei_records::{RecCell, Record, RelCell, Seen, View, Writes};
 use lei_shapes::{ExceptionCategory, RelationType};
 use std::alloc::Global;
-use std::collections::LinkedList;
 use std::marker::Model;
 
-/// The records, the relationships and the exceptions that are held, as plain lists: each call looks through one of
-/// them. Contracts see the table of their rows.
+/// The records, the relationships and the exceptions that are held, in ordered maps. Contracts see the cells that are
+/// held, and those before the last writes, where these can be taken back.
 #[derive(Drop)]
 pub struct Table {
-    lists: Lists,
+    alloc: Global,
+    parts: Parts,
+    // What the last writes replaced, unless they were taken back.
+    last: Option<Vec<Note>>,
 }
 
 impl Model for Table {
-    ghost use Rattle.lei_records.specs.Tables as tables;
-    ghost use Rattle.register_table.specs.Lists.{table_code, table_of, AreKept};
-    ghost use Rattle.register_table.specs.Slots.{listed};
+    ghost use Rattle.std.specs.Prelude.{IfSome, map, option_map};
+    ghost use Rattle.register_table.specs.Held.{TableState, state_code};
+    ghost use Rattle.register_table.specs.Parts.{AreParts, CanBeUndone, note_of};
+    ghost use Rattle.register_table.specs.Undos.{undone};
 
-    ghost Value = { tables.Table };
+    ghost Value = { TableState };
 
-    ghost coded = { table_code };
+    ghost coded = { state_code };
 
-    ghost view = { λ table. table_of (listed table.lists) };
+    ghost view = { λ table. record {
+      held = table.parts.cells;
+      before = option_map (λ notes. undone (map note_of notes.items) table.parts.cells) table.last;
+    } };
 
-    ghost invariant = { λ table. AreKept (listed table.lists) };
+    ghost invariant = { λ table. AreParts table.parts
+        × IfSome table.last (λ notes. CanBeUndone notes.items table.parts) };
 }
 
 impl View for Table {
-    ghost cells = { cells_of };
+    ghost cells = { λ table. cells_of (rows table.held) };
 
     fn record_cell(&self, lei: &Lei) -> Seen<RecCell> {
         match self.show(lei) {
@@ -48,28 +56,28 @@ impl View for Table {
     }
 
     fn holder(&self, authority: &str, id: &str) -> Seen<Lei> {
-        match find_holder(&self.lists.records, authority, id) {
-            Some(record) => Seen::Held(record.lei()),
+        match self.parts.holder(authority, id) {
+            Some(lei) => Seen::Held(lei),
             None => Seen::Empty,
         }
     }
 
     fn relation(&self, start: &Lei, kind: RelationType, end: &Lei) -> Seen<RelCell> {
-        match find_relation(&self.lists.relations, start, kind, end) {
+        match self.parts.relation(start, kind, end) {
             Some(relation) => Seen::Held(relation.cell()),
             None => Seen::Empty,
         }
     }
 
     fn active(&self, start: &Lei, kind: RelationType) -> Seen<Lei> {
-        match find_active(&self.lists.relations, start, kind) {
-            Some(relation) => Seen::Held(relation.end()),
+        match self.parts.active(start, kind) {
+            Some(end) => Seen::Held(end),
             None => Seen::Empty,
         }
     }
 
     fn exception(&self, lei: &Lei, category: ExceptionCategory) -> Seen<()> {
-        if has_exception(&self.lists.exceptions, lei, category) {
+        if self.parts.has_exception(lei, category) {
             Seen::Held(())
         } else {
             Seen::Empty
@@ -78,55 +86,89 @@ impl View for Table {
 }
 
 impl Table {
-    /// A table without rows.
+    /// A table without cells.
     pub fn new(alloc: Global) -> Result<Self, NoMemory>
-        ensures { IfOk result (λ table. table ≡ no_rows) }
+        ensures held { IfOk result (λ table. table.held ≡ empty) }
+        ensures rows { IfOk result (λ table. rows table.held ≡ no_rows) }
+        ensures numbers { IfOk result (λ table. (number : ℕ) → IsLater number table.held) }
+        ensures before { IfOk result (λ table. table.before ≡ None) }
     {
-        let lists = Lists {
-            alloc,
-            records: Vec::new(alloc),
-            relations: Vec::new(alloc),
-            exceptions: LinkedList::new(alloc),
+        let parts = Parts {
+            cells: CellMap::new(alloc),
+            holders: Holders::new(alloc),
+            ends: Ends::new(alloc),
         };
-        Ok(Table { lists })
+        Ok(Table {
+            alloc,
+            parts,
+            last: None,
+        })
     }
 
-    /// Puts writes, from the first to the last. `_entry` is the number of the entry that they belong
-    /// to. Where there is no memory, the table stays as it was.
-    pub fn apply(&mut self, writes: &Writes, _entry: u64) -> Result<Undo, NoMemory>
-        requires { MayApply writes.now self.old }
-        ensures table { OnOk result (self.new ≡ put_all writes.now self.old) }
-        ensures notes { IfOk result (λ undo. undo ≡ notes_of writes.now self.old) }
-        ensures last { IfOk result (λ undo. IsOfLast undo self.new) }
+    /// Puts writes of the entry of this number, from the first to the last. Each key that is written has the number then.
+    /// Where there is no memory, the table stays as it was, and so do the writes that can be taken back.
+    pub fn apply(&mut self, writes: &Writes, entry: u64) -> Result<(), NoMemory>
+        requires may { MayApply writes.now (rows self.old.held) }
+        requires later { IsLater entry self.old.held }
+        ensures held { OnOk result (self.new.held ≡ touch_all entry writes.now self.old.held) }
+        ensures rows { OnOk result (rows self.new.held ≡ put_all writes.now (rows self.old.held)) }
+        ensures numbers { OnOk result (IsLater (entry + 1) self.new.held) }
+        ensures before { OnOk result (self.new.before ≡ Some self.old.held) }
         ensures err { OnErr result (self.new ≡ self.old) }
     {
-        put_writes(&mut self.lists, writes.as_slice())
+        let mut notes = Vec::with_capacity(self.alloc, writes.len())?;
+        match put_writes(
+            self.alloc,
+            &mut self.parts,
+            writes.as_slice(),
+            entry,
+            &mut notes,
+        ) {
+            Ok(()) => {
+                self.last = Some(notes);
+                Ok(())
+            }
+            Err(NoMemory) => {
+                undo_notes(&mut self.parts, notes);
+                Err(NoMemory)
+            }
+        }
     }
 
-    /// Takes back what the last `apply` put. It takes no memory.
-    pub fn undo(&mut self, undo: Undo)
-        requires { IsOfLast undo self.old }
-        ensures table { self.new ≡ undone undo self.old }
-
-        // Whatever table and writes it was of.
-        ensures back { (before : Tables.Table) (writes : WriteList) → undo ≡ notes_of writes before
-            → AreOwn writes → self.old ≡ put_all writes before → self.new ≡ before }
+    /// Takes back what the last `apply` put: numbers, rows and withdrawals. It takes no memory. The condition is that
+    /// there is something to take back.
+    pub fn undo(&mut self)
+        requires { IsSome self.old.before }
+        ensures held { Some self.new.held ≡ self.old.before }
+        ensures before { self.new.before ≡ None }
     {
-        undo_notes(&mut self.lists, undo.into_slots());
+        if let Some(notes) = self.last.take() {
+            undo_notes(&mut self.parts, notes);
+        }
     }
 
     /// The number of records.
     pub fn held(&self) -> u32
-        ensures count { result ≡ record_count self.now }
-        ensures kept { IsKept self.now }
+        ensures count { result ≡ record_count (rows self.now.held) }
+        ensures kept { IsKept (rows self.now.held) }
     {
-        self.lists.records.len() as u32
+        self.parts.cells.counts().records as u32
+    }
+
+    /// The numbers of records, of relationships and of exceptions.
+    pub fn counts(&self) -> (u64, u64, u64)
+        ensures records { result.0 ≡ record_count (rows self.now.held) }
+        ensures relations { result.1 ≡ len (rows self.now.held).relations }
+        ensures exceptions { result.2 ≡ len (rows self.now.held).exceptions }
+    {
+        let counts = self.parts.cells.counts();
+        (counts.records, counts.relations, counts.exceptions)
     }
 
     /// The record of an entity.
     pub fn show(&self, lei: &Lei) -> Option<&Record>
-        ensures { option_map (λ row. row.now) result ≡ row_at self.now lei.now }
+        ensures { option_map (λ row. row.now) result ≡ row_at (rows self.now.held) lei.now }
     {
-        find_record(&self.lists.records, lei)
+        self.parts.record(lei)
     }
 }

@@ -1,73 +1,93 @@
-// Writes to a table's lists, and the notes that take them back.
-ghost use Rattle.std.specs.Prelude.{◌≡◌, ◌+◌, ◌^◌, ◌<◌, ◌≤◌, [], IfOk, OnOk, OnErr, length, map, vec_capacity, vec_len};
-ghost use Rattle.std.specs.List.{AllByRecursion};
-ghost use Rattle.lei_records.specs.Tables.{put_all};
-ghost use Rattle.register_table.specs.Lists.{AreListed, exception_count, table_of};
-ghost use Rattle.register_table.specs.Slots.{IsSlot, listed, note_of};
-ghost use Rattle.register_table.specs.Undos.{AreOwn, IsOfLast, notes_of, undone};
+// Writes that are put into the parts of a table, with notes that take them back.
+ghost use Rattle.std.specs.Prelude.{◌≡◌, ◌+◌, ◌<◌, ◌≤◌, [], IfOk, OnOk, length, map, vec_capacity, vec_len};
+ghost use Rattle.lei_records.specs.Tables;
+ghost use Rattle.register_table.specs.Cells.{IsItemOf, cell_in};
+ghost use Rattle.register_table.specs.Held.{IsKept, rows};
+ghost use Rattle.register_table.specs.Parts.{AreParts, CanBeUndone, Grows, note_of};
+ghost use Rattle.register_table.specs.Undos.{AreOwn, IsOwn, StaysKept, cell_of, touch, touch_all, undone};
 
-use crate::lists::{Lists, exchange_slot};
-use crate::slot::{Slot, slots_of};
-use crate::undo::Undo;
+use crate::cells::Slot;
+use crate::parts::{Note, Parts, put, put_back};
 use lei_outside::NoMemory;
 use lei_records::{Item, RowKey};
+use std::alloc::Global;
 
-// Fewer exceptions and fewer writes than this are counted together in a `usize`. No memory has so many.
-const MOST: usize = 0x2000_0000_0000_0000;
-
-/// Puts writes, from the first to the last, and notes what they replace. All memory is taken before
-/// the first is put.
-pub fn put_writes(lists: &mut Lists, writes: &[(RowKey, Option<Item>)]) -> Result<Undo, NoMemory>
+/// Puts writes of the entry of this number, from the first to the last, and notes what they replace, for which there is
+/// room. Where there is no memory, the notes are of those that were put.
+pub fn put_writes(
+    alloc: Global,
+    parts: &mut Parts,
+    writes: &[(RowKey, Option<Item>)],
+    entry: u64,
+    notes: &mut Vec<Note>,
+) -> Result<(), NoMemory>
     requires own { AreOwn writes.now }
-    requires listed { AreListed (listed lists.old) }
-    ensures table { OnOk result (table_of (listed lists.new) ≡ put_all writes.now (table_of (listed lists.old))) }
-    ensures notes { IfOk result (λ undo. undo ≡ notes_of writes.now (table_of (listed lists.old))) }
-    ensures few { IfOk result (λ undo. exception_count (table_of (listed lists.new)) + length undo < 2 ^ 63) }
-    ensures err { OnErr result (listed lists.new ≡ listed lists.old) }
-    ensures listed { AreListed (listed lists.new) }
+    requires parts { AreParts parts.old }
+    requires kept { StaysKept writes.now (rows parts.old.cells) }
+    requires empty { notes.old.items ≡ [] }
+    requires room { length writes.now ≤ vec_capacity notes.old }
+    ensures cells { OnOk result (parts.new.cells ≡ touch_all entry writes.now parts.old.cells) }
+    ensures parts { AreParts parts.new }
+    ensures back { undone (map note_of notes.new.items) parts.new.cells ≡ parts.old.cells }
+    ensures undoable { CanBeUndone notes.new.items parts.new }
+    ensures grows { Grows parts.old.holders parts.old.ends parts.new.holders parts.new.ends }
 {
-    if lists.exceptions.len() >= MOST || writes.len() >= MOST {
-        return Err(NoMemory);
+    for write in writes {
+        put_write(alloc, parts, write, entry, notes)?;
     }
-    let slots = slots_of(lists.alloc, writes)?;
-    let notes = Vec::with_capacity(lists.alloc, slots.len())?;
-    lists.records.reserve(slots.len())?;
-    lists.relations.reserve(slots.len())?;
-    Ok(Undo::of(put_slots(lists, slots, notes)))
+    Ok(())
 }
 
-// Puts slots, for which there is room, and hands out the notes.
-fn put_slots(lists: &mut Lists, slots: Vec<Slot>, mut notes: Vec<Slot>) -> Vec<Slot>
-    requires own { AreOwn (map note_of slots.items) }
-    requires slots { AllByRecursion IsSlot slots.items }
-    requires listed { AreListed (listed lists.old) }
-    requires records_room { vec_len lists.old.records + vec_len slots ≤ vec_capacity lists.old.records }
-    requires relations_room { vec_len lists.old.relations + vec_len slots ≤ vec_capacity lists.old.relations }
-    requires notes_room { vec_len notes + vec_len slots ≤ vec_capacity notes }
-    requires few { length lists.old.exceptions + vec_len slots < 2 ^ 63 }
-    requires empty { notes.items ≡ [] }
-    ensures table { table_of (listed lists.new) ≡ put_all (map note_of slots.items) (table_of (listed lists.old)) }
-    ensures notes { map note_of result.items ≡ notes_of (map note_of slots.items) (table_of (listed lists.old)) }
-    ensures slots { AllByRecursion IsSlot result.items }
-    ensures listed { AreListed (listed lists.new) }
-    ensures few { length lists.new.exceptions ≤ length lists.old.exceptions + vec_len slots }
+fn put_write(
+    alloc: Global,
+    parts: &mut Parts,
+    write: &(RowKey, Option<Item>),
+    entry: u64,
+    notes: &mut Vec<Note>,
+) -> Result<(), NoMemory>
+    requires own { IsOwn write.now }
+    requires parts { AreParts parts.old }
+    requires kept { IsKept (Tables.put_write (rows parts.old.cells) write.now) }
+    requires undoable { CanBeUndone notes.old.items parts.old }
+    requires room { vec_len notes.old < vec_capacity notes.old }
+    ensures cells { OnOk result (parts.new.cells ≡ touch entry parts.old.cells write.now) }
+    ensures parts { AreParts parts.new }
+    ensures back { undone (map note_of notes.new.items) parts.new.cells
+        ≡ undone (map note_of notes.old.items) parts.old.cells }
+    ensures undoable { CanBeUndone notes.new.items parts.new }
+    ensures grows { Grows parts.old.holders parts.old.ends parts.new.holders parts.new.ends }
+    ensures capacity { vec_capacity notes.new ≡ vec_capacity notes.old }
+    ensures len { vec_len notes.new ≤ vec_len notes.old + 1 }
 {
-    for slot in slots {
-        let note = exchange_slot(lists, slot);
-        notes.push_reserved(note);
-    }
-    notes
+    let slot = slot_of(alloc, &write.1, entry)?;
+    let out = put(parts, write.0, slot)?;
+    notes.push_reserved(Note {
+        key: write.0,
+        slot: out,
+    });
+    Ok(())
 }
 
-/// Puts back what was noted, from the last note to the first.
-pub fn undo_notes(lists: &mut Lists, mut notes: Vec<Slot>)
-    requires slots { AllByRecursion IsSlot notes.items }
-    requires listed { AreListed (listed lists.old) }
-    requires last { IsOfLast (map note_of notes.items) (table_of (listed lists.old)) }
-    ensures table { table_of (listed lists.new) ≡ undone (map note_of notes.items) (table_of (listed lists.old)) }
-    ensures listed { AreListed (listed lists.new) }
+// An item in memory of its own, with the number of the entry that puts it, or none.
+fn slot_of(alloc: Global, item: &Option<Item>, entry: u64) -> Result<Slot, NoMemory>
+    ensures { IfOk result (λ slot. (slot.item ≡ item.now) × (slot.entry ≡ entry)) }
+{
+    let item = match item {
+        Some(item) => Some(item.copy(alloc)?),
+        None => None,
+    };
+    Ok(Slot { entry, item })
+}
+
+/// Puts back what was noted, from the last note to the first. It takes no memory.
+pub fn undo_notes(parts: &mut Parts, mut notes: Vec<Note>)
+    requires parts { AreParts parts.old }
+    requires undoable { CanBeUndone notes.items parts.old }
+    ensures cells { parts.new.cells ≡ undone (map note_of notes.items) parts.old.cells }
+    ensures parts { AreParts parts.new }
+    ensures grows { Grows parts.old.holders parts.old.ends parts.new.holders parts.new.ends }
 {
     while let Some(note) = notes.pop() {
-        drop(exchange_slot(lists, note));
+        drop(put_back(parts, note.key, note.slot));
     }
 }

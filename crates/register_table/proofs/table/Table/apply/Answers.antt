@@ -1,17 +1,18 @@
-use Rattle.std.proofs.Common.{sym, subst}
-use Rattle.register_table.specs.Slots.{listed}
-use Rattle.register_table.specs.Undos.{AreOwn, StaysKept}
-use Rattle.register_table.proofs.KeptLemmas.{kept_after, last_after}
+use Rattle.std.proofs.Common.{◌≡◌, ◌+◌, arith, rules, ap, subst, sym, ◌∙◌}
+use Rattle.register_table.specs.Undos.{IsLater, touch_all}
+use Rattle.register_table.proofs.KeptLemmas.{later_all, later_more}
+use Rattle.register_table.specs.Held.{rows}
+use Rattle.register_table.proofs.RowsLemmas.{rows-touch_all}
 use Rattle.register_table.proofs.table.Table.apply.Goals as goal
 
-pub invariant_of-self : goal.invariant_of-self
-invariant_of-self c =
-    let stays = subst (λ writes. StaysKept writes c.args.self.now) (sym c.as_slice.ensures) c.requires.kept in
-    kept_after c.put_writes.result (listed c.self.inside.lists) (listed c.put_writes.new.lists) c.as_slice.result.now
-    c.put_writes.ensures.table c.put_writes.ensures.err c.put_writes.ensures.listed c.self.invariant
-    (subst (StaysKept c.as_slice.result.now) (sym c.self.view_is) stays)
+pub returns-in-Ok-clause-rows : goal.returns-in-Ok-clause-rows
+returns-in-Ok-clause-rows c =
+    let held : c.put_writes.new.parts.cells ≡ touch_all c.args.entry c.args.writes.now c.args.self.now.held = search rules in
+    ap rows held ∙ rows-touch_all c.args.entry c.args.writes.now c.args.self.now.held c.requires.may.own
 
-pub returns-clause-last : goal.returns-clause-last
-returns-clause-last c =
-    last_after c.put_writes.result (listed c.self.inside.lists) (listed c.put_writes.new.lists) c.as_slice.result.now
-    c.put_writes.ensures.table c.put_writes.ensures.notes c.put_writes.ensures.few c.self.invariant (subst AreOwn (sym c.as_slice.ensures) c.requires.own)
+pub returns-in-Ok-clause-numbers : goal.returns-in-Ok-clause-numbers
+returns-in-Ok-clause-numbers c =
+    let held : c.put_writes.new.parts.cells ≡ touch_all c.args.entry c.args.writes.now c.args.self.now.held = search rules in
+    subst (IsLater (c.args.entry + 1)) (sym held)
+    (later_all c.args.entry (c.args.entry + 1) c.args.writes.now c.args.self.now.held
+    (later_more c.args.entry (c.args.entry + 1) c.args.self.now.held (omega arith) c.requires.later) (omega arith))

@@ -1,8 +1,11 @@
-use Rattle.register_table.proofs.KeptLemmas.{none_kept, table_of-none}
+use Rattle.register_table.proofs.KeptLemmas.{later_none, no_parts, no_rows_of}
 use Rattle.register_table.proofs.table.Table.new.Goals as goal
 
 pub invariant_of-result : goal.invariant_of-result
-invariant_of-result c = none_kept _ c.new.ensures.items c.new-2.ensures.items c.new-3.ensures
+invariant_of-result c = (no_parts (record { cells = c.new.result; holders = c.new-2.result; ends = c.new-3.result }) c.new.ensures, tt)
 
-pub returns : goal.returns
-returns c = table_of-none _ c.new.ensures.items c.new-2.ensures.items c.new-3.ensures
+pub returns-clause-rows : goal.returns-clause-rows
+returns-clause-rows c = no_rows_of (record { cells = c.new.result; holders = c.new-2.result; ends = c.new-3.result }) c.new.ensures
+
+pub returns-clause-numbers : goal.returns-clause-numbers
+returns-clause-numbers c = λ n. later_none c.new.result n c.new.ensures

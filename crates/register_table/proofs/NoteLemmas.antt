@@ -1,0 +1,214 @@
+-- Notes of writes: what one more note comes to, and what is left when the last was put back.
+use Rattle.std.specs.Prelude.{◌≡◌, ℕ, suc, ◌+◌, ◌<◌, List, [], ◌∷◌, ◌++◌, drop, get_or, length, map, Option, Some, None, IfSome, IsSome, is_some, option_map}
+use Rattle.std.specs.FinMap.{get, insert}
+use Rattle.std.specs.List.{AllByRecursion}
+use Rattle.std.proofs.Common.{refl, sym, ap, subst, ◌∙◌, add-one}
+use Rattle.std.proofs.Math.Seq.{drop-cons}
+use Rattle.lei_records.specs.declared.item.Item.{Item}
+use Rattle.lei_records.specs.declared.view.RowKey.{RowKey}
+use Rattle.lei_records.specs.Cells.{lei_in}
+use Rattle.lei_records.specs.Tables.{Table, put_write, record_key, relation_key_in}
+use Rattle.register_table.specs.declared.cells.Slot.{Slot}
+use Rattle.register_table.specs.declared.ends.Ends.{Ends}
+use Rattle.register_table.specs.declared.holders.Holders.{Holders}
+use Rattle.register_table.specs.declared.parts.Note.{Note}
+use Rattle.register_table.specs.declared.parts.Parts.{Parts}
+use Rattle.register_table.specs.Cells.{IsItemOf, IsOwnCell, cell_in}
+use Rattle.register_table.specs.Held.{Cell, Held, IsKept, cell_key, row_in, rows}
+use Rattle.register_table.specs.Parts.{AreParts, AreUndoable, CanBeUndone, Grows, IsNoteOf, IsNoted, note_of}
+use Rattle.register_table.specs.Undos.{AreOwn, IsOwn, Notes, StaysKept, WriteList, cell_of, put_back, touch, touch_all, undone}
+use Rattle.register_table.proofs.RowsLemmas.{cell_again, cell_there, record_at, relation_at, rows-touch}
+
+-- ---- one note more, and one less
+
+-- the last note is put back first
+pub undone-push : (notes : Notes) (note : RowKey × Option Cell) (held : Held) → undone (notes ++ note ∷ []) held ≡ undone notes (put_back held note)
+undone-push [] note held = refl
+undone-push (first ∷ notes) note held = ap (λ h. put_back h first) (undone-push notes note held)
+
+pub noted-push : (notes : List Note) (note : Note) → map note_of (notes ++ note ∷ []) ≡ map note_of notes ++ note_of note ∷ []
+noted-push [] note = refl
+noted-push (first ∷ notes) note = ap (λ ns. note_of first ∷ ns) (noted-push notes note)
+
+all-push : {X : Type 0} (P : X → Type 0) (xs : List X) (x : X) → AllByRecursion P xs → P x → AllByRecursion P (xs ++ x ∷ [])
+all-push P [] x all last = (last, tt)
+all-push P (y ∷ xs) x all last = (all.0, all-push P xs x all.1 last)
+
+all-front : {X : Type 0} (P : X → Type 0) (xs : List X) (x : X) → AllByRecursion P (xs ++ x ∷ []) → AllByRecursion P xs × P x
+all-front P [] x all = (tt, all.0)
+all-front P (y ∷ xs) x all = let rest = all-front P xs x all.1 in ((all.0, rest.0), rest.1)
+
+all-weaker : {X : Type 0} (P Q : X → Type 0) → ((x : X) → P x → Q x) → (xs : List X) → AllByRecursion P xs → AllByRecursion Q xs
+all-weaker P Q weaker [] all = tt
+all-weaker P Q weaker (x ∷ xs) all = (weaker x all.0, all-weaker P Q weaker xs all.1)
+
+-- the last note can be put back, and then those before it
+pub undoable-push : (notes : Notes) (note : RowKey × Option Cell) (held before : Held) → put_back held note ≡ before → IsSome (get held (cell_key note.0)) → IsKept (rows before)
+    → AreUndoable notes before → AreUndoable (notes ++ note ∷ []) held
+undoable-push [] note held before back here kept undoable = ((here, subst (λ h. IsKept (rows h)) (sym back) kept), tt)
+undoable-push (first ∷ notes) note held before back here kept undoable =
+    let same : undone (notes ++ note ∷ []) held ≡ undone notes before = undone-push notes note held ∙ ap (undone notes) back in (
+      subst (λ h. IsSome (get h (cell_key first.0)) × IsKept (rows (put_back h first))) (sym same) undoable.0,
+      undoable-push notes note held before back here kept undoable.1,
+    )
+
+pub record Last (notes : Notes) (note : RowKey × Option Cell) (held : Held) : Type 0 where
+  pub here : IsSome (get held (cell_key note.0))
+  pub kept : IsKept (rows (put_back held note))
+  pub others : AreUndoable notes (put_back held note)
+
+pub undoable-last : (notes : Notes) (note : RowKey × Option Cell) (held : Held) → AreUndoable (notes ++ note ∷ []) held → Last notes note held
+undoable-last [] note held undoable = record { here = undoable.0.0; kept = undoable.0.1; others = tt }
+undoable-last (first ∷ notes) note held undoable =
+    let rest = undoable-last notes note held undoable.1 in
+    record {
+      here = rest.here;
+      kept = rest.kept;
+      others = (subst (λ h. IsSome (get h (cell_key first.0)) × IsKept (rows (put_back h first))) (undone-push notes note held) undoable.0, rest.others);
+    }
+
+-- ---- what was noted stays noted
+
+noted-grown : (item : Option Item) (holders newer : Holders) (ends later : Ends) → Grows holders ends newer later → IsNoted holders ends item → IsNoted newer later item
+noted-grown None holders newer ends later grows noted = tt
+noted-grown (Some (Item.Record row)) holders newer ends later grows noted = λ a i held. grows.by_key a i (noted a i held)
+noted-grown (Some (Item.Relation row)) holders newer ends later grows noted = λ s kind active. grows.by_start s kind (noted s kind active)
+noted-grown (Some (Item.Exception item)) holders newer ends later grows noted = tt
+
+slot-grown : (slot : Option Slot) (holders newer : Holders) (ends later : Ends) → Grows holders ends newer later
+    → IfSome slot (λ s. IsNoted holders ends s.item) → IfSome slot (λ s. IsNoted newer later s.item)
+slot-grown None holders newer ends later grows noted = tt
+slot-grown (Some slot) holders newer ends later grows noted = noted-grown slot.item holders newer ends later grows noted
+
+pub each-grown : (notes : List Note) (holders newer : Holders) (ends later : Ends) → Grows holders ends newer later
+    → AllByRecursion (IsNoteOf holders ends) notes → AllByRecursion (IsNoteOf newer later) notes
+each-grown notes holders newer ends later grows each =
+    all-weaker (IsNoteOf holders ends) (IsNoteOf newer later)
+    (λ note is. record { own = is.own; noted = slot-grown note.slot holders newer ends later grows is.noted }) notes each
+
+pub can-grown : (notes : List Note) (old new : Parts) → Grows old.holders old.ends new.holders new.ends → new.cells ≡ old.cells → CanBeUndone notes old → CanBeUndone notes new
+can-grown notes old new grows same can = record {
+  each = each-grown notes old.holders new.holders old.ends new.ends grows can.each;
+  kept = subst (AreUndoable (map note_of notes)) (sym same) can.kept;
+}
+
+pub grows-none : (holders : Holders) (ends : Ends) → Grows holders ends holders ends
+grows-none holders ends = record { by_key = λ a i is. is; by_start = λ s kind is. is }
+
+pub grows-more : (a b c : Holders) (d e f : Ends) → Grows a d b e → Grows b e c f → Grows a d c f
+grows-more a b c d e f first second =
+    record { by_key = λ x y is. second.by_key x y (first.by_key x y is); by_start = λ x y is. second.by_start x y (first.by_start x y is) }
+
+-- ---- what is held was noted
+
+some_is : {X : Type 0} (o : Option X) (x : X) → o ≡ Some x → IsSome o
+some_is o x is = ap is_some is
+
+module _ (parts : Parts) (are : AreParts parts) (key : RowKey) where
+  held_noted : (entry : ℕ) (item : Option Item) → IsItemOf key item → get parts.cells (cell_key key) ≡ Some (cell_of entry item) → IsNoted parts.holders parts.ends item
+  held_noted entry None own at = tt
+  held_noted entry (Some (Item.Record row)) own at = λ a i held.
+      let there : get (rows parts.cells).records (record_key (lei_in row)) ≡ Some row =
+      record_at parts.cells (record_key (lei_in row)) ∙ (ap (λ k. row_in (get parts.cells k)) (sym own) ∙ ap row_in at) in
+      some_is _ _ (are.indexes.by_key a i (record_key (lei_in row)) row there held)
+  held_noted entry (Some (Item.Relation row)) own at = λ s kind active.
+      let there : get (rows parts.cells).relations (relation_key_in row) ≡ Some row =
+      relation_at parts.cells (relation_key_in row) ∙ (ap (λ k. row_in (get parts.cells k)) (sym own) ∙ ap row_in at) in
+      some_is _ _ (are.indexes.by_start s kind (relation_key_in row) row there active)
+  held_noted entry (Some (Item.Exception item)) own at = tt
+
+  out_noted : (out : Option Slot) → IfSome out (IsOwnCell key) → option_map cell_in out ≡ get parts.cells (cell_key key) → IfSome out (λ s. IsNoted parts.holders parts.ends s.item)
+  out_noted None own is = tt
+  out_noted (Some slot) own is = held_noted slot.entry slot.item own (sym is)
+
+-- ---- after a cell was put
+
+module _ (old new : Parts) (notes all : List Note) (note : Note) (cell : Cell)
+    (are : AreParts old) (can : CanBeUndone notes old) (grows : Grows old.holders old.ends new.holders new.ends)
+    (put : new.cells ≡ insert old.cells (cell_key note.key) cell)
+    (own : IfSome note.slot (IsOwnCell note.key)) (out : option_map cell_in note.slot ≡ get old.cells (cell_key note.key)) (pushed : all ≡ notes ++ note ∷ []) where
+  back : put_back new.cells (note_of note) ≡ old.cells
+  back = ap (λ h. put_back h (note_of note)) put ∙ cell_again old.cells (cell_key note.key) (Some cell) (option_map cell_in note.slot) (sym out)
+
+  listed : map note_of all ≡ map note_of notes ++ note_of note ∷ []
+  listed = ap (map note_of) pushed ∙ noted-push notes note
+
+  pub back-pushed : undone (map note_of all) new.cells ≡ undone (map note_of notes) old.cells
+  back-pushed = ap (λ ns. undone ns new.cells) listed ∙ (undone-push (map note_of notes) (note_of note) new.cells ∙ ap (undone (map note_of notes)) back)
+
+  here : IsSome (get new.cells (cell_key note.key))
+  here = ap is_some (ap (λ h. get h (cell_key note.key)) put ∙ cell_there old.cells (cell_key note.key) cell)
+
+  pub can-pushed : CanBeUndone all new
+  can-pushed = record {
+    each = subst (AllByRecursion (IsNoteOf new.holders new.ends)) (sym pushed)
+        (all-push (IsNoteOf new.holders new.ends) notes note (each-grown notes old.holders new.holders old.ends new.ends grows can.each)
+        (record { own = own; noted = slot-grown note.slot old.holders new.holders old.ends new.ends grows (out_noted old are note.key note.slot own out) }));
+    kept = subst (λ ns. AreUndoable ns new.cells) (sym listed) (undoable-push (map note_of notes) (note_of note) new.cells old.cells back here are.kept can.kept);
+  }
+
+-- ---- before a note is put back
+
+module _ (parts : Parts) (notes all : List Note) (note : Note) (can : CanBeUndone all parts) (popped : all ≡ notes ++ note ∷ []) where
+  listed_all : map note_of all ≡ map note_of notes ++ note_of note ∷ []
+  listed_all = ap (map note_of) popped ∙ noted-push notes note
+
+  parted : AllByRecursion (IsNoteOf parts.holders parts.ends) notes × IsNoteOf parts.holders parts.ends note
+  parted = all-front (IsNoteOf parts.holders parts.ends) notes note (subst (AllByRecursion (IsNoteOf parts.holders parts.ends)) popped can.each)
+
+  pub of_note : IsNoteOf parts.holders parts.ends note
+  of_note = parted.1
+
+  pub last_note : Last (map note_of notes) (note_of note) parts.cells
+  last_note = undoable-last (map note_of notes) (note_of note) parts.cells (subst (λ ns. AreUndoable ns parts.cells) listed_all can.kept)
+
+  pub can-popped : (new : Parts) → Grows parts.holders parts.ends new.holders new.ends → new.cells ≡ put_back parts.cells (note_of note) → CanBeUndone notes new
+  can-popped new grows put = record {
+    each = each-grown notes parts.holders new.holders parts.ends new.ends grows parted.0;
+    kept = subst (AreUndoable (map note_of notes)) (sym put) last_note.others;
+  }
+
+  pub undone-popped : (new : Parts) → new.cells ≡ put_back parts.cells (note_of note) → undone (map note_of notes) new.cells ≡ undone (map note_of all) parts.cells
+  undone-popped new put =
+      ap (undone (map note_of notes)) put ∙ (sym (undone-push (map note_of notes) (note_of note) parts.cells) ∙ ap (λ ns. undone ns parts.cells) (sym listed_all))
+
+-- ---- a loop over writes
+
+pub next_write : (writes : WriteList) (n : ℕ) (write : RowKey × Option Item) → n < length writes → write ≡ get_or writes n write → drop n writes ≡ write ∷ drop (n + 1) writes
+next_write writes n write within is =
+    drop-cons writes n write within ∙ ((λ i. sym is i ∷ drop (suc n) writes) ∙ ap (λ k. write ∷ drop k writes) (sym (add-one n)))
+
+pub all_put : (entry : ℕ) (rest : WriteList) (write : RowKey × Option Item) (more : WriteList) (held new : Held) → rest ≡ write ∷ more → new ≡ touch entry held write
+    → touch_all entry more new ≡ touch_all entry rest held
+all_put entry rest write more held new is put = ap (touch_all entry more) put ∙ ap (λ writes. touch_all entry writes held) (sym is)
+
+pub first_own : (rest : WriteList) (write : RowKey × Option Item) (more : WriteList) → rest ≡ write ∷ more → AreOwn rest → IsOwn write
+first_own rest write more is own = (subst AreOwn is own).0
+
+pub stays_kept : (entry : ℕ) (rest : WriteList) (write : RowKey × Option Item) (more : WriteList) (held new : Held) → rest ≡ write ∷ more → AreOwn rest → new ≡ touch entry held write
+    → StaysKept rest (rows held) → StaysKept more (rows new)
+stays_kept entry rest write more held new is own put kept =
+    subst (StaysKept more) (sym (ap rows put ∙ rows-touch entry held write (first_own rest write more is own)))
+    (subst (λ writes. StaysKept writes (rows held)) is kept).1
+
+pub others_own : (rest : WriteList) (write : RowKey × Option Item) (more : WriteList) → rest ≡ write ∷ more → AreOwn rest → AreOwn more
+others_own rest write more is own = (subst AreOwn is own).1
+
+pub first_kept : (rest : WriteList) (write : RowKey × Option Item) (more : WriteList) (table : Table) → rest ≡ write ∷ more → StaysKept rest table → IsKept (put_write table write)
+first_kept rest write more table is kept = (subst (λ writes. StaysKept writes table) is kept).0
+
+-- a slot of a write
+own_slot : (key : RowKey) (item : Option Item) → IsOwn (key, item) → IsItemOf key item
+own_slot key None own = tt
+own_slot key (Some item) own = ap cell_key own.0
+
+pub slot_own : (write : RowKey × Option Item) (slot : Slot) → slot.item ≡ write.1 → IsOwn write → IsOwnCell write.0 slot
+slot_own write slot same own = subst (IsItemOf write.0) (sym same) (own_slot write.0 write.1 own)
+
+pub slot_cell : (entry : ℕ) (write : RowKey × Option Item) (slot : Slot) → slot.item ≡ write.1 → slot.entry ≡ entry → cell_in slot ≡ cell_of entry write.1
+slot_cell entry write slot same number = λ i. cell_of (number i) (same i)
+
+pub slot_kept : (entry : ℕ) (write : RowKey × Option Item) (slot : Slot) (held : Held) → slot.item ≡ write.1 → slot.entry ≡ entry → IsOwn write
+    → IsKept (put_write (rows held) write) → IsKept (rows (insert held (cell_key write.0) (cell_in slot)))
+slot_kept entry write slot held same number own kept =
+    subst IsKept (sym (ap (λ cell. rows (insert held (cell_key write.0) cell)) (slot_cell entry write slot same number) ∙ rows-touch entry held write own)) kept

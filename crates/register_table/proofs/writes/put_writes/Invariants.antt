@@ -1,0 +1,21 @@
+use Rattle.std.proofs.Common.{◌≡◌, ◌≤◌, drop, length, map, vec_capacity, vec_len}
+use Rattle.register_table.specs.Held.{rows}
+use Rattle.register_table.specs.Parts.{AreParts, CanBeUndone, Grows, note_of}
+use Rattle.register_table.specs.Undos.{AreOwn, StaysKept, touch_all, undone}
+use Rattle.register_table.proofs.writes.put_writes.Given as goal
+
+-- the rest put into the cells so far is all put into the first cells, and the notes lead back to these
+abbrev pub invariant-loop-write : goal.invariant-loop-write
+invariant-loop-write l =
+    let rest = drop l.write-index l.writes in
+    record {
+      put : touch_all l.entry rest l.parts.cells ≡ touch_all l.entry l.writes l.fn.parts.cells;
+      own : AreOwn rest;
+      kept : StaysKept rest (rows l.parts.cells);
+      parts : AreParts l.parts;
+      back : undone (map note_of l.notes.items) l.parts.cells ≡ l.fn.parts.cells;
+      undoable : CanBeUndone l.notes.items l.parts;
+      grows : Grows l.fn.parts.holders l.fn.parts.ends l.parts.holders l.parts.ends;
+      room : length l.writes ≤ vec_capacity l.notes;
+      len : vec_len l.notes ≤ l.write-index;
+    }

@@ -1,0 +1,36 @@
+-- Cells as they are kept: a list of slots under their keys.
+use Rattle.std.specs.Prelude.{◌≡◌, List, map, Option, Some, None, ⊤}
+use Rattle.std.specs.FinMap.{from_entries}
+use Rattle.std.specs.List.{AllByRecursion}
+use Rattle.lei_records.specs.declared.item.Item.{Item}
+use Rattle.lei_records.specs.declared.view.RowKey.{RowKey}
+use Rattle.lei_records.specs.Tables.{KeyTexts, row_key}
+use Rattle.register_table.specs.declared.cells.Slot.{Slot}
+use Rattle.register_table.specs.declared.keys.TextKey.{TextKey}
+use Rattle.register_table.specs.Held.{Cell, Held, cell_key}
+use Rattle.register_table.specs.Undos.{cell_of}
+
+-- The cell that a slot is.
+abbrev pub cell_in : Slot → Cell
+cell_in slot = cell_of slot.entry slot.item
+
+-- A slot stands under the key of its item.
+abbrev pub IsItemOf : RowKey → Option Item → Type 0
+IsItemOf key None = ⊤
+IsItemOf key (Some item) = cell_key key ≡ cell_key (row_key item)
+
+-- The same of a slot.
+abbrev pub IsOwnCell : RowKey → Slot → Type 0
+IsOwnCell key slot = IsItemOf key slot.item
+
+-- Each slot does.
+abbrev pub AreOwnCells : List (TextKey × Slot) → Type 0
+AreOwnCells = AllByRecursion (λ e. IsOwnCell e.0.key e.1)
+
+-- A slot under the texts of its key.
+abbrev pub under_texts : TextKey × Slot → KeyTexts × Cell
+under_texts e = (cell_key e.0.key, cell_in e.1)
+
+-- The cells that slots under keys are.
+unfoldable pub held_in : List (TextKey × Slot) → Held
+held_in slots = from_entries (map under_texts slots)

@@ -1,0 +1,33 @@
+-- Counts: how many rows of each kind a table has.
+use Rattle.std.specs.Prelude.{◌≡◌, ℕ, ◌+◌, ◌-◌, ◌^◌, ◌<◌, Bool, true, false}
+use Rattle.std.specs.FinMap.{len}
+use Rattle.lei_records.specs.declared.view.RowKey.{RowKey}
+use Rattle.lei_records.specs.Tables.{Table}
+use Rattle.register_table.specs.declared.counts.Counts.{Counts}
+
+-- A count after a key had a row or not, and has one or not.
+abbrev pub step : Bool → Bool → ℕ → ℕ
+step false true count = count + 1
+step true false count = count - 1
+step was is count = count
+
+-- The counts after a key had a row or not, and has one or not: that of its kind changes.
+abbrev pub AreStepped : RowKey → Bool → Bool → Counts → Counts → Type 0
+AreStepped (RowKey.Rec lei) was is old new = (new.records ≡ step was is old.records)
+    × ((new.relations ≡ old.relations) × (new.exceptions ≡ old.exceptions))
+AreStepped (RowKey.Rel start kind end) was is old new = (new.records ≡ old.records)
+    × ((new.relations ≡ step was is old.relations) × (new.exceptions ≡ old.exceptions))
+AreStepped (RowKey.Exc lei category) was is old new = (new.records ≡ old.records)
+    × ((new.relations ≡ old.relations) × (new.exceptions ≡ step was is old.exceptions))
+
+-- The counts are those of a table.
+pub record AreCounts (counts : Counts) (table : Table) : Type 0 where
+  pub records : counts.records ≡ len table.records
+  pub relations : counts.relations ≡ len table.relations
+  pub exceptions : counts.exceptions ≡ len table.exceptions
+
+-- Each count can still rise by one.
+pub record CanRise (counts : Counts) : Type 0 where
+  pub records : counts.records + 1 < 2 ^ 64
+  pub relations : counts.relations + 1 < 2 ^ 64
+  pub exceptions : counts.exceptions + 1 < 2 ^ 64

@@ -1,0 +1,38 @@
+// How many rows of each kind are held.
+ghost use Rattle.std.specs.Prelude.{◌≡◌, ◌+◌, ◌^◌, ◌<◌};
+ghost use Rattle.register_table.specs.Counts.{AreStepped, CanRise, step};
+
+use lei_records::RowKey;
+
+/// The numbers of records, of relationships and of exceptions.
+#[derive(Clone, Copy)]
+pub struct Counts {
+    pub records: u64,
+    pub relations: u64,
+    pub exceptions: u64,
+}
+
+impl Counts {
+    /// Counts what was held under a key and what is held there now.
+    pub fn change(&mut self, key: &RowKey, was: bool, is: bool)
+        requires { CanRise self.old }
+        ensures { AreStepped key.now was is self.old self.new }
+    {
+        match key {
+            RowKey::Rec(_) => self.records = stepped(self.records, was, is),
+            RowKey::Rel(_, _, _) => self.relations = stepped(self.relations, was, is),
+            RowKey::Exc(_, _) => self.exceptions = stepped(self.exceptions, was, is),
+        }
+    }
+}
+
+fn stepped(count: u64, was: bool, is: bool) -> u64
+    requires { count + 1 < 2 ^ 64 }
+    ensures { result ≡ step was is count }
+{
+    match (was, is) {
+        (false, true) => count + 1,
+        (true, false) => count.saturating_sub(1),
+        _ => count,
+    }
+}

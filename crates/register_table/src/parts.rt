@@ -1,0 +1,81 @@
+// The cells of a table with the two indexes over them, and what writes do to all three.
+ghost use Rattle.std.specs.Prelude.{◌≡◌, None, IfOk, OnOk, OnErr, IfSome, IsSome, option_map};
+ghost use Rattle.std.specs.FinMap.{get, insert};
+ghost use Rattle.register_table.specs.Cells.{IsOwnCell, cell_in};
+ghost use Rattle.register_table.specs.Held.{IsKept, cell_key, rows};
+ghost use Rattle.register_table.specs.Indexes.{end_in_index, holder_in};
+ghost use Rattle.register_table.specs.Parts.{AreNoted, AreParts, Grows, IsNew, IsNoted};
+ghost use Rattle.register_table.specs.Undos.{with_cell};
+
+use crate::cells::{CellMap, Slot};
+use crate::ends::Ends;
+use crate::holders::Holders;
+use lei_outside::NoMemory;
+use lei_records::{Item, RowKey};
+
+/// The cells, and two indexes over them. What an index has is asked of the cells again, so it may have more than they.
+#[derive(Drop)]
+pub struct Parts {
+    pub cells: CellMap,
+    pub holders: Holders,
+    pub ends: Ends,
+}
+
+/// What was held under a key before a write.
+#[derive(Drop)]
+pub struct Note {
+    pub key: RowKey,
+    pub slot: Option<Slot>,
+}
+
+/// Puts a cell under a key, and hands out what was held there. Where there is no memory, the cells stay as they were.
+pub fn put(parts: &mut Parts, key: RowKey, slot: Slot) -> Result<Option<Slot>, NoMemory>
+    requires own { IsOwnCell key slot }
+    requires parts { AreParts parts.old }
+    requires kept { IsKept (rows (insert parts.old.cells (cell_key key) (cell_in slot))) }
+    ensures cells { OnOk result (parts.new.cells ≡ insert parts.old.cells (cell_key key) (cell_in slot)) }
+    ensures out { IfOk result (λ out. option_map cell_in out ≡ get parts.old.cells (cell_key key)) }
+    ensures own { IfOk result (λ out. IfSome out (IsOwnCell key)) }
+    ensures err { OnErr result (parts.new.cells ≡ parts.old.cells) }
+    ensures parts { AreParts parts.new }
+    ensures grows { Grows parts.old.holders parts.old.ends parts.new.holders parts.new.ends }
+    ensures room { OnErr result (IsSome (get parts.old.cells (cell_key key))
+        → IsNoted parts.old.holders parts.old.ends slot.item → ⊥) }
+{
+    index(&mut parts.holders, &mut parts.ends, &slot.item)?;
+    parts.cells.insert(&key, slot)
+}
+
+// Notes what an item holds in the indexes.
+fn index(holders: &mut Holders, ends: &mut Ends, item: &Option<Item>) -> Result<(), NoMemory>
+    ensures ok { OnOk result (AreNoted item.now holders.old ends.old holders.new ends.new) }
+    ensures err { OnErr result (AreNoted None holders.old ends.old holders.new ends.new) }
+    ensures absent { OnErr result (IsNew item.now holders.old ends.old) }
+{
+    match item {
+        Some(Item::Record(record)) => holders.put(record),
+        Some(Item::Relation(relation)) => ends.put(relation),
+        _ => Ok(()),
+    }
+}
+
+/// Puts back what was held under a key, and hands out what is held there now. It takes no memory.
+pub fn put_back(parts: &mut Parts, key: RowKey, slot: Option<Slot>) -> Option<Slot>
+    requires own { IfSome slot (IsOwnCell key) }
+    requires parts { AreParts parts.old }
+    requires kept { IsKept (rows (with_cell parts.old.cells (cell_key key) (option_map cell_in slot))) }
+    requires here { IsSome (get parts.old.cells (cell_key key)) }
+    requires noted { IfSome slot (λ slot. IsNoted parts.old.holders parts.old.ends slot.item) }
+    ensures cells { parts.new.cells ≡ with_cell parts.old.cells (cell_key key) (option_map cell_in slot) }
+    ensures out { option_map cell_in result ≡ get parts.old.cells (cell_key key) }
+    ensures parts { AreParts parts.new }
+    ensures grows { Grows parts.old.holders parts.old.ends parts.new.holders parts.new.ends }
+{
+    match slot {
+        Some(slot) => match put(parts, key, slot) {
+            Ok(out) => out,
+            Err(NoMemory) => unreachable!(),
+        },
+        None => parts.cells.remove(&key),
+    }
+}
