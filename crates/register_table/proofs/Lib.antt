@@ -5,3 +5,4 @@ pub mod PartLemmas
 pub mod NoteLemmas
 pub mod ReadLemmas
 pub mod KeptLemmas
+pub mod TouchLemmas

@@ -1,12 +1,15 @@
 // The cells of a table, in an ordered map.
-ghost use Rattle.std.specs.Prelude.{◌≡◌, Some, None, IfOk, OnOk, OnErr, IfSome, is_some, option_map};
+ghost use Rattle.std.specs.Prelude.{◌≡◌, Some, None, IfOk, OnOk, OnErr, IfSome, is_some, map, option_map};
 ghost use Rattle.std.specs.FinMap.{empty, get, insert, remove};
 ghost use Rattle.register_table.specs.Cells.{IsOwnCell, cell_in};
 ghost use Rattle.register_table.specs.Counts.{AreCounts};
 ghost use Rattle.register_table.specs.Held.{cell_key, row_in, rows};
+ghost use Rattle.register_table.specs.Touched.{shown, touched};
+ghost use Rattle.register_table.specs.Rising.{AreRising, within};
 
 use crate::counts::Counts;
 use crate::keys::TextKey;
+use crate::touched::{Touched, is_within, touched_of};
 use lei_outside::NoMemory;
 use lei_records::{Item, RowKey};
 use std::alloc::Global;
@@ -74,6 +77,13 @@ impl CellMap {
         self.counts
     }
 
+    /// The cells whose numbers are greater than `after` and at most `upto`.
+    pub fn touched(&self, alloc: Global, after: u64, upto: u64) -> Result<Vec<Touched>, NoMemory>
+        ensures { IfOk result (λ list. map shown list.items ≡ touched after upto self.now) }
+    {
+        touched_in(alloc, &self.map, after, upto)
+    }
+
     /// Puts a cell under a key, and hands out what was held there. At a key that has one it takes no memory.
     pub fn insert(&mut self, key: &RowKey, slot: Slot) -> Result<Option<Slot>, NoMemory>
         requires own { IsOwnCell key.now slot }
@@ -116,4 +126,25 @@ fn has_item(slot: &Option<Slot>) -> bool
         Some(slot) => slot.item.is_some(),
         None => false,
     }
+}
+
+// The slots whose numbers are greater than `after` and at most `upto`.
+fn touched_in(
+    alloc: Global,
+    slots: &BTreeMap<TextKey, Slot>,
+    after: u64,
+    upto: u64,
+) -> Result<Vec<Touched>, NoMemory>
+    ensures told { IfOk result (λ list. map shown list.items ≡ within after upto slots.now.entries) }
+    ensures rise { AreRising slots.now.entries }
+{
+    // Its keys rise.
+    let _slots = slots.len();
+    let mut list = Vec::new(alloc);
+    for (key, slot) in slots {
+        if is_within(slot, after, upto) {
+            list.push(touched_of(alloc, &key.key, slot)?)?;
+        }
+    }
+    Ok(list)
 }

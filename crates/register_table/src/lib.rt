@@ -10,6 +10,8 @@ mod keys;
 mod parts;
 mod reading;
 mod table;
+mod touched;
 mod writes;
 
 pub use table::Table;
+pub use touched::Touched;

@@ -1,13 +1,15 @@
-ghost use Rattle.std.specs.Prelude.{◌≡◌, ℕ, ◌+◌, Some, None, IfOk, OnOk, OnErr, IsSome, option_map};
+ghost use Rattle.std.specs.Prelude.{◌≡◌, ℕ, ◌+◌, Some, None, IfOk, OnOk, OnErr, IsSome, map, option_map};
 ghost use Rattle.std.specs.FinMap.{empty, len};
 ghost use Rattle.lei_records.specs.Tables.{cells_of, put_all, record_count, row_at};
 ghost use Rattle.register_table.specs.Held.{IsKept, no_rows, rows};
+ghost use Rattle.register_table.specs.Touched.{shown, touched};
 ghost use Rattle.register_table.specs.Undos.{IsLater, MayApply, touch_all};
 
 use crate::cells::CellMap;
 use crate::ends::Ends;
 use crate::holders::Holders;
 use crate::parts::{Note, Parts};
+use crate::touched::Touched;
 use crate::writes::{put_writes, undo_notes};
 use lei_code::Lei;
 use lei_outside::NoMemory;
@@ -145,6 +147,14 @@ impl Table {
         if let Some(notes) = self.last.take() {
             undo_notes(&mut self.parts, notes);
         }
+    }
+
+    /// Each key that was touched last by an entry whose number is greater than `after` and at most `upto`, in the order
+    /// of kinds and keys, with the item that is held under it, or none after a withdrawal.
+    pub fn touched(&self, after: u64, upto: u64) -> Result<Vec<Touched>, NoMemory>
+        ensures { IfOk result (λ list. map shown list.items ≡ touched after upto self.now.held) }
+    {
+        self.parts.cells.touched(self.alloc, after, upto)
     }
 
     /// The number of records.

@@ -1,0 +1,42 @@
+// What entries touched.
+ghost use Rattle.std.specs.Prelude.{◌≡◌, ◌++◌, ◌∷◌, [], ◌&&◌, IfOk, if◌then◌else◌, nat_lt, nat_le};
+ghost use Rattle.register_table.specs.Touched.{shown};
+ghost use Rattle.register_table.specs.Cells.{cell_in};
+ghost use Rattle.register_table.specs.Held.{cell_key};
+ghost use Rattle.register_table.specs.Touched.{is_touched};
+
+use crate::cells::Slot;
+use lei_outside::NoMemory;
+use lei_records::{Item, RowKey};
+use std::alloc::Global;
+
+/// A key that an entry touched, with the number of the entry that touched it last, and the item that is held under it,
+/// or none after a withdrawal.
+#[derive(Debug, PartialEq, Eq, Drop)]
+pub struct Touched {
+    pub key: RowKey,
+    pub entry: u64,
+    pub item: Option<Item>,
+}
+
+/// Whether the number of a slot is greater than `after` and at most `upto`.
+pub fn is_within(slot: &Slot, after: u64, upto: u64) -> bool
+    ensures { result ≡ is_touched after upto (cell_in slot.now) }
+{
+    after < slot.entry && slot.entry <= upto
+}
+
+/// A slot under its key, in memory of its own.
+pub fn touched_of(alloc: Global, key: &RowKey, slot: &Slot) -> Result<Touched, NoMemory>
+    ensures { IfOk result (λ touched. shown touched ≡ (cell_key key.now, cell_in slot.now)) }
+{
+    let item = match &slot.item {
+        Some(item) => Some(item.copy(alloc)?),
+        None => None,
+    };
+    Ok(Touched {
+        key: *key,
+        entry: slot.entry,
+        item,
+    })
+}
