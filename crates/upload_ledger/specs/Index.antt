@@ -1,0 +1,58 @@
+-- What the places that are kept beside the entries say of them.
+use Rattle.std.specs.Prelude.{◌≡◌, ℕ, ◌<◌, List, [], map, filter, find, slice_get, Bool, Option, Some, None, option_map}
+use Rattle.std.specs.Vec.{vec_len, vec_capacity}
+use Rattle.std.specs.BTreeMap.{BTreeMap, get}
+use Rattle.std.specs.Cmp.Lexicographic.{slice_cmp}
+use Rattle.std.specs.Ordering.{nat_cmp}
+use Rattle.lei_code.specs.Code.{IsValid}
+use Rattle.lei_code.specs.Texts.{Lei}
+use Rattle.lei_outside.specs.declared.entry.KeptEntry.{KeptEntry}
+use Rattle.upload_ledger.specs.declared.index.IssuerPlaces.{IssuerPlaces}
+use Rattle.upload_ledger.specs.History.{History, is_accreditation_of, is_upload_of}
+
+-- these are the places of the entries that pass the test, in order
+abbrev pub ArePlaces : (KeptEntry → Bool) → History → List ℕ → Type 0
+ArePlaces test history places = map (slice_get history) places ≡ map Some (filter test history)
+
+-- this is the place of the first entry that passes the test, where there is one
+abbrev pub IsFirstPlace : (KeptEntry → Bool) → History → Option ℕ → Type 0
+IsFirstPlace test history place = option_map (slice_get history) place ≡ option_map Some (find test history)
+
+-- the places by issuer
+abbrev pub Index : Type 0
+Index = BTreeMap Lei IssuerPlaces
+
+-- what is kept of an issuer
+abbrev pub places_of : Index → Lei → Option IssuerPlaces
+places_of index issuer = get (slice_cmp nat_cmp) index issuer
+
+-- the place of its accreditation
+abbrev pub accreditation_in : Option IssuerPlaces → Option ℕ
+accreditation_in None = None
+accreditation_in (Some places) = places.accreditation
+
+-- the places of its uploads
+abbrev pub uploads_in : Option IssuerPlaces → List ℕ
+uploads_in None = []
+uploads_in (Some places) = places.uploads.items
+
+-- what is kept of an issuer says where its entries are
+pub record AreOf (history : History) (issuer : Lei) (places : Option IssuerPlaces) : Type 0 where
+  pub accreditation : IsFirstPlace (is_accreditation_of issuer) history (accreditation_in places)
+  pub uploads : ArePlaces (is_upload_of issuer) history (uploads_in places)
+
+-- so for each issuer
+abbrev pub IsIndex : History → Index → Type 0
+IsIndex history index = (issuer : Lei) → IsValid issuer → AreOf history issuer (places_of index issuer)
+
+-- an entry of the issuer finds room
+pub record HasRoom (index : Index) (issuer : Lei) : Type 0 where
+  pub places : IssuerPlaces
+  pub found : places_of index issuer ≡ Some places
+  pub spare : vec_len places.uploads < vec_capacity places.uploads
+
+-- nothing that is kept of an issuer was changed, and each that had room has it still
+pub record IsSame (old new : Index) : Type 0 where
+  pub accreditation : (issuer : Lei) → accreditation_in (places_of new issuer) ≡ accreditation_in (places_of old issuer)
+  pub uploads : (issuer : Lei) → uploads_in (places_of new issuer) ≡ uploads_in (places_of old issuer)
+  pub room : (issuer : Lei) → HasRoom old issuer → HasRoom new issuer
