@@ -1,5 +1,5 @@
 -- Histories that grow by an entry: the table after them, and that they stay legal.
-use Rattle.std.proofs.Common.{◌≡◌, ℕ, ℤ, List, [], ◌∷◌, ◌++◌, ◌-◌, map, Bool, true, false, cond, ltb, int_lt, length, Option, Some, None, Result, Ok, Err, refl, sym, ap, ◌∙◌, subst, append_assoc, append-nil, arith, length-append}
+use Rattle.std.proofs.Common.{◌≡◌, ℕ, ℤ, List, [], ◌∷◌, ◌++◌, ◌-◌, map, Bool, true, false, cond, ◌||◌, is_some, ltb, int_lt, length, Option, Some, None, Result, Ok, Err, refl, sym, ap, ◌∙◌, subst, append_assoc, append-nil, arith, length-append}
 use Rattle.std.proofs.Math.Seq.{get_or-append_seam}
 use Rattle.std.proofs.lemmas.Option.{slice_get-get_or}
 use Rattle.std.proofs.lemmas.List.Sums.{fold-append}
@@ -10,7 +10,7 @@ use Rattle.upload_format.specs.Bodies.{upload}
 use Rattle.upload_format.specs.declared.fault.Malformed.{Malformed}
 use Rattle.lei_records.specs.Rows.{Row}
 use Rattle.lei_records.specs.Items.{ready}
-use Rattle.lei_records.specs.Tables.{put_all, row_at}
+use Rattle.lei_records.specs.Tables.{Table, put_all, row_at}
 use Rattle.lei_records.specs.declared.item.RawItem.{RawItem}
 use Rattle.lei_shapes.specs.Moment.{IsMoment, day_of}
 use Rattle.register_judge.specs.Taking.{take}
@@ -20,13 +20,13 @@ use Rattle.register_table.specs.Lists.{no_rows}
 use Rattle.lei_office.specs.declared.limits.Limits.{Limits}
 use Rattle.lei_office.specs.declared.request.Call.{Call}
 use Rattle.lei_office.specs.declared.request.Request.{Request}
-use Rattle.lei_office.specs.declared.request.Request.TheVariants.{Accredit, Show, Upload}
-use Rattle.lei_office.specs.declared.reply.Refusal.TheVariants.{TooLong}
+use Rattle.lei_office.specs.declared.request.Request.TheVariants.{Accredit, Kept, Show, Status, Upload}
+use Rattle.lei_office.specs.declared.reply.Refusal.TheVariants.{IssuerUnknown, LedgerFull, TooLong}
 use Rattle.lei_office.specs.declared.reply.Reply.{Reply}
 use Rattle.lei_office.specs.declared.reply.Reply.TheVariants.{Words}
-use Rattle.lei_office.specs.History.{History, accredited, Place, unknown_issuer, repeat_of, number_taken, ahead, fresh, place, last_entry, later, stamp}
+use Rattle.upload_ledger.specs.History.{History, accredited, kept, Place, unknown_issuer, repeat_of, number_taken, ahead, fresh, place, last_entry, later, stamp}
 use Rattle.lei_office.specs.Register.{after, after_entry, items_in}
-use Rattle.lei_office.specs.Replies.{stays, adds, outcome, outcome_at, show_outcome, accredit_outcome, upload_outcome, place_outcome, body_outcome, accreditation, upload_entry, taken_upload, history_after, next, Comes}
+use Rattle.lei_office.specs.Replies.{stays, adds, outcome, outcome_at, show_outcome, accredit_outcome, answer_outcome, is_full, is_too_much, status_outcome, upload_outcome, place_outcome, body_outcome, accreditation, upload_entry, taken_upload, history_after, next, Comes}
 use Rattle.lei_office.specs.Legal.{IsRequest, request_of, IsNext, LegalAfter, Legal}
 use Rattle.lei_office.specs.State.{OfficeState, office_of, opened}
 
@@ -66,15 +66,20 @@ pub record IsAdded (request : Request) (moment : ℤ) (e : KeptEntry) : Type 0 w
   pub for_request : request_of e ≡ Some request
   pub at_moment : e.moment ≡ moment
 
-accredit_adds : (history : History) (office : List ℕ) (moment : ℤ) (found : Option (List ℕ)) (e : KeptEntry) → accredit_outcome history office moment found ≡ adds e → IsAdded (Accredit office) moment e
-accredit_adds history office moment None e is =
-    let same : accreditation history office moment ≡ e = cc in
+-- what is added where there is room
+unless_full : (full : Bool) (refused : Reply) (a e : KeptEntry) → cond full (stays refused) (adds a) ≡ adds e → a ≡ e
+unless_full true refused a e is = cc
+unless_full false refused a e is = cc
+
+accredit_adds : (office : OfficeState) (issuer : List ℕ) (moment : ℤ) (found : Option (List ℕ)) (e : KeptEntry) → accredit_outcome office issuer moment found ≡ adds e → IsAdded (Accredit issuer) moment e
+accredit_adds office issuer moment None e is =
+    let same : accreditation office.history issuer moment ≡ e = unless_full (is_full office) (Words LedgerFull) (accreditation office.history issuer moment) e is in
     record { for_request = ap request_of (sym same); at_moment = ap (λ a. a.moment) (sym same) }
-accredit_adds history office moment (Some text) e is = cc
+accredit_adds office issuer moment (Some text) e is = cc
 
 body_adds : (office : OfficeState) (call : Call) (moment : ℤ) (read : Result (List RawItem) Malformed) (e : KeptEntry) → body_outcome office call moment read ≡ adds e → IsAdded (Upload call) moment e
 body_adds office call moment (Ok raws) e is =
-    let same : taken_upload office call moment raws ≡ e = cc in
+    let same : taken_upload office call moment raws ≡ e = unless_full (is_full office || is_too_much office call.body) (Words LedgerFull) (taken_upload office call moment raws) e is in
     record { for_request = ap request_of (sym same); at_moment = ap (λ a. a.moment) (sym same) }
 body_adds office call moment (Err fault) e is = cc
 
@@ -97,9 +102,19 @@ show_adds_none : (found : Option Row) (e : KeptEntry) → show_outcome found ≡
 show_adds_none None e is = cc
 show_adds_none (Some row) e is = cc
 
+kept_adds_none : (known : Bool) (found : Option (List ℕ)) (e : KeptEntry) → cond known (answer_outcome found) (stays (Words IssuerUnknown)) ≡ adds e → ⊥
+kept_adds_none false found e is = cc
+kept_adds_none true None e is = cc
+kept_adds_none true (Some text) e is = cc
+
+status_adds_none : (history : History) (table : Table) (e : KeptEntry) → status_outcome history table ≡ adds e → ⊥
+status_adds_none history table e is = cc
+
 pub request_adds : (office : OfficeState) (request : Request) (moment : ℤ) (e : KeptEntry) → outcome_at office request moment ≡ adds e → IsAdded request moment e
-request_adds office (Accredit lei) moment e is = accredit_adds office.history lei moment (accredited office.history lei) e is
+request_adds office (Accredit lei) moment e is = accredit_adds office lei moment (accredited office.history lei) e is
 request_adds office (Upload call) moment e is = (upload_adds office call moment e is).1
+request_adds office (Kept lei number) moment e is = absurd (kept_adds_none (is_some (accredited office.history lei)) (kept office.history lei number) e is)
+request_adds office Status moment e is = absurd (status_adds_none office.history (after office.limits office.history) e is)
 request_adds office (Show lei) moment e is = absurd (show_adds_none (row_at (after office.limits office.history) lei) e is)
 
 -- ---- moments
@@ -167,7 +182,7 @@ Legal-next limits history request moment asked is legal =
 
 -- a part of an office is given the stamp
 pub Legal-comes : (limits : Limits) (history : History) (request : Request) (moment at : ℤ) (result : Result Reply NoMemory) (new : History) → IsRequest request → IsMoment moment → at ≡ stamp history moment
-    → Legal (office_of limits history) → Comes (outcome_at (office_of limits history) request at) history result new → Legal (office_of limits new)
+    → Legal (office_of limits history) → Comes request (outcome_at (office_of limits history) request at) history result new → Legal (office_of limits new)
 Legal-comes limits history request moment at (Ok answered) new asked is stamped legal comes =
     let P : History → Type 0 = λ h. Legal (office_of limits h) in
     subst P (sym (comes.1 ∙ ap (λ m. history_after history (outcome_at (office_of limits history) request m)) stamped)) (Legal-next limits history request moment asked is legal)
@@ -176,11 +191,16 @@ Legal-comes limits history request moment at (Err wanted) new asked is stamped l
     subst P (sym comes.0) legal
 
 -- an accreditation leaves the table
-accredit_table : (limits : Limits) (history : History) (office : List ℕ) (moment : ℤ) (found : Option (List ℕ)) → after limits (history_after history (accredit_outcome history office moment found)) ≡ after limits history
-accredit_table limits history office moment None = after-push limits history (accreditation history office moment)
-accredit_table limits history office moment (Some text) = refl
+accredit_table : (limits : Limits) (history : History) (issuer : List ℕ) (moment : ℤ) (found : Option (List ℕ))
+    → after limits (history_after history (accredit_outcome (office_of limits history) issuer moment found)) ≡ after limits history
+accredit_table limits history issuer moment None =
+    elim (is_full (office_of limits history)) as (λ b. after limits (history_after history (cond b (stays (Words LedgerFull)) (adds (accreditation history issuer moment)))) ≡ after limits history) [
+      | true ↦ refl
+      | false ↦ after-push limits history (accreditation history issuer moment)
+    ]
+accredit_table limits history issuer moment (Some text) = refl
 
-pub after-accredit : (limits : Limits) (history : History) (office : List ℕ) (moment : ℤ) (result : Result Reply NoMemory) (new : History)
-    → Comes (accredit_outcome history office moment (accredited history office)) history result new → after limits new ≡ after limits history
-after-accredit limits history office moment (Ok answered) new comes = ap (after limits) comes.1 ∙ accredit_table limits history office moment (accredited history office)
-after-accredit limits history office moment (Err wanted) new comes = ap (after limits) comes.0
+pub after-accredit : (limits : Limits) (history : History) (issuer : List ℕ) (moment : ℤ) (result : Result Reply NoMemory) (new : History)
+    → Comes (Accredit issuer) (accredit_outcome (office_of limits history) issuer moment (accredited history issuer)) history result new → after limits new ≡ after limits history
+after-accredit limits history issuer moment (Ok answered) new comes = ap (after limits) comes.1 ∙ accredit_table limits history issuer moment (accredited history issuer)
+after-accredit limits history issuer moment (Err wanted) new comes = ap (after limits) comes.0

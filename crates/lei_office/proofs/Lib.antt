@@ -6,3 +6,4 @@ pub mod Orders
 pub mod Sessions
 pub mod Showing
 pub mod Telling
+pub mod Opening

@@ -13,7 +13,7 @@ use Rattle.lei_outside.specs.declared.entry.KeptEntry.{KeptEntry}
 use Rattle.lei_office.specs.declared.limits.Limits.{Limits}
 use Rattle.lei_office.specs.declared.request.Call.{Call}
 use Rattle.lei_office.specs.declared.request.Request.TheVariants.{Upload}
-use Rattle.lei_office.specs.History.{History, accredited, ahead, fresh, is_upload_of, last, later, place, place_of_taken, repeat_of, stamp, number_taken, unknown_issuer, upload_at, uploads}
+use Rattle.upload_ledger.specs.History.{History, accredited, ahead, fresh, is_upload_of, last, later, place, place_of_taken, repeat_of, stamp, number_taken, unknown_issuer, upload_at, uploads}
 use Rattle.lei_office.specs.Replies.{outcome}
 use Rattle.lei_office.specs.Legal.{IsNext, LegalAfter, Legal, MomentsNeverFall, UploadsAreNumbered, request_of}
 use Rattle.lei_office.specs.State.{OfficeState, office_of}

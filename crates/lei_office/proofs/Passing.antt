@@ -14,7 +14,6 @@ use Rattle.lei_records.specs.Rows.{Row}
 use Rattle.lei_records.specs.Tables.{Table, put_all, row_at}
 use Rattle.lei_records.specs.declared.item.Item.{Item}
 use Rattle.lei_records.specs.declared.item.Readied.{Readied}
-use Rattle.lei_records.specs.declared.view.RecCell.{RecCell}
 use Rattle.lei_records.specs.Checks.{FailedCheck, Finding, first_failing}
 use Rattle.status_rules.specs.Statuses.{is_issued}
 use Rattle.status_rules.specs.Transitions.{party}
@@ -24,7 +23,7 @@ use Rattle.register_judge.specs.Taking.{take, verdict, verdict_of, writes_of}
 use Rattle.register_judge.specs.declared.outcome.Verdict.{Verdict}
 use Rattle.register_table.specs.Lists.{no_rows}
 use Rattle.lei_office.specs.declared.limits.Limits.{Limits}
-use Rattle.lei_office.specs.History.{History, is_upload}
+use Rattle.upload_ledger.specs.History.{History, is_upload}
 use Rattle.lei_office.specs.Parties.{Change, ChangesArePermitted, ChangesMakeRecords, IsPermitted, changed, changes, changes_by, changes_from, entry_changes, item_changes}
 use Rattle.lei_office.specs.Register.{after, after_entry, items_of, take_items}
 use Rattle.lei_office.specs.State.{OfficeState}

@@ -42,9 +42,9 @@ use Rattle.register_judge.proofs.ParentLemmas.{take-apart, take-parents}
 use Rattle.register_judge.proofs.TakingLemmas.{take-sound}
 use Rattle.register_table.specs.Lists.{no_rows}
 use Rattle.register_table.specs.Undos.{WriteList, AreOwn, IsOwn, MayApply, StaysKept}
-use Rattle.lei_office.specs.declared.ledger.TheConstants.{UPLOAD}
+use Rattle.upload_ledger.specs.declared.ledger.TheConstants.{UPLOAD}
 use Rattle.lei_office.specs.declared.limits.Limits.{Limits}
-use Rattle.lei_office.specs.History.{History}
+use Rattle.upload_ledger.specs.History.{History}
 use Rattle.lei_office.specs.Register.{after, after_entry, items_in, items_of, take_items}
 use Rattle.lei_office.proofs.Passing.{passing, passing_behind}
 

@@ -5,6 +5,7 @@ use Rattle.serde_json.specs.Written.{compact_text}
 use Rattle.lei_code.specs.Texts.{Lei, Text}
 use Rattle.register_judge.specs.declared.outcome.Verdict.{Verdict}
 use Rattle.lei_records.specs.Checks.{IsNumber, check_text}
+use Rattle.upload_ledger.specs.declared.totals.Totals.{Totals}
 
 -- what is answered when an issuer is accredited by the entry of this number
 abbrev pub accreditation_answer : ℕ → Lei → Data
@@ -40,3 +41,19 @@ upload_answer entry issuer items upload =
 unfoldable pub upload_text : ℕ → Lei → ℕ → List Verdict → Text
 upload_text entry issuer upload verdicts =
     compact_text (upload_answer entry issuer (strings (map verdict_text verdicts)) upload)
+
+-- what is answered of the numbers of entries, issuers, bytes of bodies and publications, and of the numbers of
+-- records, relationships and exceptions that are held; annulled relationships are counted
+abbrev pub status_answer : Totals → ℕ × ℕ × ℕ → Data
+status_answer totals held =
+    object (member (codes "entries") (number (unsigned totals.entries))
+    (member (codes "exceptions") (number (unsigned held.2))
+    (member (codes "issuers") (number (unsigned totals.issuers))
+    (member (codes "keptBytes") (number (unsigned totals.kept_bytes))
+    (member (codes "publications") (number (unsigned totals.publications))
+    (member (codes "records") (number (unsigned held.0))
+    (member (codes "relationships") (number (unsigned held.1)) no_members)))))))
+
+-- its text
+unfoldable pub status_text : Totals → ℕ × ℕ × ℕ → Text
+status_text totals held = compact_text (status_answer totals held)

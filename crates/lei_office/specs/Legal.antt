@@ -7,12 +7,12 @@ use Rattle.lei_outside.specs.declared.entry.KeptEntry.{KeptEntry}
 use Rattle.lei_office.specs.declared.request.Asked.{Asked}
 use Rattle.lei_office.specs.declared.request.Asked.TheVariants.{Ask, Refuse}
 use Rattle.lei_office.specs.declared.request.Request.{Request}
-use Rattle.lei_office.specs.declared.request.Request.TheVariants.{Accredit, Show, Upload}
+use Rattle.lei_office.specs.declared.request.Request.TheVariants.{Accredit, Kept, Show, Status, Upload}
 use Rattle.lei_office.specs.declared.reply.Refusal.TheVariants.{NoMemory}
 use Rattle.lei_office.specs.declared.reply.Reply.{Reply}
 use Rattle.lei_office.specs.declared.reply.Reply.TheVariants.{Words}
 use Rattle.lei_office.specs.declared.limits.Limits.{Limits}
-use Rattle.lei_office.specs.History.{History, is_accreditation, is_upload, upload_at}
+use Rattle.upload_ledger.specs.History.{History, is_accreditation, is_upload, upload_at}
 use Rattle.lei_office.specs.Limits.{IsFrom1To, number_limit}
 use Rattle.lei_office.specs.State.{OfficeState, office_of}
 use Rattle.lei_office.specs.Replies.{adds, next, outcome, reply, Step}
@@ -25,13 +25,17 @@ IsUploadNumber number = IsFrom1To number_limit number
 abbrev pub IsNumbered : Request → Type 0
 IsNumbered (Accredit issuer) = Unit {0}
 IsNumbered (Upload call) = IsUploadNumber call.number
+IsNumbered (Kept issuer number) = IsUploadNumber number
 IsNumbered (Show lei) = Unit {0}
+IsNumbered Status = Unit {0}
 
 -- a request as readers make it: each LEI that it names is one, and its number lies in its range
 abbrev pub IsRequest : Request → Type 0
 IsRequest (Accredit issuer) = IsValid issuer
 IsRequest (Upload call) = IsValid call.office × IsUploadNumber call.number
+IsRequest (Kept issuer number) = IsValid issuer × IsUploadNumber number
 IsRequest (Show lei) = IsValid lei
+IsRequest Status = Unit {0}
 
 -- the request that an entry was taken for
 abbrev pub request_of : KeptEntry → Option Request
@@ -71,7 +75,9 @@ UploadsAreNumbered history =
 abbrev pub TakesMemoryToRead : Request → Type 0
 TakesMemoryToRead (Accredit issuer) = ⊥
 TakesMemoryToRead (Upload call) = Unit {0}
+TakesMemoryToRead (Kept issuer number) = ⊥
 TakesMemoryToRead (Show lei) = ⊥
+TakesMemoryToRead Status = ⊥
 
 -- A refusal of the reader is its own reply, and takes no moment. A request takes one, and makes a step. Where there
 -- was no memory to read an upload, that is answered in place of its step: no moment is taken, and nothing changes.

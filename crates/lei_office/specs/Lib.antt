@@ -1,12 +1,10 @@
 pub mod Shown
 pub mod Limits
-pub mod History
 pub mod State
 pub mod Answers
 pub mod Register
 pub mod Replies
 pub mod Legal
-pub mod Places
 pub mod Judging
 pub mod Parties
 pub mod Words

@@ -1,18 +1,11 @@
 -- What an office takes at most. This project's profile.
 use Rattle.std.specs.Prelude.{ℕ, ◌≤◌}
+use Rattle.upload_ledger.specs.Limits.{entry_limit, kept_limit}
 use Rattle.lei_office.specs.declared.limits.Limits.{Limits}
 
 -- an upload's body has at most 4,194,304 bytes (4 MiB)
 abbrev pub body_limit : ℕ
 body_limit = 4_194_304
-
--- the bodies that are kept have at most 2,147,483,648 bytes together (2 GiB)
-abbrev pub kept_limit : ℕ
-kept_limit = 2_147_483_648
-
--- a history has at most 10,000,000 entries
-abbrev pub entry_limit : ℕ
-entry_limit = 10_000_000
 
 -- at most 500,000 records are held
 abbrev pub record_limit : ℕ
@@ -22,7 +15,7 @@ record_limit = 500_000
 abbrev pub number_limit : ℕ
 number_limit = 1_000_000
 
--- the standard limits
+-- the standard limits; those on the bodies that are kept and on the entries are what a ledger keeps at most
 abbrev pub standard : Limits
 standard = record { body = body_limit; kept = kept_limit; entries = entry_limit; records = record_limit }
 

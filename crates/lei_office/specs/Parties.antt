@@ -16,7 +16,7 @@ use Rattle.register_judge.specs.Taking.{verdict, writes_of}
 use Rattle.register_judge.specs.declared.outcome.Verdict.{Verdict}
 use Rattle.register_table.specs.Lists.{no_rows}
 use Rattle.lei_office.specs.declared.limits.Limits.{Limits}
-use Rattle.lei_office.specs.History.{History, is_upload}
+use Rattle.upload_ledger.specs.History.{History, is_upload}
 use Rattle.lei_office.specs.Register.{after, after_entry, items_of}
 use Rattle.lei_office.specs.State.{OfficeState}
 

@@ -11,7 +11,7 @@ use Rattle.lei_records.specs.declared.item.Readied.{Readied}
 use Rattle.register_judge.specs.Taking.{Taken, take}
 use Rattle.register_table.specs.Lists.{no_rows}
 use Rattle.lei_office.specs.declared.limits.Limits.{Limits}
-use Rattle.lei_office.specs.History.{History, is_upload}
+use Rattle.upload_ledger.specs.History.{History, is_upload}
 
 -- the items of a body after the checks of their fields, none of a body that is no upload
 abbrev pub items_in : Result (List RawItem) Malformed → List Readied

@@ -1,5 +1,6 @@
 -- What is answered to a request, and what is added for it: both are read off one outcome.
-use Rattle.std.specs.Prelude.{◌≡◌, ◌⊎◌, ℕ, ℤ, ◌+◌, List, [], ◌∷◌, ◌++◌, length, map, Bool, true, false, nat_lt, if◌then◌else◌, IsTrue, Option, Some, None, Result, Ok, Err}
+use Rattle.std.specs.Prelude.{◌≡◌, ◌⊎◌, ℕ, ℤ, ◌+◌, List, [], ◌∷◌, ◌++◌, length, map, Bool, true, false, ◌||◌, ◌==◌, nat_lt, nat_le, is_some, if◌then◌else◌, IsTrue, Option, Some, None, Result, Ok, Err}
+use Rattle.std.specs.FinMap.{len}
 use Rattle.lei_code.specs.Texts as texts
 use Rattle.lei_code.specs.Texts.{Lei}
 use Rattle.lei_outside.specs.declared.entry.KeptEntry.{KeptEntry}
@@ -9,7 +10,7 @@ use Rattle.upload_format.specs.declared.fault.Malformed.{Malformed}
 use Rattle.lei_shapes.specs.Moment.{day_of}
 use Rattle.lei_records.specs.Items.{ready}
 use Rattle.lei_records.specs.Rows.{Row}
-use Rattle.lei_records.specs.Tables.{row_at}
+use Rattle.lei_records.specs.Tables.{Table, row_at}
 use Rattle.lei_records.specs.declared.item.RawItem.{RawItem}
 use Rattle.register_judge.specs.Taking.{take}
 use Rattle.register_judge.specs.declared.outcome.Verdict.{Verdict}
@@ -18,12 +19,12 @@ use Rattle.lei_office.specs.declared.request.Request.{Request}
 use Rattle.lei_office.specs.declared.request.Request.TheVariants as requests
 use Rattle.lei_office.specs.declared.reply.Kind.TheVariants.{Json}
 use Rattle.lei_office.specs.declared.reply.Refusal.{Refusal}
-use Rattle.lei_office.specs.declared.reply.Refusal.TheVariants.{TooLong, NoRoute, Path, IssuerUnknown, NumberTaken, NumberAhead, LeiUnknown, NoMemory}
+use Rattle.lei_office.specs.declared.reply.Refusal.TheVariants.{TooLong, NoRoute, Path, IssuerUnknown, NumberTaken, NumberAhead, LedgerFull, NotKept, LeiUnknown, NoMemory}
 use Rattle.lei_office.specs.declared.reply.Refusal.TheVariants as refusals
 use Rattle.lei_office.specs.declared.reply.Reply.{Reply}
 use Rattle.lei_office.specs.declared.reply.Reply.TheVariants.{Text, Words}
-use Rattle.lei_office.specs.History.{History, accredited, Place, unknown_issuer, repeat_of, number_taken, ahead, fresh, place, stamp}
-use Rattle.lei_office.specs.Answers.{accreditation_text, upload_text}
+use Rattle.upload_ledger.specs.History.{History, accredited, kept, kept_bytes, Place, unknown_issuer, repeat_of, number_taken, ahead, fresh, place, stamp, totals}
+use Rattle.lei_office.specs.Answers.{accreditation_text, status_text, upload_text}
 use Rattle.lei_office.specs.Register.{after}
 use Rattle.lei_office.specs.State.{OfficeState}
 use Rattle.lei_office.specs.Shown.{record_text}
@@ -33,13 +34,18 @@ pub data Outcome : Type 0 where
   stays : Reply → Outcome
   adds : KeptEntry → Outcome
 
--- a text of JSON, as it is answered
-abbrev pub json_reply : texts.Text → Reply
-json_reply text = Text 200 Json text
+-- The status code of the reply that tells an entry of this kind, after those of HTTP (RFC 9110): 201 of a publication,
+-- 200 of any other.
+abbrev pub kind_status_code : ℕ → ℕ
+kind_status_code kind = if kind == 3 then 201 else 200
+
+-- a text of JSON, as it is answered with this status code
+abbrev pub json_reply : ℕ → texts.Text → Reply
+json_reply code text = Text code Json text
 
 -- the reply that an entry's answer makes
 abbrev pub told : KeptEntry → Reply
-told e = json_reply e.answer
+told e = json_reply (kind_status_code e.kind) e.answer
 
 -- ---- what a request adds, at the moment of the new entry
 
@@ -82,20 +88,31 @@ taken_upload office call moment raws =
 
 -- ---- what a request comes to
 
--- an issuer that is accredited gets the answer from then
-abbrev pub accredit_outcome : History → Lei → ℤ → Option texts.Text → Outcome
-accredit_outcome history issuer moment None = adds (accreditation history issuer moment)
-accredit_outcome history issuer moment (Some text) = stays (json_reply text)
+-- there are as many entries as the limit
+abbrev pub is_full : OfficeState → Bool
+is_full office = nat_le office.limits.entries (length office.history)
 
--- a body that is no upload takes no number
+-- the bodies that are kept would have more bytes than the limit, with this one
+abbrev pub is_too_much : OfficeState → texts.Body → Bool
+is_too_much office body = nat_lt office.limits.kept (kept_bytes office.history + length body)
+
+-- an issuer that is accredited gets the answer from then
+abbrev pub accredit_outcome : OfficeState → Lei → ℤ → Option texts.Text → Outcome
+accredit_outcome office issuer moment None =
+    if is_full office then stays (Words LedgerFull) else adds (accreditation office.history issuer moment)
+accredit_outcome office issuer moment (Some text) = stays (json_reply (kind_status_code 1) text)
+
+-- a body that is no upload takes no number, and neither does one for which there is no room
 abbrev pub body_outcome : OfficeState → Call → ℤ → Result (List RawItem) Malformed → Outcome
-body_outcome office call moment (Ok raws) = adds (taken_upload office call moment raws)
+body_outcome office call moment (Ok raws) =
+    if is_full office || is_too_much office call.body then stays (Words LedgerFull)
+    else adds (taken_upload office call moment raws)
 body_outcome office call moment (Err fault) = stays (Words (refusals.Malformed fault))
 
 -- a repeat gets the answer that was kept, at any later place
 abbrev pub place_outcome : OfficeState → Call → ℤ → Place → Outcome
 place_outcome office call moment unknown_issuer = stays (Words IssuerUnknown)
-place_outcome office call moment (repeat_of answer) = stays (json_reply answer)
+place_outcome office call moment (repeat_of answer) = stays (json_reply (kind_status_code 2) answer)
 place_outcome office call moment number_taken = stays (Words NumberTaken)
 place_outcome office call moment (ahead next) = stays (Words (NumberAhead next))
 place_outcome office call moment fresh = body_outcome office call moment (upload call.body)
@@ -106,17 +123,38 @@ upload_outcome office call moment =
     if nat_lt office.limits.body (length call.body) then stays (Words TooLong)
     else place_outcome office call moment (place office.history call.office call.number call.body)
 
+-- an upload's answer is told as it was kept
+abbrev pub answer_outcome : Option texts.Text → Outcome
+answer_outcome None = stays (Words NotKept)
+answer_outcome (Some text) = stays (json_reply (kind_status_code 2) text)
+
+-- of an accredited issuer
+abbrev pub kept_outcome : History → Lei → ℕ → Outcome
+kept_outcome history issuer number =
+    if is_some (accredited history issuer) then answer_outcome (kept history issuer number)
+    else stays (Words IssuerUnknown)
+
 -- a record is shown as it is held
 abbrev pub show_outcome : Option Row → Outcome
 show_outcome None = stays (Words LeiUnknown)
-show_outcome (Some row) = stays (json_reply (record_text row))
+show_outcome (Some row) = stays (json_reply 200 (record_text row))
+
+-- how many records, relationships and exceptions a table has
+abbrev pub held_counts : Table → ℕ × ℕ × ℕ
+held_counts table = (len table.records, len table.relations, len table.exceptions)
+
+-- the numbers of what is kept, and of what is held
+abbrev pub status_outcome : History → Table → Outcome
+status_outcome history table = stays (json_reply 200 (status_text (totals history) (held_counts table)))
 
 -- what a request comes to, where an entry that is added has this moment
 abbrev pub outcome_at : OfficeState → Request → ℤ → Outcome
 outcome_at office (requests.Accredit issuer) moment =
-    accredit_outcome office.history issuer moment (accredited office.history issuer)
+    accredit_outcome office issuer moment (accredited office.history issuer)
 outcome_at office (requests.Upload call) moment = upload_outcome office call moment
+outcome_at office (requests.Kept issuer number) moment = kept_outcome office.history issuer number
 outcome_at office (requests.Show lei) moment = show_outcome (row_at (after office.limits office.history) lei)
+outcome_at office requests.Status moment = status_outcome office.history (after office.limits office.history)
 
 -- the same where the request comes at this moment of the clock
 abbrev pub outcome : OfficeState → Request → ℤ → Outcome
@@ -148,34 +186,45 @@ next office request moment = next_of office (outcome office request moment)
 
 -- ---- one step, which want of memory may stop
 
--- the refusals that are found in what is kept, with no memory
-abbrev pub needs_memory : Refusal → Bool
-needs_memory TooLong = false
-needs_memory NoRoute = false
-needs_memory Path = false
-needs_memory IssuerUnknown = false
-needs_memory NumberTaken = false
-needs_memory (NumberAhead k) = false
-needs_memory (refusals.Malformed fault) = true
-needs_memory LeiUnknown = false
-needs_memory NoMemory = true
+-- An upload is refused for a full ledger once its body was read, and an accreditation at once.
+abbrev pub full_needs_memory : Request → Bool
+full_needs_memory (requests.Accredit issuer) = false
+full_needs_memory (requests.Upload call) = true
+full_needs_memory (requests.Kept issuer number) = false
+full_needs_memory (requests.Show lei) = false
+full_needs_memory requests.Status = false
 
--- a reply whose making takes memory
-abbrev pub takes_memory : Reply → Bool
-takes_memory (Text code kind text) = true
-takes_memory (Words refusal) = needs_memory refusal
+-- The others but for a malformed body are found in what is kept, with no memory.
+abbrev pub needs_memory : Request → Refusal → Bool
+needs_memory request TooLong = false
+needs_memory request NoRoute = false
+needs_memory request Path = false
+needs_memory request IssuerUnknown = false
+needs_memory request NumberTaken = false
+needs_memory request (NumberAhead k) = false
+needs_memory request (refusals.Malformed fault) = true
+needs_memory request LedgerFull = full_needs_memory request
+needs_memory request NotKept = false
+needs_memory request LeiUnknown = false
+needs_memory request NoMemory = true
+
+-- a reply to this request whose making takes memory
+abbrev pub takes_memory : Request → Reply → Bool
+takes_memory request (Text code kind text) = true
+takes_memory request (Words refusal) = needs_memory request refusal
 
 -- The request's reply, and the office after it. Where the reply takes memory, its want may be answered in its
 -- place, and then nothing changes.
-abbrev pub StepOf : Outcome → OfficeState → Reply → OfficeState → Type 0
-StepOf outcome old answered new = ((answered ≡ reply_of outcome) × (new ≡ next_of old outcome))
-    ⊎ ((answered ≡ Words NoMemory) × (new ≡ old) × IsTrue (takes_memory (reply_of outcome)))
+abbrev pub StepOf : Request → Outcome → OfficeState → Reply → OfficeState → Type 0
+StepOf request outcome old answered new = ((answered ≡ reply_of outcome) × (new ≡ next_of old outcome))
+    ⊎ ((answered ≡ Words NoMemory) × (new ≡ old) × IsTrue (takes_memory request (reply_of outcome)))
 
 -- a request that comes at a moment of the clock makes such a step
 abbrev pub Step : OfficeState → Request → ℤ → Reply → OfficeState → Type 0
-Step old request moment answered new = StepOf (outcome old request moment) old answered new
+Step old request moment answered new = StepOf request (outcome old request moment) old answered new
 
--- what a part of an office answers: the reply and the history after it, or want of memory where the reply takes it
-abbrev pub Comes : Outcome → History → Result Reply NoMemoryError → History → Type 0
-Comes outcome old (Ok answered) new = (answered ≡ reply_of outcome) × (new ≡ history_after old outcome)
-Comes outcome old (Err wanted) new = (new ≡ old) × IsTrue (takes_memory (reply_of outcome))
+-- what a part of an office answers to a request: the reply and the history after it, or want of memory where the
+-- reply takes it
+abbrev pub Comes : Request → Outcome → History → Result Reply NoMemoryError → History → Type 0
+Comes request outcome old (Ok answered) new = (answered ≡ reply_of outcome) × (new ≡ history_after old outcome)
+Comes request outcome old (Err wanted) new = (new ≡ old) × IsTrue (takes_memory request (reply_of outcome))

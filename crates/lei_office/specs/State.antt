@@ -1,7 +1,7 @@
 -- An office as contracts see it: its limits, and the history of what it took.
 use Rattle.std.specs.Prelude.{[]}
 use Rattle.lei_office.specs.declared.limits.Limits.{Limits}
-use Rattle.lei_office.specs.History.{History}
+use Rattle.upload_ledger.specs.History.{History}
 
 -- the state of an office
 pub record OfficeState : Type 0 where

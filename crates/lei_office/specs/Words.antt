@@ -4,7 +4,7 @@ use Rattle.lei_code.specs.Texts.{Text}
 use Rattle.upload_format.specs.declared.fault.Malformed.{Malformed}
 use Rattle.upload_format.specs.declared.fault.Malformed.TheVariants.{NotJson, NotAnUpload, NoItems, TooManyItems}
 use Rattle.lei_office.specs.declared.reply.Refusal.{Refusal}
-use Rattle.lei_office.specs.declared.reply.Refusal.TheVariants.{TooLong, NoRoute, Path, IssuerUnknown, NumberTaken, NumberAhead, LeiUnknown, NoMemory}
+use Rattle.lei_office.specs.declared.reply.Refusal.TheVariants.{TooLong, NoRoute, Path, IssuerUnknown, NumberTaken, NumberAhead, LedgerFull, NotKept, LeiUnknown, NoMemory}
 use Rattle.lei_office.specs.declared.reply.Refusal.TheVariants as refusals
 use Rattle.lei_office.specs.declared.reply.Reply.{Reply}
 use Rattle.lei_office.specs.declared.reply.Reply.TheVariants as replies
@@ -18,6 +18,8 @@ refusal_status_code IssuerUnknown = 404
 refusal_status_code NumberTaken = 409
 refusal_status_code (NumberAhead k) = 409
 refusal_status_code (refusals.Malformed fault) = 400
+refusal_status_code LedgerFull = 507
+refusal_status_code NotKept = 404
 refusal_status_code LeiUnknown = 404
 refusal_status_code NoMemory = 500
 
@@ -37,6 +39,8 @@ refusal_name IssuerUnknown = codes "ISSUER_UNKNOWN"
 refusal_name NumberTaken = codes "NUMBER_TAKEN"
 refusal_name (NumberAhead k) = codes "NUMBER_AHEAD"
 refusal_name (refusals.Malformed fault) = malformed_name fault
+refusal_name LedgerFull = codes "LEDGER_FULL"
+refusal_name NotKept = codes "NOT_KEPT"
 refusal_name LeiUnknown = codes "LEI_UNKNOWN"
 refusal_name NoMemory = codes "NO_MEMORY"
 
@@ -49,6 +53,8 @@ refusal_number IssuerUnknown = None
 refusal_number NumberTaken = None
 refusal_number (NumberAhead k) = Some k
 refusal_number (refusals.Malformed fault) = None
+refusal_number LedgerFull = None
+refusal_number NotKept = None
 refusal_number LeiUnknown = None
 refusal_number NoMemory = None
 

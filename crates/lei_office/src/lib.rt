@@ -1,9 +1,9 @@
 //! The office of the register: what it answers to requests, and what it keeps of them.
 #![tactic(auto)]
 
+mod entries;
 mod judge;
 mod laws;
-mod ledger;
 mod limits;
 mod office;
 mod reply;
@@ -11,13 +11,14 @@ mod request;
 mod show;
 mod texts;
 
+pub use entries::RULES;
 pub use laws::{
     changes_are_permitted, changes_make_records, exceptions_stand_apart, moments_never_fall,
     parents_are_chained, registers_are_sound, sessions_are_exact, successors_are_chained,
     uploads_are_numbered, verdicts_are_told,
 };
-pub use ledger::{ACCREDIT, RULES, UPLOAD};
 pub use limits::Limits;
 pub use office::Office;
 pub use reply::{Kind, Refusal, Reply};
 pub use request::{Asked, Call, MAX_NUMBER, Request, is_upload_number};
+pub use upload_ledger::{ACCREDIT, UPLOAD};

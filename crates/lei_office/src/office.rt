@@ -6,30 +6,32 @@ ghost use Rattle.lei_records.specs.Tables.{IsSound, row_at};
 ghost use Rattle.successor_rules.specs.Successors.{HasChains};
 ghost use Rattle.relation_rules.specs.Parents.{AreApart, HasParents};
 ghost use Rattle.upload_format.specs.Bodies.{upload as items_of};
-ghost use Rattle.lei_office.specs.History.{History, accredited};
-ghost use Rattle.lei_office.specs.Replies.{Comes, Step, json_reply, outcome_at, show_outcome, accreditation, accredit_outcome, upload_entry, body_outcome, upload_outcome};
-ghost use Rattle.lei_office.specs.Legal.{IsNumbered, IsRequest, Legal};
+ghost use Rattle.upload_ledger.specs.History.{History, accredited};
+ghost use Rattle.upload_ledger.specs.Limits.{AreFew};
+ghost use Rattle.lei_office.specs.declared.request.Request.TheVariants.{Accredit, Kept, Show, Status, Upload};
+ghost use Rattle.lei_office.specs.Replies.{Comes, Step, accredit_outcome, body_outcome, is_full, is_too_much, json_reply, kept_outcome, outcome_at, show_outcome, status_outcome, told, upload_outcome};
+ghost use Rattle.lei_office.specs.Legal.{IsNumbered, IsRequest, Legal, MomentsNeverFall, UploadsAreNumbered};
 ghost use Rattle.lei_office.specs.Limits.{AreLimits};
 ghost use Rattle.lei_office.specs.Parties.{ChangesArePermitted};
 ghost use Rattle.lei_office.specs.Register.{after};
 ghost use Rattle.lei_office.specs.State.{office_of, opened};
 
+use crate::entries::{accreditation, stamp, taken_upload};
 use crate::judge::judge;
-use crate::ledger::{ACCREDIT, Place, RULES, UPLOAD, accredited, place_of, stamp};
 use crate::limits::Limits;
 use crate::reply::{Kind, Refusal, Reply};
 use crate::request::{Call, Request};
 use crate::show::record_text;
-use crate::texts::{accreditation_text, upload_text};
+use crate::texts::status_text;
 use lei_code::Lei;
 use lei_outside::{Bytes, KeptEntry, NoMemory};
 use lei_shapes::Moment;
-use register_judge::Verdict;
 use register_table::Table;
 use std::alloc::Global;
 use std::marker::Model;
 use std::thread::Threads;
 use upload_format::{UploadFault, read_upload};
+use upload_ledger::{Ledger, PUBLISH, Place};
 
 /// The register of one caller at a time. Contracts see it as its limits with its history, the list of the entries
 /// that it took.
@@ -37,7 +39,7 @@ use upload_format::{UploadFault, read_upload};
 pub struct Office {
     alloc: Global,
     limits: Limits,
-    entries: Vec<KeptEntry>,
+    ledger: Ledger,
     table: Table,
 }
 
@@ -50,10 +52,10 @@ impl Model for Office {
 
     ghost Value = { OfficeState };
 
-    ghost view = { λ office. office_of office.limits office.entries.items };
+    ghost view = { λ office. office_of office.limits office.ledger.entries };
 
-    ghost invariant = { λ office. AreLimits office.limits × Legal (office_of office.limits office.entries.items)
-        × (office.table ≡ after office.limits office.entries.items) };
+    ghost invariant = { λ office. AreLimits office.limits × Legal (office_of office.limits office.ledger.entries)
+        × (office.table ≡ after office.limits office.ledger.entries) };
 }
 
 impl Office {
@@ -65,7 +67,7 @@ impl Office {
         Ok(Office {
             alloc,
             limits,
-            entries: Vec::new(alloc),
+            ledger: Ledger::new(alloc)?,
             table: Table::new(alloc)?,
         })
     }
@@ -89,17 +91,12 @@ impl Office {
         ensures parents { HasParents (after self.new.limits self.new.history) }
         ensures apart { AreApart (after self.new.limits self.new.history) }
         ensures permitted { ChangesArePermitted self.new }
+        ensures moments { MomentsNeverFall self.new.history }
+        ensures uploads { UploadsAreNumbered self.new.history }
     {
-        let moment = stamp(self.entries.as_slice(), moment);
-        let (limits, entries) = (self.limits, &mut self.entries);
-        match reply_to(
-            self.alloc,
-            limits,
-            entries,
-            &mut self.table,
-            request,
-            moment,
-        ) {
+        let moment = stamp(self.ledger.entries(), moment);
+        let (limits, ledger) = (self.limits, &mut self.ledger);
+        match reply_to(self.alloc, limits, ledger, &mut self.table, request, moment) {
             Ok(reply) => reply,
             Err(NoMemory) => Reply::Words(Refusal::NoMemory),
         }
@@ -111,122 +108,165 @@ impl Office {
 fn reply_to(
     alloc: Global,
     limits: Limits,
-    entries: &mut Vec<KeptEntry>,
+    ledger: &mut Ledger,
     table: &mut Table,
     request: &Request,
     moment: i64,
 ) -> Result<Reply, NoMemory>
+    requires limits { AreLimits limits }
     requires numbered { IsNumbered request.now }
     requires moment { IsMoment moment }
-    requires table { table.old ≡ after limits entries.old.items }
-    ensures step { Comes (outcome_at (office_of limits entries.old.items) request.now moment)
-        entries.old.items result entries.new.items }
-    ensures table { table.new ≡ after limits entries.new.items }
+    requires table { table.old ≡ after limits ledger.old.entries }
+    ensures step { Comes request.now (outcome_at (office_of limits ledger.old.entries) request.now moment)
+        ledger.old.entries result ledger.new.entries }
+    ensures table { table.new ≡ after limits ledger.new.entries }
     ensures request { IsRequest request.now }
 {
     match request {
-        Request::Accredit(issuer) => accredit(alloc, entries, issuer, moment),
-        Request::Upload(call) => upload(alloc, limits, entries, table, call, moment),
+        Request::Accredit(issuer) => accredit(alloc, limits, ledger, issuer, moment),
+        Request::Upload(call) => upload(alloc, limits, ledger, table, call, moment),
+        Request::Kept(issuer, number) => kept(alloc, ledger, issuer, *number),
         Request::Show(lei) => show(alloc, table, lei),
+        Request::Status => status(alloc, ledger, table),
     }
 }
 
-// A text that is kept, as it is answered.
-fn kept_reply(alloc: Global, text: &[u8]) -> Result<Reply, NoMemory>
-    ensures { IfOk result (λ reply. reply ≡ json_reply text.now) }
-{
-    Ok(json_reply(Bytes::copy_of(alloc, text)?))
-}
-
-fn json_reply(text: Bytes) -> Reply
-    ensures { result ≡ json_reply text }
+fn json_reply(code: u16, text: Bytes) -> Reply
+    ensures { result ≡ json_reply code text }
 {
     Reply::Text {
-        code: 200,
+        code,
         kind: Kind::Json,
         text,
     }
 }
 
+// A text that is kept of an accreditation or an upload, as it is answered.
+fn kept_reply(alloc: Global, text: &[u8]) -> Result<Reply, NoMemory>
+    ensures { IfOk result (λ reply. reply ≡ json_reply 200 text.now) }
+{
+    Ok(json_reply(200, Bytes::copy_of(alloc, text)?))
+}
+
+// The reply that an entry's answer makes.
+fn told(alloc: Global, entry: &KeptEntry) -> Result<Reply, NoMemory>
+    ensures { IfOk result (λ reply. reply ≡ told entry.now) }
+{
+    let code = if entry.kind == PUBLISH { 201 } else { 200 };
+    Ok(json_reply(code, Bytes::copy_of(alloc, entry.answer.as_slice())?))
+}
+
 // Shows the record of this LEI, and changes nothing.
 fn show(alloc: Global, table: &Table, lei: &Lei) -> Result<Reply, NoMemory>
-    ensures step { (history : History) → Comes (show_outcome (row_at table.now lei.now)) history result history }
+    ensures step { (history : History)
+        → Comes (Show lei.now) (show_outcome (row_at table.now lei.now)) history result history }
     ensures lei { IsValid lei.now }
 {
     // What is asked for is an LEI.
     let _ = lei.as_bytes();
     match table.show(lei) {
-        Some(record) => Ok(json_reply(record_text(alloc, record)?)),
+        Some(record) => Ok(json_reply(200, record_text(alloc, record)?)),
         None => Ok(Reply::Words(Refusal::LeiUnknown)),
     }
 }
 
+// Tells what was answered to the issuer's upload of this number, and changes nothing.
+fn kept(alloc: Global, ledger: &Ledger, issuer: &Lei, number: u32) -> Result<Reply, NoMemory>
+    ensures step { Comes (Kept issuer.now number) (kept_outcome ledger.now.entries issuer.now number)
+        ledger.now.entries result ledger.now.entries }
+    ensures lei { IsValid issuer.now }
+{
+    // What is asked for is an LEI.
+    let _ = issuer.as_bytes();
+    if ledger.accredited(issuer).is_none() {
+        return Ok(Reply::Words(Refusal::IssuerUnknown));
+    }
+    match ledger.kept(issuer, number) {
+        Some(text) => kept_reply(alloc, text),
+        None => Ok(Reply::Words(Refusal::NotKept)),
+    }
+}
+
+// Tells how much is kept and held, and changes nothing.
+fn status(alloc: Global, ledger: &Ledger, table: &Table) -> Result<Reply, NoMemory>
+    ensures { Comes Status (status_outcome ledger.now.entries table.now) ledger.now.entries result ledger.now.entries }
+{
+    let text = status_text(alloc, ledger.totals(), table.counts())?;
+    Ok(json_reply(200, text))
+}
+
+// Whether there are as many entries as the limit.
+fn is_full(limits: Limits, ledger: &Ledger) -> bool
+    ensures value { result ≡ is_full (office_of limits ledger.now.entries) }
+    ensures few { AreFew ledger.now.entries }
+{
+    ledger.totals().entries >= limits.entries
+}
+
+// Whether the bodies that are kept would have more bytes than the limit, with this one.
+fn is_too_much(limits: Limits, ledger: &Ledger, body: &[u8]) -> bool
+    ensures { result ≡ is_too_much (office_of limits ledger.now.entries) body.now }
+{
+    ledger.totals().kept_bytes + body.len() as u64 > limits.kept
+}
+
 fn accredit(
     alloc: Global,
-    entries: &mut Vec<KeptEntry>,
+    limits: Limits,
+    ledger: &mut Ledger,
     issuer: &Lei,
     moment: i64,
 ) -> Result<Reply, NoMemory>
-    ensures step { Comes (accredit_outcome entries.old.items issuer.now moment (accredited entries.old.items issuer.now))
-        entries.old.items result entries.new.items }
+    requires limits { AreLimits limits }
+    ensures step { Comes (Accredit issuer.now)
+        (accredit_outcome (office_of limits ledger.old.entries) issuer.now moment
+        (accredited ledger.old.entries issuer.now))
+        ledger.old.entries result ledger.new.entries }
     ensures lei { IsValid issuer.now }
 {
-    if let Some(text) = accredited(entries, issuer.as_bytes()) {
+    // What is asked for is an LEI.
+    let _ = issuer.as_bytes();
+    if let Some(text) = ledger.accredited(issuer) {
         return kept_reply(alloc, text);
     }
-    let entry = accreditation(alloc, entries, issuer, moment)?;
-    let reply = kept_reply(alloc, entry.answer.as_slice())?;
-    entries.push(entry)?;
+    if is_full(limits, ledger) {
+        return Ok(Reply::Words(Refusal::LedgerFull));
+    }
+    let entry = accreditation(alloc, ledger.entries(), issuer, moment)?;
+    let reply = told(alloc, &entry)?;
+    ledger.reserve(&entry)?;
+    ledger.push_reserved(entry);
     Ok(reply)
-}
-
-fn accreditation(
-    alloc: Global,
-    entries: &[KeptEntry],
-    issuer: &Lei,
-    moment: i64,
-) -> Result<KeptEntry, NoMemory>
-    ensures { IfOk result (λ entry. entry ≡ accreditation entries.now issuer.now moment) }
-{
-    let seq = next_seq(entries)?;
-    Ok(KeptEntry {
-        seq,
-        kind: ACCREDIT,
-        office: Bytes::copy_of(alloc, issuer.as_bytes())?,
-        number: 0,
-        moment,
-        rules: RULES,
-        body: Bytes::copy_of(alloc, &[])?,
-        answer: accreditation_text(alloc, seq, issuer)?,
-    })
 }
 
 #[tactic(auto, unfolding(crate::specs::Replies::upload_outcome))]
 fn upload(
     alloc: Global,
     limits: Limits,
-    entries: &mut Vec<KeptEntry>,
+    ledger: &mut Ledger,
     table: &mut Table,
     call: &Call,
     moment: i64,
 ) -> Result<Reply, NoMemory>
+    requires limits { AreLimits limits }
     requires moment { IsMoment moment }
-    requires table { table.old ≡ after limits entries.old.items }
-    ensures step { Comes (upload_outcome (office_of limits entries.old.items) call.now moment)
-        entries.old.items result entries.new.items }
-    ensures table { table.new ≡ after limits entries.new.items }
+    requires table { table.old ≡ after limits ledger.old.entries }
+    ensures step { Comes (Upload call.now) (upload_outcome (office_of limits ledger.old.entries) call.now moment)
+        ledger.old.entries result ledger.new.entries }
+    ensures table { table.new ≡ after limits ledger.new.entries }
     ensures lei { IsValid call.now.office }
 {
-    let issuer = call.office.as_bytes();
+    // What sends it is named by an LEI.
+    let _ = call.office.as_bytes();
     if call.body.len() as u64 > limits.body {
         return Ok(Reply::Words(Refusal::TooLong));
     }
-    match place_of(entries, issuer, call.number, call.body.as_slice()) {
+    match ledger.place(&call.office, call.number, call.body.as_slice()) {
         Place::UnknownOffice => Ok(Reply::Words(Refusal::IssuerUnknown)),
         Place::Repeat(answer) => kept_reply(alloc, answer),
         Place::Taken => Ok(Reply::Words(Refusal::NumberTaken)),
         Place::Ahead(next) => Ok(Reply::Words(Refusal::NumberAhead(next))),
-        Place::Fresh => take_upload(alloc, limits, entries, table, call, moment),
+        Place::Fresh => take_upload(alloc, limits, ledger, table, call, moment),
     }
 }
 
@@ -234,57 +274,39 @@ fn upload(
 fn take_upload(
     alloc: Global,
     limits: Limits,
-    entries: &mut Vec<KeptEntry>,
+    ledger: &mut Ledger,
     table: &mut Table,
     call: &Call,
     moment: i64,
 ) -> Result<Reply, NoMemory>
+    requires limits { AreLimits limits }
     requires moment { IsMoment moment }
-    requires table { table.old ≡ after limits entries.old.items }
-    ensures step { Comes (body_outcome (office_of limits entries.old.items) call.now moment (items_of call.now.body))
-        entries.old.items result entries.new.items }
-    ensures table { table.new ≡ after limits entries.new.items }
+    requires table { table.old ≡ after limits ledger.old.entries }
+    ensures step { Comes (Upload call.now)
+        (body_outcome (office_of limits ledger.old.entries) call.now moment (items_of call.now.body))
+        ledger.old.entries result ledger.new.entries }
+    ensures table { table.new ≡ after limits ledger.new.entries }
 {
     let upload = match read_upload(alloc, call.body.as_slice()) {
         Ok(upload) => upload,
         Err(UploadFault::Malformed(fault)) => return Ok(Reply::Words(Refusal::Malformed(fault))),
         Err(UploadFault::NoMemory) => return Err(NoMemory),
     };
+    if is_full(limits, ledger) || is_too_much(limits, ledger, call.body.as_slice()) {
+        return Ok(Reply::Words(Refusal::LedgerFull));
+    }
     let (records, items) = (limits.records, upload.items.as_slice());
     let judged = judge(alloc, table, records, &call.office, moment, items)?;
-    let entry = taken_upload(alloc, entries, call, moment, judged.verdicts.as_slice())?;
-    let reply = kept_reply(alloc, entry.answer.as_slice())?;
-    entries.reserve(1)?;
-    table.apply(&judged.writes, entry.seq)?;
-    entries.push_reserved(entry);
-    Ok(reply)
-}
-
-fn taken_upload(
-    alloc: Global,
-    entries: &[KeptEntry],
-    call: &Call,
-    moment: i64,
-    verdicts: &[Verdict],
-) -> Result<KeptEntry, NoMemory>
-    ensures { IfOk result (λ entry. entry ≡ upload_entry entries.now call.now moment verdicts.now) }
-{
-    let seq = next_seq(entries)?;
-    Ok(KeptEntry {
-        seq,
-        kind: UPLOAD,
-        office: Bytes::copy_of(alloc, call.office.as_bytes())?,
-        number: call.number,
+    let entry = taken_upload(
+        alloc,
+        ledger.entries(),
+        call,
         moment,
-        rules: RULES,
-        body: Bytes::copy_of(alloc, call.body.as_slice())?,
-        answer: upload_text(alloc, seq, &call.office, call.number, verdicts)?,
-    })
-}
-
-// The number of the next entry.
-fn next_seq(entries: &[KeptEntry]) -> Result<u64, NoMemory>
-    ensures { IfOk result (λ seq. seq ≡ length entries.now + 1) }
-{
-    (entries.len() as u64).checked_add(1).ok_or(NoMemory)
+        judged.verdicts.as_slice(),
+    )?;
+    let reply = told(alloc, &entry)?;
+    ledger.reserve(&entry)?;
+    table.apply(&judged.writes, entry.seq)?;
+    ledger.push_reserved(entry);
+    Ok(reply)
 }

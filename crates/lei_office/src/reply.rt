@@ -26,6 +26,10 @@ pub enum Refusal {
     /// The number that the issuer's next upload has.
     NumberAhead(u32),
     Malformed(Malformed),
+    /// There are as many entries as the limit, or the bodies that are kept would be too long with this one.
+    LedgerFull,
+    /// The issuer has sent no upload of this number.
+    NotKept,
     /// No record of this LEI is held.
     LeiUnknown,
     NoMemory,
@@ -40,10 +44,12 @@ impl Refusal {
     {
         match self {
             Refusal::Path | Refusal::Malformed(_) => 400,
-            Refusal::NoRoute | Refusal::IssuerUnknown | Refusal::LeiUnknown => 404,
+            Refusal::NoRoute | Refusal::IssuerUnknown | Refusal::NotKept | Refusal::LeiUnknown =>
+                404,
             Refusal::NumberTaken | Refusal::NumberAhead(_) => 409,
             Refusal::TooLong => 413,
             Refusal::NoMemory => 500,
+            Refusal::LedgerFull => 507,
         }
     }
 
@@ -62,6 +68,8 @@ impl Refusal {
             Refusal::Malformed(Malformed::NotAnUpload) => "MALFORMED NOT_AN_UPLOAD",
             Refusal::Malformed(Malformed::NoItems) => "MALFORMED NO_ITEMS",
             Refusal::Malformed(Malformed::TooManyItems) => "MALFORMED TOO_MANY_ITEMS",
+            Refusal::LedgerFull => "LEDGER_FULL",
+            Refusal::NotKept => "NOT_KEPT",
             Refusal::LeiUnknown => "LEI_UNKNOWN",
             Refusal::NoMemory => "NO_MEMORY",
         }

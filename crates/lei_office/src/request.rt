@@ -31,8 +31,12 @@ pub enum Request {
     Accredit(Lei),
     /// To take an upload.
     Upload(Call),
+    /// To tell what was answered to the issuer's upload of this number.
+    Kept(Lei, u32),
     /// To show the record of this LEI.
     Show(Lei),
+    /// To tell how much is kept and held.
+    Status,
 }
 
 /// What a reader makes of a request's bytes: what is asked, or the refusal that is its reply.

@@ -1,13 +1,14 @@
 // The texts of answers.
 ghost use Rattle.std.specs.Prelude.{◌≡◌, IfOk, map, string_bytes};
 ghost use Rattle.serde_json.specs.View.{view, items_view};
-ghost use Rattle.lei_office.specs.Answers.{accreditation_answer, accreditation_text, upload_answer, upload_text, verdict_text, strings};
+ghost use Rattle.lei_office.specs.Answers.{accreditation_answer, accreditation_text, status_answer, status_text, upload_answer, upload_text, verdict_text, strings};
 
 use lei_code::Lei;
 use lei_outside::{Bytes, NoMemory};
 use register_judge::Verdict;
 use serde_json::{Value, json};
 use std::alloc::Global;
+use upload_ledger::Totals;
 
 // What is answered when the issuer is accredited by the entry of this number.
 pub fn accreditation_text(alloc: Global, entry: u64, issuer: &Lei) -> Result<Bytes, NoMemory>
@@ -53,6 +54,29 @@ fn upload_answer(
         "issuer": issuer.as_str(),
         "items": Value::Array(items),
         "number": number
+    })?)
+}
+
+// What is answered of the numbers of what is kept, and of the records, relationships and exceptions that are held.
+pub fn status_text(alloc: Global, totals: Totals, held: (u64, u64, u64)) -> Result<Bytes, NoMemory>
+    ensures { IfOk result (λ text. text ≡ status_text totals held) }
+{
+    let answer = status_answer(alloc, totals, held)?;
+    Ok(Bytes::from(answer.to_vec(alloc)?))
+}
+
+fn status_answer(alloc: Global, totals: Totals, held: (u64, u64, u64)) -> Result<Value, NoMemory>
+    ensures { IfOk result (λ answer. view answer ≡ status_answer totals held) }
+{
+    let (records, relationships, exceptions) = held;
+    Ok(json!(in alloc; {
+        "entries": totals.entries,
+        "exceptions": exceptions,
+        "issuers": totals.issuers,
+        "keptBytes": totals.kept_bytes,
+        "publications": totals.publications,
+        "records": records,
+        "relationships": relationships
     })?)
 }
 

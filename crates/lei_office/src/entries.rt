@@ -1,0 +1,81 @@
+// The entries that are added.
+ghost use Rattle.std.specs.Prelude.{◌≡◌, ◌+◌, length, IfOk};
+ghost use Rattle.lei_shapes.specs.Moment.{IsMoment};
+ghost use Rattle.upload_ledger.specs.History.{stamp};
+ghost use Rattle.lei_office.specs.Replies.{accreditation, upload_entry};
+
+use crate::request::Call;
+use crate::texts::{accreditation_text, upload_text};
+use lei_code::Lei;
+use lei_outside::{Bytes, KeptEntry, NoMemory};
+use lei_shapes::Moment;
+use register_judge::Verdict;
+use std::alloc::Global;
+use upload_ledger::{ACCREDIT, UPLOAD};
+
+/// The rules that uploads are judged by.
+pub const RULES: u16 = 1;
+
+// The moment of the next entry: the later of the clock's moment and the last entry's.
+pub fn stamp(entries: &[KeptEntry], moment: Moment) -> i64
+    ensures stamp { result ≡ stamp entries.now moment }
+    ensures moment { IsMoment moment }
+{
+    let seconds = moment.seconds();
+    match entries.last() {
+        Some(entry) => entry.moment.max(seconds),
+        None => seconds,
+    }
+}
+
+// An accreditation of the issuer.
+pub fn accreditation(
+    alloc: Global,
+    entries: &[KeptEntry],
+    issuer: &Lei,
+    moment: i64,
+) -> Result<KeptEntry, NoMemory>
+    ensures { IfOk result (λ entry. entry ≡ accreditation entries.now issuer.now moment) }
+{
+    let seq = next_seq(entries)?;
+    Ok(KeptEntry {
+        seq,
+        kind: ACCREDIT,
+        office: Bytes::copy_of(alloc, issuer.as_bytes())?,
+        number: 0,
+        moment,
+        rules: RULES,
+        body: Bytes::copy_of(alloc, &[])?,
+        answer: accreditation_text(alloc, seq, issuer)?,
+    })
+}
+
+// An upload of the issuer, with the verdicts on its items.
+pub fn taken_upload(
+    alloc: Global,
+    entries: &[KeptEntry],
+    call: &Call,
+    moment: i64,
+    verdicts: &[Verdict],
+) -> Result<KeptEntry, NoMemory>
+    ensures { IfOk result (λ entry. entry ≡ upload_entry entries.now call.now moment verdicts.now) }
+{
+    let seq = next_seq(entries)?;
+    Ok(KeptEntry {
+        seq,
+        kind: UPLOAD,
+        office: Bytes::copy_of(alloc, call.office.as_bytes())?,
+        number: call.number,
+        moment,
+        rules: RULES,
+        body: Bytes::copy_of(alloc, call.body.as_slice())?,
+        answer: upload_text(alloc, seq, &call.office, call.number, verdicts)?,
+    })
+}
+
+// The number of the next entry.
+fn next_seq(entries: &[KeptEntry]) -> Result<u64, NoMemory>
+    ensures { IfOk result (λ seq. seq ≡ length entries.now + 1) }
+{
+    (entries.len() as u64).checked_add(1).ok_or(NoMemory)
+}
