@@ -143,7 +143,7 @@ fn touched_in(
     let mut list = Vec::new(alloc);
     for (key, slot) in slots {
         if is_within(slot, after, upto) {
-            list.push(touched_of(alloc, &key.key, slot)?)?;
+            list.push(touched_of(&key.key, slot)?)?;
         }
     }
     Ok(list)

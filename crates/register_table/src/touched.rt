@@ -8,7 +8,6 @@ ghost use Rattle.register_table.specs.Touched.{is_touched};
 use crate::cells::Slot;
 use lei_outside::NoMemory;
 use lei_records::{Item, RowKey};
-use std::alloc::Global;
 
 /// A key that an entry touched, with the number of the entry that touched it last, and the item that is held under it,
 /// or none after a withdrawal.
@@ -26,12 +25,12 @@ pub fn is_within(slot: &Slot, after: u64, upto: u64) -> bool
     after < slot.entry && slot.entry <= upto
 }
 
-/// A slot under its key, in memory of its own.
-pub fn touched_of(alloc: Global, key: &RowKey, slot: &Slot) -> Result<Touched, NoMemory>
+/// A slot under its key, whose item shares its texts.
+pub fn touched_of(key: &RowKey, slot: &Slot) -> Result<Touched, NoMemory>
     ensures { IfOk result (λ touched. shown touched ≡ (cell_key key.now, cell_in slot.now)) }
 {
     let item = match &slot.item {
-        Some(item) => Some(item.copy(alloc)?),
+        Some(item) => Some(item.share()?),
         None => None,
     };
     Ok(Touched {

@@ -59,7 +59,7 @@ fn put_write(
     ensures capacity { vec_capacity notes.new ≡ vec_capacity notes.old }
     ensures len { vec_len notes.new ≤ vec_len notes.old + 1 }
 {
-    let slot = slot_of(alloc, &write.1, entry)?;
+    let slot = slot_of(&write.1, entry)?;
     let out = put(parts, write.0, slot)?;
     notes.push_reserved(Note {
         key: write.0,
@@ -68,12 +68,12 @@ fn put_write(
     Ok(())
 }
 
-// An item in memory of its own, with the number of the entry that puts it, or none.
-fn slot_of(alloc: Global, item: &Option<Item>, entry: u64) -> Result<Slot, NoMemory>
+// An item once more, with the number of the entry that puts it, or none.
+fn slot_of(item: &Option<Item>, entry: u64) -> Result<Slot, NoMemory>
     ensures { IfOk result (λ slot. (slot.item ≡ item.now) × (slot.entry ≡ entry)) }
 {
     let item = match item {
-        Some(item) => Some(item.copy(alloc)?),
+        Some(item) => Some(item.share()?),
         None => None,
     };
     Ok(Slot { entry, item })
