@@ -16,7 +16,7 @@ use Rattle.lei_shapes.specs.Moment.{IsMoment, day_of}
 use Rattle.register_judge.specs.Taking.{take}
 use Rattle.register_judge.specs.declared.outcome.Verdict.{Verdict}
 use Rattle.register_judge.proofs.TakingLemmas.{take-written}
-use Rattle.register_table.specs.Lists.{no_rows}
+use Rattle.register_table.specs.Held.{no_rows}
 use Rattle.lei_office.specs.declared.limits.Limits.{Limits}
 use Rattle.lei_office.specs.declared.request.Call.{Call}
 use Rattle.lei_office.specs.declared.request.Request.{Request}

@@ -7,3 +7,4 @@ pub mod Sessions
 pub mod Showing
 pub mod Telling
 pub mod Opening
+pub mod TableLemmas

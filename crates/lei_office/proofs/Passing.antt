@@ -21,7 +21,7 @@ use Rattle.status_rules.specs.declared.transitions.Party.{Party}
 use Rattle.register_judge.specs.Checks.{checks, is_another, c09, c10, c11, c12}
 use Rattle.register_judge.specs.Taking.{take, verdict, verdict_of, writes_of}
 use Rattle.register_judge.specs.declared.outcome.Verdict.{Verdict}
-use Rattle.register_table.specs.Lists.{no_rows}
+use Rattle.register_table.specs.Held.{no_rows}
 use Rattle.lei_office.specs.declared.limits.Limits.{Limits}
 use Rattle.upload_ledger.specs.History.{History, is_upload}
 use Rattle.lei_office.specs.Parties.{Change, ChangesArePermitted, ChangesMakeRecords, IsPermitted, changed, changes, changes_by, changes_from, entry_changes, item_changes}

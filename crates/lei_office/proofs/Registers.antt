@@ -40,7 +40,7 @@ use Rattle.register_judge.specs.declared.outcome.Outcome.{Outcome}
 use Rattle.register_judge.proofs.ChainLemmas.{take-chains}
 use Rattle.register_judge.proofs.ParentLemmas.{take-apart, take-parents}
 use Rattle.register_judge.proofs.TakingLemmas.{take-sound}
-use Rattle.register_table.specs.Lists.{no_rows}
+use Rattle.register_table.specs.Held.{no_rows}
 use Rattle.register_table.specs.Undos.{WriteList, AreOwn, IsOwn, MayApply, StaysKept}
 use Rattle.upload_ledger.specs.declared.ledger.TheConstants.{UPLOAD}
 use Rattle.lei_office.specs.declared.limits.Limits.{Limits}

@@ -14,7 +14,7 @@ use Rattle.status_rules.specs.Transitions.{party}
 use Rattle.status_rules.specs.declared.transitions.Party.{Party}
 use Rattle.register_judge.specs.Taking.{verdict, writes_of}
 use Rattle.register_judge.specs.declared.outcome.Verdict.{Verdict}
-use Rattle.register_table.specs.Lists.{no_rows}
+use Rattle.register_table.specs.Held.{no_rows}
 use Rattle.lei_office.specs.declared.limits.Limits.{Limits}
 use Rattle.upload_ledger.specs.History.{History, is_upload}
 use Rattle.lei_office.specs.Register.{after, after_entry, items_of}

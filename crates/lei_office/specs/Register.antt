@@ -1,5 +1,5 @@
 -- The register: the table that a history's uploads leave.
-use Rattle.std.specs.Prelude.{List, [], map, fold, if◌then◌else◌, Result, Ok, Err}
+use Rattle.std.specs.Prelude.{◌≡◌, ◌+◌, List, [], length, map, fold, if◌then◌else◌, Result, Ok, Err}
 use Rattle.lei_outside.specs.declared.entry.KeptEntry.{KeptEntry}
 use Rattle.lei_shapes.specs.Moment.{day_of}
 use Rattle.upload_format.specs.Bodies.{upload}
@@ -9,7 +9,8 @@ use Rattle.lei_records.specs.Tables.{Table}
 use Rattle.lei_records.specs.declared.item.RawItem.{RawItem}
 use Rattle.lei_records.specs.declared.item.Readied.{Readied}
 use Rattle.register_judge.specs.Taking.{Taken, take}
-use Rattle.register_table.specs.Lists.{no_rows}
+use Rattle.register_table.specs.Held.{TableState, no_rows, rows}
+use Rattle.register_table.specs.Undos.{IsLater}
 use Rattle.lei_office.specs.declared.limits.Limits.{Limits}
 use Rattle.upload_ledger.specs.History.{History, is_upload}
 
@@ -34,3 +35,9 @@ after_entry limits table e = if is_upload e then (take_items limits table e (ite
 -- the table after a history, from the one without records
 unfoldable pub after : Limits → History → Table
 after limits history = fold (after_entry limits) no_rows history
+
+-- The table that is kept after a history: its rows are those of the table after it, and no cell has a greater number than
+-- the last entry.
+pub record IsKeptAfter (limits : Limits) (history : History) (table : TableState) : Type 0 where
+  pub rows : rows table.held ≡ after limits history
+  pub numbers : IsLater (length history + 1) table.held

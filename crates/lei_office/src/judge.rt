@@ -4,6 +4,7 @@ ghost use Rattle.lei_shapes.specs.Moment.{IsMoment, day_of};
 ghost use Rattle.lei_records.specs.Items.{ready as ready_of};
 ghost use Rattle.lei_records.specs.Tables.{record_count};
 ghost use Rattle.register_judge.specs.Taking.{take};
+ghost use Rattle.register_table.specs.Held.{rows};
 ghost use Rattle.lei_office.specs.Judging.{ShowsTaken};
 
 use lei_code::Lei;
@@ -26,9 +27,9 @@ pub fn judge(
 ) -> Result<Outcome, NoMemory>
     requires count { length raws.now ≤ 5000 }
     requires moment { IsMoment moment }
-    requires fits { record_count table.now ≤ records }
+    requires fits { record_count (rows table.now.held) ≤ records }
     ensures { IfOk result (λ outcome.
-        ShowsTaken outcome (take table.now records (day_of moment) issuer.now (map ready_of raws.now))) }
+        ShowsTaken outcome (take (rows table.now.held) records (day_of moment) issuer.now (map ready_of raws.now))) }
 {
     let items = ready_all(alloc, raws)?;
     let room = records.saturating_sub(table.held());

@@ -13,7 +13,8 @@ ghost use Rattle.lei_office.specs.Replies.{Comes, Step, accredit_outcome, body_o
 ghost use Rattle.lei_office.specs.Legal.{IsNumbered, IsRequest, Legal, MomentsNeverFall, UploadsAreNumbered};
 ghost use Rattle.lei_office.specs.Limits.{AreLimits};
 ghost use Rattle.lei_office.specs.Parties.{ChangesArePermitted};
-ghost use Rattle.lei_office.specs.Register.{after};
+ghost use Rattle.lei_office.specs.Register.{IsKeptAfter, after};
+ghost use Rattle.register_table.specs.Held.{rows};
 ghost use Rattle.lei_office.specs.State.{office_of, opened};
 
 use crate::entries::{accreditation, stamp, taken_upload};
@@ -44,10 +45,9 @@ pub struct Office {
 }
 
 impl Model for Office {
-    ghost use Rattle.std.specs.Prelude.{◌≡◌};
     ghost use Rattle.lei_office.specs.Legal.{Legal};
     ghost use Rattle.lei_office.specs.Limits.{AreLimits};
-    ghost use Rattle.lei_office.specs.Register.{after};
+    ghost use Rattle.lei_office.specs.Register.{IsKeptAfter};
     ghost use Rattle.lei_office.specs.State.{OfficeState, office_of};
 
     ghost Value = { OfficeState };
@@ -55,7 +55,7 @@ impl Model for Office {
     ghost view = { λ office. office_of office.limits office.ledger.entries };
 
     ghost invariant = { λ office. AreLimits office.limits × Legal (office_of office.limits office.ledger.entries)
-        × (office.table ≡ after office.limits office.ledger.entries) };
+        × IsKeptAfter office.limits office.ledger.entries office.table };
 }
 
 impl Office {
@@ -116,10 +116,10 @@ fn reply_to(
     requires limits { AreLimits limits }
     requires numbered { IsNumbered request.now }
     requires moment { IsMoment moment }
-    requires table { table.old ≡ after limits ledger.old.entries }
+    requires table { IsKeptAfter limits ledger.old.entries table.old }
     ensures step { Comes request.now (outcome_at (office_of limits ledger.old.entries) request.now moment)
         ledger.old.entries result ledger.new.entries }
-    ensures table { table.new ≡ after limits ledger.new.entries }
+    ensures table { IsKeptAfter limits ledger.new.entries table.new }
     ensures request { IsRequest request.now }
 {
     match request {
@@ -159,7 +159,7 @@ fn told(alloc: Global, entry: &KeptEntry) -> Result<Reply, NoMemory>
 // Shows the record of this LEI, and changes nothing.
 fn show(alloc: Global, table: &Table, lei: &Lei) -> Result<Reply, NoMemory>
     ensures step { (history : History)
-        → Comes (Show lei.now) (show_outcome (row_at table.now lei.now)) history result history }
+        → Comes (Show lei.now) (show_outcome (row_at (rows table.now.held) lei.now)) history result history }
     ensures lei { IsValid lei.now }
 {
     // What is asked for is an LEI.
@@ -189,7 +189,7 @@ fn kept(alloc: Global, ledger: &Ledger, issuer: &Lei, number: u32) -> Result<Rep
 
 // Tells how much is kept and held, and changes nothing.
 fn status(alloc: Global, ledger: &Ledger, table: &Table) -> Result<Reply, NoMemory>
-    ensures { Comes Status (status_outcome ledger.now.entries table.now) ledger.now.entries result ledger.now.entries }
+    ensures { Comes Status (status_outcome ledger.now.entries (rows table.now.held)) ledger.now.entries result ledger.now.entries }
 {
     let text = status_text(alloc, ledger.totals(), table.counts())?;
     Ok(json_reply(200, text))
@@ -250,10 +250,10 @@ fn upload(
 ) -> Result<Reply, NoMemory>
     requires limits { AreLimits limits }
     requires moment { IsMoment moment }
-    requires table { table.old ≡ after limits ledger.old.entries }
+    requires table { IsKeptAfter limits ledger.old.entries table.old }
     ensures step { Comes (Upload call.now) (upload_outcome (office_of limits ledger.old.entries) call.now moment)
         ledger.old.entries result ledger.new.entries }
-    ensures table { table.new ≡ after limits ledger.new.entries }
+    ensures table { IsKeptAfter limits ledger.new.entries table.new }
     ensures lei { IsValid call.now.office }
 {
     // What sends it is named by an LEI.
@@ -281,11 +281,11 @@ fn take_upload(
 ) -> Result<Reply, NoMemory>
     requires limits { AreLimits limits }
     requires moment { IsMoment moment }
-    requires table { table.old ≡ after limits ledger.old.entries }
+    requires table { IsKeptAfter limits ledger.old.entries table.old }
     ensures step { Comes (Upload call.now)
         (body_outcome (office_of limits ledger.old.entries) call.now moment (items_of call.now.body))
         ledger.old.entries result ledger.new.entries }
-    ensures table { table.new ≡ after limits ledger.new.entries }
+    ensures table { IsKeptAfter limits ledger.new.entries table.new }
 {
     let upload = match read_upload(alloc, call.body.as_slice()) {
         Ok(upload) => upload,
