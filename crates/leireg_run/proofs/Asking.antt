@@ -16,11 +16,11 @@ use Rattle.leireg_run.proofs.Numbers.{number_of-range}
 use Rattle.leireg_run.specs.Lines.{Line}
 use Rattle.leireg_run.specs.Limits.{line_limit}
 use Rattle.leireg_run.specs.Outbox.{Puts}
-use Rattle.leireg_run.specs.Replies.{reply_text}
-use Rattle.leireg_run.specs.Requests.{asked, asked_in, asked_by, or_path, cut, code_of, upload_of, accreditation_of, show_of, number_of, first_word, MayWantMemory}
+use Rattle.leireg_run.specs.Replies.{reply_text, reply_texts}
+use Rattle.leireg_run.specs.Requests.{asked, asked_in, asked_by, or_path, cut, code_of, upload_of, accreditation_of, kept_of, show_of, number_of, first_word, MayWantMemory}
 use Rattle.leireg_run.specs.Runs.{Answers, AnswersLine, AnswersAndPuts, Progress}
 use Rattle.leireg_run.specs.declared.requests.FirstWord.{FirstWord}
-use Rattle.leireg_run.specs.declared.requests.FirstWord.TheVariants.{Accredit, Upload, Show}
+use Rattle.leireg_run.specs.declared.requests.FirstWord.TheVariants.{Accredit, Upload, Kept, Show, Status}
 
 AskStep-no_memory : (old : OfficeState) (what : Asked) → MayWantMemory what → AskStep old what [] (Words NoMemory) old
 AskStep-no_memory old (Refuse refusal) is = absurd is
@@ -48,6 +48,12 @@ upload_range rest =
     (λ first _. bind_range (cut first.1) _ (λ second _. bind_range (code_of first.0) _ (λ office _.
     bind_range (number_of second.0) _ (λ number is. number_of-range second.0 number is))))
 
+kept_range : (rest : List ℕ) → AsksInRange (or_path (kept_of rest))
+unfolding kept_of
+kept_range rest =
+    bind_range (cut rest) _
+    (λ parts _. bind_range (code_of parts.0) _ (λ issuer _. bind_range (number_of parts.1) _ (λ number is. number_of-range parts.1 number is)))
+
 accreditation_range : (code : Option (List ℕ)) → AsksInRange (or_path (option_map requests.Accredit code))
 accreditation_range None = tt
 accreditation_range (Some office) = tt
@@ -58,9 +64,16 @@ show_range (Some code) = tt
 
 by_range : (word : Option FirstWord) (rest : Option (List ℕ)) → AsksInRange (asked_by word rest)
 by_range None rest = tt
-by_range (Some Accredit) rest = bind_range rest accreditation_of (λ r _. accreditation_range (code_of r))
-by_range (Some Upload) rest = bind_range rest upload_of (λ r _. upload_range r)
-by_range (Some Show) rest = bind_range rest show_of (λ r _. show_range (code_of r))
+by_range (Some Accredit) None = tt
+by_range (Some Accredit) (Some rest) = accreditation_range (code_of rest)
+by_range (Some Upload) None = tt
+by_range (Some Upload) (Some rest) = upload_range rest
+by_range (Some Kept) None = tt
+by_range (Some Kept) (Some rest) = kept_range rest
+by_range (Some Show) None = tt
+by_range (Some Show) (Some rest) = show_range (code_of rest)
+by_range (Some Status) None = tt
+by_range (Some Status) (Some rest) = tt
 
 cut_range : (line : Line) (parts : Option (List ℕ × List ℕ)) → AsksInRange (asked_in line parts)
 cut_range line None = by_range (first_word line) None
@@ -76,25 +89,26 @@ in_range line =
 
 -- one line's reply is its run
 pub Answers-one : (old new : OfficeState) (line : Line) (moments : List ℤ) (reply : Reply) → eqb (length line) 0 ≡ false
-    → AskStep old (asked line) moments reply new → Answers old (line ∷ []) moments (reply_text reply) new
+    → AskStep old (asked line) moments reply new → Answers old (line ∷ []) moments (reply_text (asked line) reply) new
 Answers-one old new line moments reply is step =
     let S : Bool → Type 0 = λ b. Session old (cond b [] (asked line ∷ [])) moments (reply ∷ []) new in
+    let T : Bool → Type 0 = λ b. reply_text (asked line) reply ≡ reply_texts (cond b [] (asked line ∷ [])) (reply ∷ []) in
     record {
       replies = reply ∷ [];
       session = subst S (sym is) (moments, [], new, sym (append-nil moments), step, (refl, refl));
-      texts = sym (append-nil (reply_text reply));
+      texts = subst T (sym is) (sym (append-nil (reply_text (asked line) reply)));
     }
 
 -- and its text was put
 pub puts_reply : {T E : Type 0} (before after : Progress) (line : Line) (reply : Reply) (result : Result T E)
     → eqb (length line) 0 ≡ false
     → AnswersLine before.office line before.given after.given reply after.office
-    → Puts before.written after.written (before.waits ++ reply_text reply) result after.waits
+    → Puts before.written after.written (before.waits ++ reply_text (asked line) reply) result after.waits
     → AnswersAndPuts before (line ∷ []) result after
 puts_reply before after line reply result is step puts =
     record {
       moments = step.0;
-      texts = reply_text reply;
+      texts = reply_text (asked line) reply;
       gives = step.1;
       answers = Answers-one before.office
           after.office line step.0 reply is step.2;

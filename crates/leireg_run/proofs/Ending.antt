@@ -17,6 +17,7 @@ use Rattle.leireg_run.specs.Outbox.{Sends}
 use Rattle.leireg_run.specs.Outside.{Course, Outside, outside}
 use Rattle.leireg_run.specs.Reading.{Holds, TakesIn}
 use Rattle.leireg_run.specs.Requests.{asked}
+use Rattle.leireg_run.specs.Replies.{reply_texts}
 use Rattle.leireg_run.specs.Runs.{asks_of, first_office, Answers, AnswersFront, AnswersAndPuts, Progress, progress}
 use Rattle.leireg_run.specs.Window.{Fills, StaysUnread}
 use Rattle.leireg_run.proofs.Giving.{Gives-none}
@@ -51,10 +52,11 @@ Answers-last : (old new : OfficeState) (part : List ℕ) (moments : List ℤ) (t
     → Answers old (cond (eqb (length part) 0) [] (part ∷ [])) moments texts new
 Answers-last old new part moments texts run =
     let S : List Asked → Type 0 = λ asks. Session old asks moments run.replies new in
+    let T : List Asked → Type 0 = λ asks. texts ≡ reply_texts asks run.replies in
     record {
       replies = run.replies;
       session = subst S (asks_of-last part (eqb (length part) 0) refl) run.session;
-      texts = run.texts;
+      texts = subst T (asks_of-last part (eqb (length part) 0) refl) run.texts;
     }
 
 -- ---- between two reads

@@ -30,11 +30,12 @@ too_long line long =
     ap (λ b. cond b (Refuse TooLong) (asked_in line (cut line))) is
 
 Answers-long : (old : OfficeState) (line : Line) → line_limit < length line
-    → Answers old (line ∷ []) [] (reply_text (Words TooLong)) old
+    → Answers old (line ∷ []) [] (reply_text (Refuse TooLong) (Words TooLong)) old
 Answers-long old line long =
     let stands : eqb (length line) 0 ≡ false = grind (arith, nat_tests) in
     let S : Asked → Type 0 = λ what. AskStep old what [] (Words TooLong) old in
-    Answers-one old old line [] (Words TooLong) stands (subst S (sym (too_long line long)) (refl, refl, refl))
+    let A : Asked → Type 0 = λ what. Answers old (line ∷ []) [] (reply_text what (Words TooLong)) old in
+    subst A (too_long line long) (Answers-one old old line [] (Words TooLong) stands (subst S (sym (too_long line long)) (refl, refl, refl)))
 
 -- a reply to such a line was put, which takes no moment and leaves the office
 abbrev put_so : Progress → List ℕ → Option (List ℕ) → Progress
@@ -42,13 +43,13 @@ put_so at waits written = record at { waits = waits; written = written }
 
 puts_long : {T E : Type 0} (at : Progress) (asked_lines : List Line) (waits : List ℕ) (written : Option (List ℕ))
     (result : Result T E)
-    → Answers at.office asked_lines [] (reply_text (Words TooLong)) at.office
-    → Puts at.written written (at.waits ++ reply_text (Words TooLong)) result waits
+    → Answers at.office asked_lines [] (reply_text (Refuse TooLong) (Words TooLong)) at.office
+    → Puts at.written written (at.waits ++ reply_text (Refuse TooLong) (Words TooLong)) result waits
     → AnswersAndPuts at asked_lines result (put_so at waits written)
 puts_long at asked_lines waits written result answers puts =
     record {
       moments = [];
-      texts = reply_text (Words TooLong);
+      texts = reply_text (Refuse TooLong) (Words TooLong);
       gives = Gives-none at.given;
       answers = answers;
       puts =
@@ -108,9 +109,9 @@ long_parts seen window part before after none ends =
     ∙ ap (λ xs. xs ++ after) (sym (append_assoc part before (10 ∷ []))))
 
 long_line : (old : OfficeState) (part before : List ℕ) → HasNoEnd part → HasNoEnd before → line_limit + 1 < length part
-    → Answers old (lines ((part ++ before) ++ 10 ∷ [])) [] (reply_text (Words TooLong)) old
+    → Answers old (lines ((part ++ before) ++ 10 ∷ [])) [] (reply_text (Refuse TooLong) (Words TooLong)) old
 long_line old part before none none' long =
-    let A : List Line → Type 0 = λ ls. Answers old ls [] (reply_text (Words TooLong)) old in
+    let A : List Line → Type 0 = λ ls. Answers old ls [] (reply_text (Refuse TooLong) (Words TooLong)) old in
     let line = line_of (part ++ before) in
     let is_long : line_limit < length line = omega
     (arith, length-line_of (part ++ before), length-append part before, long) in
@@ -124,7 +125,7 @@ never P (Ok done) failed = cc
 pub long_stops : (skips : Bool) (window : List ℕ) (seen : ℕ) (at : Progress) (waits : List ℕ)
     (written : Option (List ℕ)) (part before after : List ℕ) (fault : SinkFault) (result : Result (Unit {0}) SinkFault)
     → skips ≡ true → IsErr result → Ends window before after
-    → Puts {T = Unit {0}} at.written written (at.waits ++ reply_text (Words TooLong)) (Err fault) waits
+    → Puts {T = Unit {0}} at.written written (at.waits ++ reply_text (Refuse TooLong) (Words TooLong)) (Err fault) waits
     → Holds skips (take seen window) part
     → (part ++ drop seen window ≡ ((part ++ before) ++ 10 ∷ []) ++ after)
     × AnswersAndPuts at (lines ((part ++ before) ++ 10 ∷ [])) result (put_so at waits written)
@@ -138,7 +139,7 @@ long_stops false window seen at waits written part before after fault (Err other
 
 pub long_goes : (skips : Bool) (window held : List ℕ) (skips_now : Bool) (seen : ℕ) (at : Progress) (waits : List ℕ)
     (written : Option (List ℕ)) (now : Progress) (part before after : List ℕ) (result : Result (Unit {0}) SinkFault)
-    → skips ≡ true → Ends window before after → Sends at.written written (at.waits ++ reply_text (Words TooLong)) waits
+    → skips ≡ true → Ends window before after → Sends at.written written (at.waits ++ reply_text (Refuse TooLong) (Words TooLong)) waits
     → TakesIn [] after (put_so at waits written) result now skips_now held
     → Holds skips (take seen window) part → TakesIn part (drop seen window) at result now skips_now held
 long_goes true window held skips_now seen at waits written now part before after result is ends sent then holds =
@@ -183,7 +184,7 @@ last_held true held part at now result is then holds = cc
 
 pub last_long : (skips : Bool) (held part : List ℕ) (at : Progress) (waits : List ℕ) (written : Option (List ℕ))
     (result : Result (Unit {0}) SinkFault) → skips ≡ true
-    → Puts at.written written (at.waits ++ reply_text (Words TooLong)) result waits → Holds skips held part
+    → Puts at.written written (at.waits ++ reply_text (Refuse TooLong) (Words TooLong)) result waits → Holds skips held part
     → AnswersAndPuts at (part ∷ []) result (put_so at waits written)
 last_long true held part at waits written result is puts holds =
     puts_long at (part ∷ []) waits written result (Answers-long at.office part (omega (arith, holds.2))) puts

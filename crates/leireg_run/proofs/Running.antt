@@ -1,7 +1,6 @@
 -- Runs over lines: how they are joined, and what a sink has of one that it stopped.
 use Rattle.std.proofs.Common.{◌≡◌, ℕ, ℤ, ◌+◌, ◌-◌, ◌≤◌, List, [], ◌∷◌, ◌++◌, length, take, drop, Bool, true, false, cond, eqb, inl, inr, Some, None, Result, Ok, Err, IsErr, refl, sym, ap, ◌∙◌, subst, append_assoc, arith, length-append}
 use Rattle.std.proofs.lemmas.List.{append-nil, take-append-drop, drop-drop}
-use Rattle.std.proofs.lemmas.List.Concat.{flat_map-append}
 use Rattle.std.proofs.Math.Seq.{take-add}
 use Rattle.std.specs.Str.Lines.{lines}
 use Rattle.memchr.specs.Find.{IsFirstByte, is_byte}
@@ -39,6 +38,16 @@ Session-join old mid new (ask ∷ asks) more xs ys (reply ∷ replies) others fi
       first.5 second,
 )
 
+-- the texts of replies to what was asked, and to what was asked after it
+reply_texts-join : (old mid : OfficeState) (asks more : List Asked) (xs : List ℤ) (replies others : List Reply) → Session old asks xs replies mid
+    → reply_texts (asks ++ more) (replies ++ others) ≡ reply_texts asks replies ++ reply_texts more others
+reply_texts-join old mid [] more xs [] others session = refl
+reply_texts-join old mid [] more xs (reply ∷ replies) others session = absurd session
+reply_texts-join old mid (ask ∷ asks) more xs [] others session = absurd session
+reply_texts-join old mid (ask ∷ asks) more xs (reply ∷ replies) others session =
+    ap (λ bytes. reply_text ask reply ++ bytes) (reply_texts-join session.2 mid asks more session.1 replies others session.5)
+    ∙ sym (append_assoc (reply_text ask reply) (reply_texts asks replies) (reply_texts more others))
+
 asks_of-append : (xs ys : List (List ℕ)) → asks_of (xs ++ ys) ≡ asks_of xs ++ asks_of ys
 asks_of-append [] ys = refl
 asks_of-append (line ∷ xs) ys =
@@ -59,7 +68,9 @@ Answers-join old mid new xs ys ms ns first second a b =
       session = subst S (sym (asks_of-append xs ys))
           (Session-join old mid new (asks_of xs) (asks_of ys) ms ns a.replies b.replies a.session b.session);
       texts = ap (λ xs. xs ++ second) a.texts
-          ∙ (ap (λ ys. reply_texts a.replies ++ ys) b.texts ∙ sym (flat_map-append reply_text a.replies b.replies));
+          ∙ (ap (λ bytes. reply_texts (asks_of xs) a.replies ++ bytes) b.texts
+          ∙ (sym (reply_texts-join old mid (asks_of xs) (asks_of ys) ms a.replies b.replies a.session)
+          ∙ ap (λ asks. reply_texts asks (a.replies ++ b.replies)) (sym (asks_of-append xs ys))));
     }
 
 pub Answers-nothing : (old : OfficeState) → Answers old [] [] [] old
@@ -87,12 +98,13 @@ pub puts_nothing : {E : Type 0} (at : Progress) (line : Line) → eqb (length li
     → AnswersAndPuts {T = Unit {0}} {E = E} at (line ∷ []) (Ok (tt {0})) at
 puts_nothing at line is =
     let S : Bool → Type 0 = λ b. Session at.office (cond b [] (asked line ∷ [])) [] [] at.office in
+    let T : Bool → Type 0 = λ b. [] ≡ reply_texts (cond b [] (asked line ∷ [])) [] in
     let P : List ℕ → Type 0 = λ all. Sends at.written at.written all at.waits in
     record {
       moments = [];
       texts = [];
       gives = Gives-none at.given;
-      answers = record { replies = []; session = subst S (sym is) (refl, refl); texts = refl };
+      answers = record { replies = []; session = subst S (sym is) (refl, refl); texts = subst T (sym is) refl };
       puts = subst P (sym (append-nil at.waits)) (Sends-nothing at.written at.waits);
     }
 

@@ -91,7 +91,7 @@ pub record IsComplete (bytes : List ℕ) (before after : Outside) (status : ℕ)
   pub replies : List Reply
   pub office : OfficeState
   pub session : Session first_office (asks_of (lines bytes)) moments replies office
-  pub writes : Grows before.written after.written (reply_texts replies)
+  pub writes : Grows before.written after.written (reply_texts (asks_of (lines bytes)) replies)
   pub exact : ¬ (Contains replies (Words NoMemory)) → replies ≡ replies_to first_office (asks_of (lines bytes)) moments
 
 -- Where nothing fails and no memory is wanting, all is done: an input that is told and short enough is answered

@@ -14,7 +14,7 @@ use Rattle.lei_office.specs.declared.reply.Refusal.TheVariants.{TooLong, NoRoute
 use Rattle.leireg_run.specs.Limits.{line_limit}
 use Rattle.leireg_run.specs.Lines.{Line}
 use Rattle.leireg_run.specs.declared.requests.FirstWord.{FirstWord}
-use Rattle.leireg_run.specs.declared.requests.FirstWord.TheVariants.{Accredit, Upload, Show}
+use Rattle.leireg_run.specs.declared.requests.FirstWord.TheVariants.{Accredit, Upload, Kept, Show, Status}
 
 infixl 10 ◌>>=◌
 -- What is made of a value, where there is one.
@@ -49,6 +49,14 @@ accreditation_of rest = option_map requests.Accredit (code_of rest)
 abbrev pub show_of : List ℕ → Option Request
 show_of rest = option_map requests.Show (code_of rest)
 
+-- KEPT: an LEI and a number.
+unfoldable pub kept_of : List ℕ → Option Request
+kept_of rest = do
+  parts ← cut rest
+  issuer ← code_of parts.0
+  number ← number_of parts.1
+  Some (requests.Kept issuer number)
+
 -- UPLOAD: an LEI, a number, and all that follows the space behind it as the body.
 unfoldable pub upload_of : List ℕ → Option Request
 upload_of rest = do
@@ -63,13 +71,30 @@ abbrev pub first_word : List ℕ → Option FirstWord
 first_word word =
     if bytes_eq word (codes "ACCREDIT") then Some Accredit
     else (if bytes_eq word (codes "UPLOAD") then Some Upload
-    else (if bytes_eq word (codes "SHOW") then Some Show else None))
+    else (if bytes_eq word (codes "KEPT") then Some Kept
+    else (if bytes_eq word (codes "SHOW") then Some Show
+    else (if bytes_eq word (codes "STATUS") then Some Status else None))))
+
+-- The request that a first word makes alone: STATUS, to which no other word belongs.
+abbrev pub request_alone : FirstWord → Option Request
+request_alone Accredit = None
+request_alone Upload = None
+request_alone Kept = None
+request_alone Show = None
+request_alone Status = Some requests.Status
+
+-- The request that a first word makes with what stands behind its space.
+abbrev pub request_with : FirstWord → List ℕ → Option Request
+request_with Accredit rest = accreditation_of rest
+request_with Upload rest = upload_of rest
+request_with Kept rest = kept_of rest
+request_with Show rest = show_of rest
+request_with Status rest = None
 
 -- The request that a first word makes with what stands behind its space, where there is a space.
 abbrev pub request_by : FirstWord → Option (List ℕ) → Option Request
-request_by Accredit rest = rest >>= accreditation_of
-request_by Upload rest = rest >>= upload_of
-request_by Show rest = rest >>= show_of
+request_by word None = request_alone word
+request_by word (Some rest) = request_with word rest
 
 -- ---- lines
 

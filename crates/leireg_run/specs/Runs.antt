@@ -27,7 +27,7 @@ pub record Answers (old : OfficeState) (asked_lines : List Line) (moments : List
     (new : OfficeState) : Type 0 where
   pub replies : List Reply
   pub session : Session old (asks_of asked_lines) moments replies new
-  pub texts : written ≡ reply_texts replies
+  pub texts : written ≡ reply_texts (asks_of asked_lines) replies
 
 -- A front of the lines was answered, at these moments, and these bytes are a front of the texts of the replies.
 pub record AnswersFront (all : List Line) (moments : List ℤ) (written : List ℕ) : Type 0 where
@@ -38,14 +38,15 @@ pub record AnswersFront (all : List Line) (moments : List ℤ) (written : List �
   pub office : OfficeState
   pub session : Session first_office (asks_of answered) moments replies office
   pub front : ℕ
-  pub texts : written ≡ take front (reply_texts replies)
+  pub texts : written ≡ take front (reply_texts (asks_of answered) replies)
 
--- The texts of replies in order, of the last one a front.
-abbrev pub AreTextsOf : List Reply → List ℕ → Type 0
-AreTextsOf [] written = written ≡ []
-AreTextsOf (reply ∷ []) written = (n : ℕ) × (written ≡ take n (reply_text reply))
-AreTextsOf (reply ∷ next ∷ replies) written =
-    (rest : List ℕ) × (written ≡ reply_text reply ++ rest) × AreTextsOf (next ∷ replies) rest
+-- The texts of the replies to what was asked in order, of the last one a front.
+abbrev pub AreTextsOf : List Asked → List Reply → List ℕ → Type 0
+AreTextsOf [] replies written = written ≡ []
+AreTextsOf (asked ∷ asks) [] written = written ≡ []
+AreTextsOf (asked ∷ asks) (reply ∷ []) written = (n : ℕ) × (written ≡ take n (reply_text asked reply))
+AreTextsOf (asked ∷ asks) (reply ∷ next ∷ replies) written =
+    (rest : List ℕ) × (written ≡ reply_text asked reply ++ rest) × AreTextsOf asks (next ∷ replies) rest
 
 -- Some replies answer what a front of the lines asks, at a front of the moments, and these bytes are their texts, of
 -- the last one a front.
@@ -59,7 +60,7 @@ pub record IsWrittenFront (all : List Line) (moments : List ℤ) (written : List
   pub replies : List Reply
   pub office : OfficeState
   pub session : Session first_office (asks_of answered) used replies office
-  pub texts : AreTextsOf replies written
+  pub texts : AreTextsOf (asks_of answered) replies written
 
 -- ---- inside a run
 

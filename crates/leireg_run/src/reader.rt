@@ -1,6 +1,7 @@
 //! The reader of lines: it answers those that are whole, and holds the one that has no end yet.
 ghost use Rattle.std.specs.Prelude.{◌≤◌, [], ◌∷◌, ◌++◌, ◌≡◌, List, ℕ, length, take, drop, IfOk, IsErrOf};
 ghost use Rattle.lei_outside.specs.Faults.{FailsLast};
+ghost use Rattle.lei_office.specs.declared.request.Asked.TheVariants.{Refuse};
 ghost use Rattle.leireg_run.specs.Lines.{HasNoEnd};
 ghost use Rattle.leireg_run.specs.Outbox.{Puts};
 ghost use Rattle.leireg_run.specs.Reading.{Holds, TakesIn};
@@ -141,7 +142,7 @@ impl Reader {
 // Puts the reply to a line that is too long.
 fn put_too_long<W: Sink>(outbox: &mut Outbox, out: &mut W) -> Result<(), SinkFault>
     ensures puts { Puts (W.written out.old) (W.written out.new)
-        (outbox.old ++ reply_text (Reply.Words Refusal.TooLong)) result outbox.new }
+        (outbox.old ++ reply_text (Refuse Refusal.TooLong) (Reply.Words Refusal.TooLong)) result outbox.new }
     ensures kept { ¬ (IsErrOf result SinkFault.Failed) → W.faults out.new ≡ W.faults out.old }
     ensures failed { IsErrOf result SinkFault.Failed → FailsLast W.written W.faults out.old out.new }
 {

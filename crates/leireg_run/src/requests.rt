@@ -1,7 +1,7 @@
 //! What a line asks.
 ghost use Rattle.std.specs.Prelude.{◌≡◌, None, Some, option_map, option_and_then, position, decimal, length, ◌==◌, ◌<◌, ◌↔◌, IfOk, IfSome, OnErr, IsTrue};
 ghost use Rattle.std.specs.Option.{option_copied};
-ghost use Rattle.leireg_run.specs.Requests.{cut, code_of, number_of, accreditation_of, show_of, upload_of, first_word, request_by, asked_by, asked, or_path, MayWantMemory};
+ghost use Rattle.leireg_run.specs.Requests.{cut, code_of, number_of, accreditation_of, kept_of, show_of, upload_of, first_word, request_alone, request_by, request_with, asked_by, asked, or_path, MayWantMemory};
 
 use lei_code::Lei;
 use lei_office::{Asked, Call, MAX_NUMBER, Refusal, Request};
@@ -16,7 +16,9 @@ pub const MAX_LINE: usize = 4_194_340;
 enum FirstWord {
     Accredit,
     Upload,
+    Kept,
     Show,
+    Status,
 }
 
 fn first_space(bytes: &[u8]) -> Option<usize>
@@ -102,6 +104,19 @@ fn accreditation_of(rest: &[u8]) -> Option<Request>
     }
 }
 
+#[tactic(auto, unfolding(crate::specs::Requests::kept_of))]
+fn kept_of(rest: &[u8]) -> Option<Request>
+    ensures { result ≡ kept_of rest.now }
+{
+    let Some((issuer, number)) = cut(rest) else {
+        return None;
+    };
+    let (Some(issuer), Some(number)) = (code_of(issuer), number_of(number)) else {
+        return None;
+    };
+    Some(Request::Kept(issuer, number))
+}
+
 fn show_of(rest: &[u8]) -> Option<Request>
     ensures { result ≡ show_of rest.now }
 {
@@ -120,10 +135,40 @@ fn first_word(word: &[u8]) -> Option<FirstWord>
     if word == b"UPLOAD".as_slice() {
         return Some(FirstWord::Upload);
     }
+    if word == b"KEPT".as_slice() {
+        return Some(FirstWord::Kept);
+    }
     if word == b"SHOW".as_slice() {
         return Some(FirstWord::Show);
     }
+    if word == b"STATUS".as_slice() {
+        return Some(FirstWord::Status);
+    }
     None
+}
+
+// The request that a first word makes alone.
+fn request_alone(word: FirstWord) -> Option<Request>
+    ensures { result ≡ request_alone word }
+{
+    match word {
+        FirstWord::Status => Some(Request::Status),
+        FirstWord::Accredit | FirstWord::Upload | FirstWord::Kept | FirstWord::Show => None,
+    }
+}
+
+// The request that a first word makes with what stands behind its space.
+fn request_with(alloc: Global, word: FirstWord, rest: &[u8]) -> Result<Option<Request>, NoMemory>
+    ensures ok { IfOk result (λ found. found ≡ request_with word rest.now) }
+    ensures err { OnErr result (MayWantMemory (or_path (request_with word rest.now))) }
+{
+    match word {
+        FirstWord::Accredit => Ok(accreditation_of(rest)),
+        FirstWord::Upload => upload_of(alloc, rest),
+        FirstWord::Kept => Ok(kept_of(rest)),
+        FirstWord::Show => Ok(show_of(rest)),
+        FirstWord::Status => Ok(None),
+    }
 }
 
 // The request that a first word makes with what stands behind its space, if there is one.
@@ -135,11 +180,9 @@ fn request_by(
     ensures ok { IfOk result (λ found. found ≡ request_by word (option_copied rest.entry)) }
     ensures err { OnErr result (MayWantMemory (or_path (request_by word (option_copied rest.entry)))) }
 {
-    match (word, rest) {
-        (FirstWord::Accredit, Some(rest)) => Ok(accreditation_of(rest)),
-        (FirstWord::Upload, Some(rest)) => upload_of(alloc, rest),
-        (FirstWord::Show, Some(rest)) => Ok(show_of(rest)),
-        (_, None) => Ok(None),
+    match rest {
+        Some(rest) => request_with(alloc, word, rest),
+        None => Ok(request_alone(word)),
     }
 }
 

@@ -1,6 +1,7 @@
 //! Replies as they are written.
 ghost use Rattle.std.specs.Prelude.{◌≡◌, ◌++◌, flat_map, IsErrOf};
 ghost use Rattle.lei_outside.specs.Faults.{FailsLast};
+ghost use Rattle.lei_office.specs.declared.request.Asked.{Asked};
 ghost use Rattle.leireg_run.specs.Outbox.{Puts};
 ghost use Rattle.leireg_run.specs.Replies.{reply_text};
 
@@ -8,10 +9,11 @@ use crate::outbox::Outbox;
 use lei_office::Reply;
 use lei_outside::{Sink, SinkFault};
 
-/// Puts a reply: its status code, a space, its text and the end of the line.
+/// Puts a reply, whatever was asked: its status code, a space, its text and the end of the line.
 #[tactic(auto, unfolding(crate::specs::Replies::reply_text))]
 pub fn put_reply<W: Sink>(outbox: &mut Outbox, out: &mut W, reply: &Reply) -> Result<(), SinkFault>
-    ensures puts { Puts (W.written out.old) (W.written out.new) (outbox.old ++ reply_text reply.now) result outbox.new }
+    ensures puts { (asked : Asked)
+        → Puts (W.written out.old) (W.written out.new) (outbox.old ++ reply_text asked reply.now) result outbox.new }
     ensures kept { ¬ (IsErrOf result SinkFault.Failed) → W.faults out.new ≡ W.faults out.old }
     ensures failed { IsErrOf result SinkFault.Failed → FailsLast W.written W.faults out.old out.new }
 {

@@ -1,7 +1,9 @@
 use Rattle.std.proofs.Common.{List, ℕ, ◌+◌, ◌∷◌, [], Result, Ok, Err, take, drop, refl, sym, subst, ◌∙◌}
+use Rattle.lei_outside.proofs.Faulting.{fails_later}
 use Rattle.lei_outside.specs.declared.faults.SinkFault.{SinkFault}
 use Rattle.leireg_run.specs.Runs.{AnswersAndPuts, progress}
 use Rattle.leireg_run.proofs.Running.{Walked, Answered-nothing, walk_on, walk_stops}
+use Rattle.leireg_run.proofs.Stopping.{handed_on}
 use Rattle.leireg_run.proofs.answering.answer_lines.Goals as goal
 
 pub returns-in_err-answer_line-clause-answered : goal.returns-in_err-answer_line-clause-answered
@@ -53,3 +55,6 @@ loop-end-init g c = record {
   };
   kept = refl;
 }
+
+pub returns-in_err-answer_line-clause-failed : goal.returns-in_err-answer_line-clause-failed
+returns-in_err-answer_line-clause-failed g c is = fails_later g.W.Sink.written g.W.Sink.faults c.args.out.now c.loop-end.out c.answer_line.new.out c.loop-end.invariant.kept (c.in_err-answer_line.ensures.failed (handed_on c.in_err-answer_line.field-0.0 c.from_residual.result c.from_residual.ensures.1 is))
