@@ -2,7 +2,7 @@
 use leireg_run::status::{INPUT_TOO_LONG, NO_MEMORY, READ_FAULT, REFUSED, USAGE, WRITE_FAULT};
 
 const COMMANDS: &'static str = "usage:
-  leireg lines        answers each line of the standard input, as in ACCREDIT OFFICE, UPLOAD OFFICE NUMBER BODY or SHOW LEI
+  leireg lines        answers each line of the standard input, as in ACCREDIT OFFICE, UPLOAD OFFICE NUMBER BODY, KEPT OFFICE NUMBER, SHOW LEI or STATUS
   leireg check CODE   tells whether CODE is a Legal Entity Identifier
   leireg digits TEXT  makes the check digits of TEXT, the first 18 characters of a code";
 

@@ -11,6 +11,8 @@ use std::thread::Threads;
 
 const ISSUER: &str = "506700GE1G29325QX363";
 
+const OTHER: &str = "HWUPKR0MPOU8FGXBT394";
+
 // 2025-01-11T00:00:00Z.
 const MOMENT: i64 = 1_736_553_600;
 
@@ -48,10 +50,13 @@ fn answers<R: Abort + Threads + Sync>(
     request: &Request,
     want: &str,
 ) -> Result<(), Fail> {
-    if let Request::Upload(call) = request {
-        if !is_upload_number(call.number) {
-            return Err(Fail::from("a number that uploads may have"));
-        }
+    let number = match request {
+        Request::Upload(call) => call.number,
+        Request::Kept(_, number) => *number,
+        Request::Accredit(_) | Request::Show(_) | Request::Status => 1,
+    };
+    if !is_upload_number(number) {
+        return Err(Fail::from("a number that uploads may have"));
     }
     let moment = Moment::of(MOMENT).ok_or("a moment")?;
     let reply = office.answer(rt, request, moment);
@@ -75,9 +80,10 @@ fn accredits<R: Abort + Threads + Sync>(
     rt: &R,
     alloc: Global,
     office: &mut Office,
+    issuer: &str,
     want: &str,
 ) -> Result<(), Fail> {
-    let request = Request::Accredit(Lei::read(ISSUER.as_bytes())?);
+    let request = Request::Accredit(Lei::read(issuer.as_bytes())?);
     answers(rt, alloc, office, &request, want)
 }
 
@@ -112,6 +118,7 @@ fn an_office_keeps_to_its_limits(rt: HostRuntime) -> Result<(), Fail> {
         &rt,
         rt.alloc(),
         &mut office,
+        ISSUER,
         r#"200 {"entry":1,"issuer":"506700GE1G29325QX363"}"#,
     )?;
     uploads(
@@ -129,5 +136,68 @@ fn an_office_keeps_to_its_limits(rt: HostRuntime) -> Result<(), Fail> {
         2,
         &[b' '; 2_001],
         "413 TOO_LONG",
+    )
+}
+
+// The bodies that are kept may have as many bytes as the one upload and no more.
+const ROOM: Limits = Limits {
+    body: 2_000,
+    kept: 44,
+    entries: 3,
+    records: 1,
+};
+
+const ONE_ITEM: &str = r#"{"records":[{"LEI":"00000000000000000195"}]}"#;
+
+const KEPT: &str = r#"200 {"entry":2,"issuer":"506700GE1G29325QX363","items":["C02 FIELD_MISSING Entity.LegalName"],"number":1}"#;
+
+// What uploads are answered, one after the other: a number, a body, and the reply.
+const BODIES: [(u32, &str, &str); 6] = [
+    (1, TWO_RECORDS, "507 LEDGER_FULL"),
+    (1, ONE_ITEM, KEPT),
+    (2, ONE_ITEM, "507 LEDGER_FULL"),
+    (2, "{}", "400 MALFORMED NO_ITEMS"),
+    (1, "{}", "409 NUMBER_TAKEN"),
+    (1, ONE_ITEM, KEPT),
+];
+
+#[test]
+fn an_office_keeps_bodies_to_their_limit(rt: HostRuntime) -> Result<(), Fail> {
+    let mut office = Office::new(rt.alloc(), ROOM)?;
+    let accredited = r#"200 {"entry":1,"issuer":"506700GE1G29325QX363"}"#;
+    accredits(&rt, rt.alloc(), &mut office, ISSUER, accredited)?;
+    for (number, body, want) in BODIES {
+        uploads(&rt, rt.alloc(), &mut office, number, body.as_bytes(), want)?;
+    }
+    Ok(())
+}
+
+// What accreditations are answered, one after the other, where two entries are taken at most.
+const ACCREDITATIONS: [(&str, &str); 4] = [
+    (ISSUER, r#"200 {"entry":1,"issuer":"506700GE1G29325QX363"}"#),
+    (OTHER, r#"200 {"entry":2,"issuer":"HWUPKR0MPOU8FGXBT394"}"#),
+    ("5493001KJTIIGC8Y1R12", "507 LEDGER_FULL"),
+    (ISSUER, r#"200 {"entry":1,"issuer":"506700GE1G29325QX363"}"#),
+];
+
+#[test]
+fn an_office_keeps_entries_to_their_limit(rt: HostRuntime) -> Result<(), Fail> {
+    let limits = Limits {
+        body: 2_000,
+        kept: 2_000,
+        entries: 2,
+        records: 1,
+    };
+    let mut office = Office::new(rt.alloc(), limits)?;
+    for (issuer, want) in ACCREDITATIONS {
+        accredits(&rt, rt.alloc(), &mut office, issuer, want)?;
+    }
+    uploads(
+        &rt,
+        rt.alloc(),
+        &mut office,
+        1,
+        ONE_ITEM.as_bytes(),
+        "507 LEDGER_FULL",
     )
 }
