@@ -6,9 +6,9 @@ ghost use Rattle.lei_office.specs.Limits.{AreLimits, standard};
 pub struct Limits {
     /// The length of an upload's body, in bytes.
     pub body: u64,
-    /// The length of all kept bodies together, in bytes. Nothing is refused by it yet.
+    /// The length of all kept bodies together, in bytes.
     pub kept: u64,
-    /// The number of entries. Nothing is refused by it yet.
+    /// The number of entries.
     pub entries: u64,
     /// The number of records that are held.
     pub records: u32,

@@ -1,0 +1,61 @@
+#!/usr/bin/env python3
+"""Measures accreditations, and questions for what was answered: 25,000, 50,000 and 100,000 issuers are accredited, each sends
+an upload whose one item is rejected, and is then asked for with KEPT. Each kind of line is measured as the time of a session
+that ends with it less that of the session before it, the least of three runs, and is told by the line. It must not grow with
+the number of entries. Beside it stands the time that `wc -l` takes for the same bytes."""
+import pathlib
+import subprocess
+import tempfile
+
+from timing import least
+
+ROOT = pathlib.Path(__file__).resolve().parent.parent
+PROGRAM = ROOT / "crates" / "leireg" / "out" / "leireg"
+
+
+def code(number):
+    """A number as a code, with its check digits by ISO/IEC 7064."""
+    return f"{number:018}{98 - number * 100 % 97:02}"
+
+
+def kinds(issuers):
+    """The lines of each kind, in the order in which they are sent."""
+    codes = [code(number) for number in range(1, issuers + 1)]
+    return [
+        ("ACCREDIT", "".join(f"ACCREDIT {lei}\n" for lei in codes)),
+        ("UPLOAD", "".join(f'UPLOAD {lei} 1 {{"records":[{{"LEI":"x"}}]}}\n' for lei in codes)),
+        ("KEPT", "".join(f"KEPT {lei} 1\n" for lei in codes)),
+    ]
+
+
+def time_of(command, text, folder):
+    """The least time that the command takes to read this text from a file."""
+    path = pathlib.Path(folder) / "input"
+    path.write_text(text)
+
+    def run():
+        with path.open("rb") as source:
+            subprocess.run(command, stdin=source, stdout=subprocess.DEVNULL, check=True)
+
+    return least(run)
+
+
+def main():
+    subprocess.run([ROOT / "leireg", "lines"], stdin=subprocess.DEVNULL, check=True)
+    with tempfile.TemporaryDirectory() as folder:
+        for issuers in (25_000, 50_000, 100_000):
+            sent, before = "", 0.0
+            for kind, lines in kinds(issuers):
+                sent += lines
+                took = time_of([PROGRAM, "lines"], sent, folder)
+                counted = time_of(["wc", "-l"], lines, folder)
+                part = took - before
+                print(
+                    f"{issuers:7} {kind:8} {1e6 * part / issuers:7.2f} us a line   "
+                    f"{len(lines) / part / 1e6:6.1f} MB/s   wc -l {len(lines) / counted / 1e6:7.1f} MB/s   "
+                    f"ratio {counted / part:.4f}"
+                )
+                before = took
+
+
+main()
