@@ -149,7 +149,8 @@ const ROOM: Limits = Limits {
 
 const ONE_ITEM: &str = r#"{"records":[{"LEI":"00000000000000000195"}]}"#;
 
-const KEPT: &str = r#"200 {"entry":2,"issuer":"506700GE1G29325QX363","items":["C02 FIELD_MISSING Entity.LegalName"],"number":1}"#;
+const KEPT: &str =
+    r#"200 {"entry":2,"issuer":"506700GE1G29325QX363","items":["C02 FIELD_MISSING Entity.LegalName"],"number":1}"#;
 
 // What uploads are answered, one after the other: a number, a body, and the reply.
 const BODIES: [(u32, &str, &str); 6] = [
