@@ -12,6 +12,10 @@ pub const RECORD: &str =
 pub const EXCEPTION: &str =
     r#"{"exceptions":[{"ExceptionCategory":"DIRECT_ACCOUNTING_CONSOLIDATION_PARENT","ExceptionReason":"NON_CONSOLIDATING","LEI":"00000000000000000195"}]}"#;
 
+/// The body of an upload with an active relationship of the record's entity to its direct parent.
+pub const RELATION: &str =
+    r#"{"relationships":[{"Registration.InitialRegistrationDate":"2025-01-10T09:00:00Z","Registration.LastUpdateDate":"2025-01-10T09:00:00Z","Registration.ManagingLOU":"506700GE1G29325QX363","Registration.RegistrationStatus":"PUBLISHED","Registration.ValidationSources":"FULLY_CORROBORATED","Relationship.EndNode":"00000000000000000292","Relationship.RelationshipStatus":"ACTIVE","Relationship.RelationshipType":"IS_DIRECTLY_CONSOLIDATED_BY","Relationship.StartDate":"2025-01-10T09:00:00Z","Relationship.StartNode":"00000000000000000195"}]}"#;
+
 /// The one item of a body.
 pub fn readied(alloc: Global, body: &str) -> Result<Readied, Fail> {
     let upload = read_upload(alloc, body.as_bytes())?;

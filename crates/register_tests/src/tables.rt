@@ -1,17 +1,18 @@
 // What a table has after writes, and after the last ones were undone. The record is the standard one of the profile of
 // uploads, and the exception is of its entity.
-ghost use Rattle.std.specs.Prelude.{◌≡◌, ◌∷◌, [], IfOk, IsTrue, Some};
-ghost use Rattle.register_table.specs.Undos.{IsOfLast, MayApply};
+ghost use Rattle.std.specs.Prelude.{◌≡◌, ◌+◌, ◌∷◌, [], IsTrue, OnOk, Some};
+ghost use Rattle.register_table.specs.Held.{rows};
+ghost use Rattle.register_table.specs.Undos.{IsLater, MayApply};
 ghost use Rattle.lei_records.specs.declared.item.Item as items;
 ghost use Rattle.lei_records.specs.Tables.{row_key};
 
-use crate::items::{EXCEPTION, RECORD, readied};
+use crate::items::{EXCEPTION, RECORD, RELATION, readied};
 use authority_rules::taken;
 use lei_code::Lei;
 use lei_outside::List;
-use lei_records::{ExceptionItem, Item, Readied, Record, RowKey, Seen, View};
-use lei_shapes::{ExceptionCategory, RecordStatus};
-use register_table::{Table, Undo};
+use lei_records::{ExceptionItem, Item, Readied, Record, Relation, RowKey, Seen, View};
+use lei_shapes::{ExceptionCategory, RecordStatus, RelationType};
+use register_table::{Table, Touched};
 use std::alloc::Global;
 use std::test::Fail;
 
@@ -32,6 +33,11 @@ fn record(alloc: Global, old: &str, new: &str) -> Result<Item, Fail> {
     item_of(alloc, &RECORD.replace(alloc, old, new)?)
 }
 
+// The relationship, with one text changed for another.
+fn relation(alloc: Global, old: &str, new: &str) -> Result<Item, Fail> {
+    item_of(alloc, &RELATION.replace(alloc, old, new)?)
+}
+
 fn exception(alloc: Global) -> Result<Item, Fail> {
     item_of(alloc, EXCEPTION)
 }
@@ -39,7 +45,7 @@ fn exception(alloc: Global) -> Result<Item, Fail> {
 // Whether a record may be put: there is room, and no other live record has its authority key.
 fn may_put_record(table: &Table, new: &Record) -> bool
     ensures { IsTrue result
-        → MayApply ((row_key (items.Item.Record new.now), Some (items.Item.Record new.now)) ∷ []) table.now }
+        → MayApply ((row_key (items.Item.Record new.now), Some (items.Item.Record new.now)) ∷ []) (rows table.now.held) }
 {
     let _lei = new.lei();
     match taken(table, new) {
@@ -50,19 +56,32 @@ fn may_put_record(table: &Table, new: &Record) -> bool
 
 fn may_put_exception(table: &Table, new: &ExceptionItem) -> bool
     ensures { IsTrue result
-        → MayApply ((row_key (items.Item.Exception new.now), Some (items.Item.Exception new.now)) ∷ []) table.now }
+        → MayApply ((row_key (items.Item.Exception new.now), Some (items.Item.Exception new.now)) ∷ []) (rows table.now.held) }
 {
     let _held = table.held();
     let _lei = new.lei();
     !new.withdraws()
 }
 
+// Whether a relationship may be put: it isn't active, or no active one of its start and type is held.
+fn may_put_relation(table: &Table, new: &Relation) -> bool
+    ensures { IsTrue result
+        → MayApply ((row_key (items.Item.Relation new.now), Some (items.Item.Relation new.now)) ∷ []) (rows table.now.held) }
+{
+    let _held = table.held();
+    let start = new.start();
+    match table.active(&start, new.kind()) {
+        Seen::Empty => true,
+        _ => !new.is_active(),
+    }
+}
+
 fn may_put(table: &Table, item: &Item) -> bool
-    ensures { IsTrue result → MayApply ((row_key item.now, Some item.now) ∷ []) table.now }
+    ensures { IsTrue result → MayApply ((row_key item.now, Some item.now) ∷ []) (rows table.now.held) }
 {
     match item {
         Item::Record(record) => may_put_record(table, record),
-        Item::Relation(_) => false,
+        Item::Relation(relation) => may_put_relation(table, relation),
         Item::Exception(exception) => may_put_exception(table, exception),
     }
 }
@@ -79,26 +98,30 @@ fn key_of(item: &Item) -> RowKey
     }
 }
 
-// Puts an item that may be put.
-fn put(alloc: Global, table: &mut Table, item: Item) -> Result<Undo, Fail>
-    ensures { IfOk result (λ undo. IsOfLast undo table.new) }
+// Puts an item that may be put, as the entry of this number.
+fn put(alloc: Global, table: &mut Table, item: Item, entry: u64) -> Result<(), Fail>
+    requires { IsLater entry table.old.held }
+    ensures later { OnOk result (IsLater (entry + 1) table.new.held) }
+    ensures before { OnOk result (table.new.before ≡ Some table.old.held) }
 {
     if !may_put(table, &item) {
         return Err(Fail::from("an item that may be put"));
     }
     let key = key_of(&item);
     let writes = List::from(vec![in alloc; (key, Some(item))]?);
-    Ok(table.apply(&writes, 1)?)
+    Ok(table.apply(&writes, entry)?)
 }
 
-// Withdraws the exception of an item's key.
-fn withdraw(alloc: Global, table: &mut Table, item: &ExceptionItem) -> Result<Undo, Fail>
-    ensures { IfOk result (λ undo. IsOfLast undo table.new) }
+// Withdraws the exception of an item's key, as the entry of this number.
+fn withdraw(alloc: Global, table: &mut Table, item: &ExceptionItem, entry: u64) -> Result<(), Fail>
+    requires { IsLater entry table.old.held }
+    ensures later { OnOk result (IsLater (entry + 1) table.new.held) }
+    ensures before { OnOk result (table.new.before ≡ Some table.old.held) }
 {
     let _held = table.held();
     let key = RowKey::Exc(item.lei(), item.category());
     let writes = List::from(vec![in alloc; (key, None)]?);
-    Ok(table.apply(&writes, 2)?)
+    Ok(table.apply(&writes, entry)?)
 }
 
 // The status of a record as the table shows it, and as the rules see it.
@@ -111,6 +134,11 @@ fn statuses(table: &Table, lei: &Lei) -> (Option<RecordStatus>, Option<RecordSta
     (shown, seen)
 }
 
+// Whether all that the table tells of its cells is this.
+fn has(table: &Table, cells: &[Touched]) -> Result<bool, Fail> {
+    Ok(table.touched(0, u64::MAX)?.as_slice() == cells)
+}
+
 #[test]
 fn a_record_is_put_replaced_and_put_back(rt: HostRuntime) -> Result<(), Fail> {
     let alloc = rt.alloc();
@@ -119,17 +147,53 @@ fn a_record_is_put_replaced_and_put_back(rt: HostRuntime) -> Result<(), Fail> {
     let lapsed = Some(RecordStatus::Lapsed);
     let mut table = Table::new(alloc)?;
 
-    let first = put(alloc, &mut table, record(alloc, "ISSUED", "ISSUED")?)?;
+    put(alloc, &mut table, record(alloc, "ISSUED", "ISSUED")?, 1)?;
     assert_eq!(&rt; statuses(&table, &lei), (issued, issued), "put");
-    table.undo(first);
-    assert_eq!(&rt; statuses(&table, &lei), (None, None), "taken out");
-
-    put(alloc, &mut table, record(alloc, "ISSUED", "ISSUED")?)?;
-    let second = put(alloc, &mut table, record(alloc, "ISSUED", "LAPSED")?)?;
+    let cells = table.touched(0, 1)?;
+    put(alloc, &mut table, record(alloc, "ISSUED", "LAPSED")?, 2)?;
     assert_eq!(&rt; table.held(), 1, "one record still");
     assert_eq!(&rt; statuses(&table, &lei), (lapsed, lapsed), "replaced");
-    table.undo(second);
+    table.undo();
     assert_eq!(&rt; statuses(&table, &lei), (issued, issued), "put back");
+    assert!(&rt; has(&table, cells.as_slice())?, "all as before");
+    Ok(())
+}
+
+#[test]
+fn a_key_that_a_record_gave_up_is_its_own_again(rt: HostRuntime) -> Result<(), Fail> {
+    let alloc = rt.alloc();
+    let lei = Lei::read(LEI.as_bytes())?;
+    let mut table = Table::new(alloc)?;
+
+    put(alloc, &mut table, record(alloc, "ISSUED", "ISSUED")?, 1)?;
+    let cells = table.touched(0, 1)?;
+    put(alloc, &mut table, record(alloc, "ISSUED", "RETIRED")?, 2)?;
+    assert_eq!(&rt; table.holder("RA000001", "1001"), Seen::Empty, "not live");
+    put(
+        alloc,
+        &mut table,
+        record(alloc, "00000000000000000195", "00000000000000000292")?,
+        3,
+    )?;
+    let other = Lei::read(b"00000000000000000292")?;
+    assert_eq!(&rt;
+        table.holder("RA000001", "1001"),
+        Seen::Held(other),
+        "taken by another"
+    );
+    table.undo();
+    assert_eq!(&rt; table.holder("RA000001", "1001"), Seen::Empty, "given back");
+    assert_eq!(&rt; table.counts(), (1, 0, 0), "the other is gone");
+    assert_eq!(&rt;
+        table.touched(0, 1)?.len(),
+        0,
+        "touched again by a later entry"
+    );
+    assert_eq!(&rt;
+        cells.as_slice()[0].key,
+        RowKey::Rec(lei),
+        "the first entry's own"
+    );
     Ok(())
 }
 
@@ -141,11 +205,53 @@ fn an_exception_is_put_withdrawn_and_put_back(rt: HostRuntime) -> Result<(), Fai
         return Err(Fail::from("an exception"));
     };
     let mut table = Table::new(alloc)?;
-    put(alloc, &mut table, exception(alloc)?)?;
+    put(alloc, &mut table, exception(alloc)?, 1)?;
+    let cells = table.touched(0, 1)?;
     assert_eq!(&rt; table.exception(&lei, DIRECT), Seen::Held(()), "put");
-    let undo = withdraw(alloc, &mut table, &own)?;
+    withdraw(alloc, &mut table, &own, 2)?;
     assert_eq!(&rt; table.exception(&lei, DIRECT), Seen::Empty, "withdrawn");
-    table.undo(undo);
+    assert_eq!(&rt; table.counts(), (0, 0, 0), "no row");
+    assert_eq!(&rt; table.touched(1, 2)?.len(), 1, "its cell stays");
+    assert_eq!(&rt;
+        table.touched(2, 9)?.len(),
+        0,
+        "the lower end is not within"
+    );
+    table.undo();
     assert_eq!(&rt; table.exception(&lei, DIRECT), Seen::Held(()), "put back");
+    assert!(&rt; has(&table, cells.as_slice())?, "all as before");
+    Ok(())
+}
+
+#[test]
+fn an_active_end_comes_back(rt: HostRuntime) -> Result<(), Fail> {
+    let alloc = rt.alloc();
+    let (start, kind) = (
+        Lei::read(LEI.as_bytes())?,
+        RelationType::IsDirectlyConsolidatedBy,
+    );
+    let first = Lei::read(b"00000000000000000292")?;
+    let mut table = Table::new(alloc)?;
+    put(
+        alloc,
+        &mut table,
+        relation(alloc, "\"ACTIVE\"", "\"ACTIVE\"")?,
+        1,
+    )?;
+    let cells = table.touched(0, 1)?;
+    put(
+        alloc,
+        &mut table,
+        relation(alloc, "\"ACTIVE\"", "\"INACTIVE\"")?,
+        2,
+    )?;
+    assert_eq!(&rt; table.active(&start, kind), Seen::Empty, "not active");
+    table.undo();
+    assert_eq!(&rt;
+        table.active(&start, kind),
+        Seen::Held(first),
+        "active again"
+    );
+    assert!(&rt; has(&table, cells.as_slice())?, "all as before");
     Ok(())
 }
