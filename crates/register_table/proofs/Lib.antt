@@ -5,4 +5,5 @@ pub mod PartLemmas
 pub mod NoteLemmas
 pub mod ReadLemmas
 pub mod KeptLemmas
+pub mod StampLemmas
 pub mod TouchLemmas

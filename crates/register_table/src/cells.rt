@@ -1,14 +1,17 @@
 // The cells of a table, in an ordered map.
-ghost use Rattle.std.specs.Prelude.{◌≡◌, Some, None, IfOk, OnOk, OnErr, IfSome, is_some, map, option_map};
+ghost use Rattle.std.specs.Prelude.{◌≡◌, true, Some, None, IfOk, OnOk, OnErr, IfSome, is_some, map, option_map};
 ghost use Rattle.std.specs.FinMap.{empty, get, insert, remove};
 ghost use Rattle.register_table.specs.Cells.{IsOwnCell, cell_in};
 ghost use Rattle.register_table.specs.Counts.{AreCounts};
-ghost use Rattle.register_table.specs.Held.{cell_key, row_in, rows};
-ghost use Rattle.register_table.specs.Touched.{shown, touched};
+ghost use Rattle.lei_records.specs.Tables.{KeyTexts};
+ghost use Rattle.register_table.specs.Held.{Cell, cell_key, row_in, rows};
+ghost use Rattle.register_table.specs.Touched.{is_touched, shown, touched};
 ghost use Rattle.register_table.specs.Rising.{AreRising, within};
+ghost use Rattle.register_table.specs.Stamps.{HasStamp};
 
 use crate::counts::Counts;
 use crate::keys::TextKey;
+use crate::stamps::Stamp;
 use crate::touched::{Touched, is_within, touched_of};
 use lei_outside::NoMemory;
 use lei_records::{Item, RowKey};
@@ -22,6 +25,28 @@ use std::marker::Model;
 pub struct Slot {
     pub entry: u64,
     pub item: Option<Item>,
+}
+
+impl Slot {
+    /// The slot once more. Its item shares its texts.
+    pub fn share(&self) -> Result<Self, NoMemory>
+        ensures { IfOk result (λ slot. slot ≡ self.now) }
+    {
+        Ok(Slot {
+            entry: self.entry,
+            item: share(&self.item)?,
+        })
+    }
+}
+
+/// An item once more, which shares its texts, or none.
+pub fn share(item: &Option<Item>) -> Result<Option<Item>, NoMemory>
+    ensures { IfOk result (λ shared. shared ≡ item.now) }
+{
+    match item {
+        Some(item) => Ok(Some(item.share()?)),
+        None => Ok(None),
+    }
 }
 
 /// The cells. Contracts see them as a finite map.
@@ -77,11 +102,44 @@ impl CellMap {
         self.counts
     }
 
-    /// The cells whose numbers are greater than `after` and at most `upto`.
-    pub fn touched(&self, alloc: Global, after: u64, upto: u64) -> Result<Vec<Touched>, NoMemory>
+    /// The cells whose numbers are greater than `after` and at most `upto`, found by the stamps of such numbers.
+    pub fn touched(
+        &self,
+        alloc: Global,
+        stamps: &[Stamp],
+        after: u64,
+        upto: u64,
+    ) -> Result<Vec<Touched>, NoMemory>
+        requires { (key : KeyTexts) (cell : Cell) → get self.now key ≡ Some cell
+            → is_touched after upto cell ≡ true → HasStamp stamps.now cell.entry key }
         ensures { IfOk result (λ list. map shown list.items ≡ touched after upto self.now) }
     {
-        touched_in(alloc, &self.map, after, upto)
+        let stamped = self.stamped(alloc, stamps, after, upto)?;
+        touched_in(alloc, &stamped.map, after, upto)
+    }
+
+    // The cells whose keys are stamped and whose numbers are greater than `after` and at most `upto`.
+    fn stamped(
+        &self,
+        alloc: Global,
+        stamps: &[Stamp],
+        after: u64,
+        upto: u64,
+    ) -> Result<CellMap, NoMemory>
+        ensures held { IfOk result (λ found. (key : KeyTexts) (cell : Cell) → get found key ≡ Some cell
+            → get self.now key ≡ Some cell) }
+        ensures all { IfOk result (λ found. (key : KeyTexts) (cell : Cell) → get self.now key ≡ Some cell
+            → is_touched after upto cell ≡ true → HasStamp stamps.now cell.entry key → get found key ≡ Some cell) }
+    {
+        let mut found = CellMap::new(alloc);
+        for stamp in stamps {
+            if let Some(slot) = self.get(&stamp.key) {
+                if is_within(slot, after, upto) {
+                    drop(found.insert(&stamp.key, slot.share()?)?);
+                }
+            }
+        }
+        Ok(found)
     }
 
     /// Puts a cell under a key, and hands out what was held there. At a key that has one it takes no memory.

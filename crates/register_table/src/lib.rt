@@ -9,6 +9,7 @@ mod holders;
 mod keys;
 mod parts;
 mod reading;
+mod stamps;
 mod table;
 mod touched;
 mod writes;

@@ -9,6 +9,7 @@ use crate::cells::CellMap;
 use crate::ends::Ends;
 use crate::holders::Holders;
 use crate::parts::{Note, Parts};
+use crate::stamps::{Stamp, stamp_writes, stamps_within};
 use crate::touched::Touched;
 use crate::writes::{put_writes, undo_notes};
 use lei_code::Lei;
@@ -24,6 +25,8 @@ use std::marker::Model;
 pub struct Table {
     alloc: Global,
     parts: Parts,
+    // Each key that was touched, behind those of earlier entries.
+    stamps: Vec<Stamp>,
     // What the last writes replaced, unless they were taken back.
     last: Option<Vec<Note>>,
 }
@@ -32,6 +35,7 @@ impl Model for Table {
     ghost use Rattle.std.specs.Prelude.{IfSome, map, option_map};
     ghost use Rattle.register_table.specs.Held.{TableState, state_code};
     ghost use Rattle.register_table.specs.Parts.{AreParts, CanBeUndone, note_of};
+    ghost use Rattle.register_table.specs.Stamps.{AreInOrder, AreStamped};
     ghost use Rattle.register_table.specs.Undos.{undone};
 
     ghost Value = { TableState };
@@ -44,7 +48,9 @@ impl Model for Table {
     } };
 
     ghost invariant = { λ table. AreParts table.parts
-        × IfSome table.last (λ notes. CanBeUndone notes.items table.parts) };
+        × IfSome table.last (λ notes. CanBeUndone notes.items table.parts)
+        × AreInOrder table.stamps.items × AreStamped table.stamps.items table.parts.cells
+        × IfSome table.last (λ notes. AreStamped table.stamps.items (undone (map note_of notes.items) table.parts.cells)) };
 }
 
 impl View for Table {
@@ -103,6 +109,7 @@ impl Table {
         Ok(Table {
             alloc,
             parts,
+            stamps: Vec::new(alloc),
             last: None,
         })
     }
@@ -119,6 +126,7 @@ impl Table {
         ensures err { OnErr result (self.new ≡ self.old) }
     {
         let mut notes = Vec::with_capacity(self.alloc, writes.len())?;
+        self.stamps.reserve(writes.len())?;
         match put_writes(
             self.alloc,
             &mut self.parts,
@@ -127,6 +135,7 @@ impl Table {
             &mut notes,
         ) {
             Ok(()) => {
+                stamp_writes(&mut self.stamps, writes.as_slice(), entry);
                 self.last = Some(notes);
                 Ok(())
             }
@@ -154,7 +163,8 @@ impl Table {
     pub fn touched(&self, after: u64, upto: u64) -> Result<Vec<Touched>, NoMemory>
         ensures { IfOk result (λ list. map shown list.items ≡ touched after upto self.now.held) }
     {
-        self.parts.cells.touched(self.alloc, after, upto)
+        let stamps = stamps_within(self.stamps.as_slice(), after, upto);
+        self.parts.cells.touched(self.alloc, stamps, after, upto)
     }
 
     /// The number of records.

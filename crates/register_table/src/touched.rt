@@ -5,7 +5,7 @@ ghost use Rattle.register_table.specs.Cells.{cell_in};
 ghost use Rattle.register_table.specs.Held.{cell_key};
 ghost use Rattle.register_table.specs.Touched.{is_touched};
 
-use crate::cells::Slot;
+use crate::cells::{Slot, share};
 use lei_outside::NoMemory;
 use lei_records::{Item, RowKey};
 
@@ -29,13 +29,9 @@ pub fn is_within(slot: &Slot, after: u64, upto: u64) -> bool
 pub fn touched_of(key: &RowKey, slot: &Slot) -> Result<Touched, NoMemory>
     ensures { IfOk result (λ touched. shown touched ≡ (cell_key key.now, cell_in slot.now)) }
 {
-    let item = match &slot.item {
-        Some(item) => Some(item.share()?),
-        None => None,
-    };
     Ok(Touched {
         key: *key,
         entry: slot.entry,
-        item,
+        item: share(&slot.item)?,
     })
 }

@@ -6,7 +6,7 @@ ghost use Rattle.register_table.specs.Held.{IsKept, rows};
 ghost use Rattle.register_table.specs.Parts.{AreParts, CanBeUndone, Grows, note_of};
 ghost use Rattle.register_table.specs.Undos.{AreOwn, IsOwn, StaysKept, cell_of, touch, touch_all, undone};
 
-use crate::cells::Slot;
+use crate::cells::{Slot, share};
 use crate::parts::{Note, Parts, put, put_back};
 use lei_outside::NoMemory;
 use lei_records::{Item, RowKey};
@@ -72,11 +72,10 @@ fn put_write(
 fn slot_of(item: &Option<Item>, entry: u64) -> Result<Slot, NoMemory>
     ensures { IfOk result (λ slot. (slot.item ≡ item.now) × (slot.entry ≡ entry)) }
 {
-    let item = match item {
-        Some(item) => Some(item.share()?),
-        None => None,
-    };
-    Ok(Slot { entry, item })
+    Ok(Slot {
+        entry,
+        item: share(item)?,
+    })
 }
 
 /// Puts back what was noted, from the last note to the first. It takes no memory.
