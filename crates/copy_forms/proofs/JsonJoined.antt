@@ -1,0 +1,43 @@
+-- What is joined of rendered rows and changes is the text of their file.
+use Rattle.std.proofs.Common.{◌≡◌, List, [], ◌∷◌, ◌++◌, false, refl, sym, ap, ◌∙◌, length, map}
+use Rattle.std.proofs.lemmas.List.{length-map}
+use Rattle.copy_forms.specs.declared.heads.Head.{Head}
+use Rattle.copy_forms.specs.declared.rows.Change.{Change}
+use Rattle.copy_forms.specs.declared.rows.RowTexts.{RowTexts}
+use Rattle.copy_forms.specs.declared.rows.TextChange.{TextChange}
+use Rattle.copy_forms.specs.Files.{rendered, rendered_change}
+use Rattle.copy_forms.specs.Json.{json_copy, json_delta, json_record}
+use Rattle.copy_forms.specs.JsonTexts.{before_copy, before_delta, records_text, text_change_record}
+use Rattle.copy_forms.specs.Sheets.{SheetRow}
+use Rattle.copy_forms.proofs.JsonCopies.{copy-text}
+use Rattle.copy_forms.proofs.JsonDeltas.{delta-text, json_change}
+use Rattle.copy_forms.proofs.JsonItems.{end-is}
+
+records-of : (rows : List SheetRow) → map (λ (texts : RowTexts). texts.json) (map rendered rows) ≡ map json_record rows
+records-of [] = refl
+records-of (row ∷ rows) = ap (λ l. json_record row ∷ l) (records-of rows)
+
+pub copy-joined : (head : Head) (texts : List RowTexts) (rows : List SheetRow) → texts ≡ map rendered rows
+    → before_copy head (length texts) (records_text false (map (λ (t : RowTexts). t.json) texts) ++ 125 ∷ []) ≡ json_copy head rows
+copy-joined head texts rows is =
+    ap (λ l. before_copy head (length l) (records_text false (map (λ (t : RowTexts). t.json) l) ++ 125 ∷ [])) is
+    ∙ ap (λ n. before_copy head n (records_text false (map (λ (t : RowTexts). t.json) (map rendered rows)) ++ 125 ∷ [])) (length-map rows rendered)
+    ∙ ap (λ l. before_copy head (length rows) (records_text false l ++ 125 ∷ [])) (records-of rows)
+    ∙ ap (before_copy head (length rows)) (sym (end-is false (map json_record rows))) ∙ sym (copy-text head rows)
+
+change-of : (change : Change) → text_change_record (rendered_change change) ≡ json_change change
+unfolding json_change
+change-of (Change.Put row) = refl
+change-of (Change.Drop row) = refl
+
+changes-of : (changes : List Change) → map text_change_record (map rendered_change changes) ≡ map json_change changes
+changes-of [] = refl
+changes-of (change ∷ changes) = ap (λ l. text_change_record (rendered_change change) ∷ l) (changes-of changes) ∙ ap (λ t. t ∷ map json_change changes) (change-of change)
+
+pub delta-joined : (head : Head) (texts : List TextChange) (changes : List Change) → texts ≡ map rendered_change changes
+    → before_delta head (length texts) (records_text false (map text_change_record texts) ++ 125 ∷ []) ≡ json_delta head changes
+delta-joined head texts changes is =
+    ap (λ l. before_delta head (length l) (records_text false (map text_change_record l) ++ 125 ∷ [])) is
+    ∙ ap (λ n. before_delta head n (records_text false (map text_change_record (map rendered_change changes)) ++ 125 ∷ [])) (length-map changes rendered_change)
+    ∙ ap (λ l. before_delta head (length changes) (records_text false l ++ 125 ∷ [])) (changes-of changes)
+    ∙ ap (before_delta head (length changes)) (sym (end-is false (map json_change changes))) ∙ sym (delta-text head changes)

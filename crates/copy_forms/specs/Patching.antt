@@ -1,0 +1,48 @@
+-- A copy patched by a delta: this project's profile.
+use Rattle.std.specs.Prelude.{◌≡◌, List, [], ◌∷◌, map}
+use Rattle.std.specs.FinMap.{FinMap, from_entries, insert, remove, values}
+use Rattle.lei_code.specs.Texts.{Text}
+use Rattle.lei_records.specs.Tables.{key_cmp}
+use Rattle.copy_forms.specs.declared.heads.Head.{Head}
+use Rattle.copy_forms.specs.declared.rows.Change.{Change}
+use Rattle.copy_forms.specs.declared.sheets.Form.{Form}
+use Rattle.copy_forms.specs.declared.sheets.Sheet.{Sheet}
+use Rattle.copy_forms.specs.Files.{IsCopy, IsDelta, copy}
+use Rattle.copy_forms.specs.Sheets.{SheetRow, key}
+
+-- Rows under their keys, in the order of these.
+abbrev pub Keyed : Type 0
+Keyed = FinMap key_cmp SheetRow
+
+-- The rows of a list under their keys.
+abbrev pub keyed : List SheetRow → Keyed
+keyed rows = from_entries (map (λ row. (key row, row)) rows)
+
+-- A change puts its row in the place of the row of its key or as a row of its own, or takes out the row of its key where
+-- there is one.
+abbrev pub changed : Keyed → Change → Keyed
+changed rows (Change.Put row) = insert rows (key row) row
+changed rows (Change.Drop row) = remove rows (key row)
+
+-- All changes in their order.
+abbrev pub all_changed : Keyed → List Change → Keyed
+all_changed rows [] = rows
+all_changed rows (change ∷ changes) = all_changed (changed rows change) changes
+
+-- The rows of a copy after a delta, in the order of their keys.
+abbrev pub patched : List SheetRow → List Change → List SheetRow
+patched rows changes = values (all_changed (keyed rows) changes)
+
+-- The head of a copy after a delta: the moment and the number of the delta's publication.
+abbrev pub patched_head : Head → Head
+patched_head head = record { moment = head.moment; publication = head.publication; from = 0 }
+
+-- The bytes are the copy after the delta: that of the patched rows with the delta's head.
+pub record IsPatched (base delta bytes : Text) (sheet : Sheet) (form : Form) : Type 0 where
+  pub base_head : Head
+  pub rows : List SheetRow
+  pub base_is : IsCopy base sheet form base_head rows
+  pub head : Head
+  pub changes : List Change
+  pub delta_is : IsDelta delta sheet form head changes
+  pub bytes_are : bytes ≡ copy sheet form (patched_head head) (patched rows changes)

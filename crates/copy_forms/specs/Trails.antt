@@ -1,0 +1,128 @@
+-- Trails: publications one behind the other, with the keys that were touched between them.
+use Rattle.std.specs.Prelude.{◌≡◌, ◌≤◌, ◌-◌, ℕ, ℤ, List, [], ◌∷◌, ◌++◌, map, take, drop, length, flat_map, Bool, false, Option, None, Some, ⊤, IsTrue, codes, replicate}
+use Rattle.std.specs.FinMap.{from_entries, get, keys}
+use Rattle.std.specs.List.{All, list_all, list_any, slice_get}
+use Rattle.std.specs.Ordering.{eq_by_cmp}
+use Rattle.std.specs.Str.{is_utf8}
+use Rattle.lei_code.specs.Texts.{Text}
+use Rattle.lei_shapes.specs.Moment.{IsMoment}
+use Rattle.lei_records.specs.Tables.{KeyTexts, key_cmp}
+use Rattle.copy_forms.specs.declared.heads.Head.{Head}
+use Rattle.copy_forms.specs.declared.rows.Change.{Change}
+use Rattle.copy_forms.specs.declared.sheets.Form.{Form}
+use Rattle.copy_forms.specs.declared.sheets.Sheet.{Sheet}
+use Rattle.copy_forms.specs.Files.{copy, delta}
+use Rattle.copy_forms.specs.Patching.{IsPatched, keyed}
+use Rattle.copy_forms.specs.Rows.{AreRows}
+use Rattle.copy_forms.specs.Sheets.{SheetRow, key_len, row_of, width}
+
+-- A publication: its moment, its rows of each sheet, and the keys that were touched since the one before.
+pub record Publication : Type 0 where
+  pub moment : ℤ
+  pub rows : Sheet → List SheetRow
+  pub touched : Sheet → List KeyTexts
+
+-- Publications one behind the other: the first has the number 1.
+abbrev pub Trail : Type 0
+Trail = List Publication
+
+-- ---- keys
+
+-- The row of a key, if there is one.
+abbrev pub row_under : List SheetRow → KeyTexts → Option SheetRow
+row_under rows k = get (keyed rows) k
+
+-- The key is one of these.
+abbrev pub is_among : KeyTexts → List KeyTexts → Bool
+is_among k keys = list_any (eq_by_cmp key_cmp k) keys
+
+-- The keys in their order, each once.
+abbrev pub in_order : List KeyTexts → List KeyTexts
+in_order touched = keys (from_entries {R = key_cmp} (map (λ k. (k, k)) touched))
+
+-- A key of a sheet: so many texts as its rows have in their keys, each UTF-8.
+pub record IsKeyOf (sheet : Sheet) (k : KeyTexts) : Type 0 where
+  pub wide : length k ≡ key_len sheet
+  pub utf8 : IsTrue (list_all is_utf8 k)
+
+-- ---- sound trails
+
+-- A publication follows one with the rows of before: its rows are rows of the sheet whose keys rise, and a key that was
+-- not touched has the same row as before, or none as before.
+pub record IsNext (before : Sheet → List SheetRow) (next : Publication) : Type 0 where
+  pub moment_is : IsMoment next.moment
+  pub rows_are : (sheet : Sheet) → AreRows sheet (next.rows sheet)
+  pub keys_are : (sheet : Sheet) → All (IsKeyOf sheet) (next.touched sheet)
+  pub kept : (sheet : Sheet) (k : KeyTexts) → is_among k (next.touched sheet) ≡ false
+      → row_under (next.rows sheet) k ≡ row_under (before sheet) k
+
+-- Each publication follows the one before it.
+abbrev pub FollowOn : (Sheet → List SheetRow) → Trail → Type 0
+FollowOn before [] = ⊤
+FollowOn before (next ∷ later) = IsNext before next × FollowOn next.rows later
+
+-- Before the first publication there are no rows.
+abbrev pub no_rows : Sheet → List SheetRow
+no_rows sheet = []
+
+-- A trail is sound where each publication follows the one before it.
+abbrev pub IsSound : Trail → Type 0
+IsSound trail = FollowOn no_rows trail
+
+-- ---- copies and deltas of a trail
+
+-- The head of the copy of a publication with this number.
+abbrev pub copy_head : ℕ → Publication → Head
+copy_head number publication = record { moment = publication.moment; publication = number; from = 0 }
+
+-- The head of the delta to it from another one.
+abbrev pub delta_head : ℕ → ℕ → Publication → Head
+delta_head from number publication = record { moment = publication.moment; publication = number; from = from }
+
+-- The copy of a publication.
+abbrev pub copy_of : ℕ → Publication → Sheet → Form → Text
+copy_of number publication sheet form = copy sheet form (copy_head number publication) (publication.rows sheet)
+
+-- The row of a key that is dropped: the key, and no other texts.
+abbrev pub dropped_row : Sheet → KeyTexts → SheetRow
+dropped_row sheet k = row_of sheet (k ++ replicate (width sheet - key_len sheet) (codes ""))
+
+-- What a delta has of a key whose row now is this.
+abbrev pub change_to : Sheet → KeyTexts → Option SheetRow → Change
+change_to sheet k (Some row) = Change.Put row
+change_to sheet k None = Change.Drop (dropped_row sheet k)
+
+-- The same of a key by the rows that are there now.
+abbrev pub change_of : Sheet → List SheetRow → KeyTexts → Change
+change_of sheet rows k = change_to sheet k (row_under rows k)
+
+-- The keys of a sheet that were touched by these publications.
+abbrev pub touched_in : Sheet → List Publication → List KeyTexts
+touched_in sheet later = flat_map (λ publication. publication.touched sheet) later
+
+-- The publications of a trail behind the one with a number, up to another one.
+abbrev pub between : Trail → ℕ → ℕ → List Publication
+between trail from number = take (number - from) (drop from trail)
+
+-- The changes of the delta between two publications: each key that was touched behind the first, once and in order, with
+-- its row in the other.
+abbrev pub changes_between : Trail → ℕ → ℕ → Publication → Sheet → List Change
+changes_between trail from number publication sheet =
+    map (change_of sheet (publication.rows sheet)) (in_order (touched_in sheet (between trail from number)))
+
+-- The delta between two publications.
+abbrev pub delta_between : Trail → ℕ → ℕ → Publication → Sheet → Form → Text
+delta_between trail from number publication sheet form =
+    delta sheet form (delta_head from number publication) (changes_between trail from number publication sheet)
+
+-- The publication with this number, counted from 1.
+abbrev pub publication_at : Trail → ℕ → Option Publication
+publication_at trail number = slice_get trail (number - 1)
+
+-- In the trail the copy of each publication, patched by the delta from there to a later one or to itself, is the copy of
+-- that one, byte for byte.
+abbrev pub DeltasLeadOn : Trail → Type 0
+DeltasLeadOn trail =
+    (p q : ℕ) (base latest : Publication) → 1 ≤ p → p ≤ q → publication_at trail p ≡ Some base → publication_at trail q ≡ Some latest
+    → (sheet : Sheet) (form : Form)
+    → IsPatched (copy_of p base sheet form) (delta_between trail p q latest sheet form) (copy_of q latest sheet form) sheet form

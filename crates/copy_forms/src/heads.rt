@@ -1,0 +1,31 @@
+//! Heads of golden copies and of deltas, and what is read of these.
+use crate::rows::{Change, Row};
+use lei_outside::List;
+use lei_shapes::Moment;
+
+/// What stands at the head of a copy or a delta in JSON. In CSV it isn't printed.
+#[derive(Clone, Copy, Debug, PartialEq, Eq)]
+pub struct Head {
+    /// The moment of the publication.
+    pub moment: Moment,
+    /// The number of the publication, from 1 to 1,000,000.
+    pub publication: u32,
+    /// The number of the publication that a delta goes from, from 1 to 1,000,000; 0 in a copy.
+    pub from: u32,
+}
+
+/// A golden copy that was read.
+#[derive(Debug, Drop)]
+pub struct CopyRead {
+    /// None exactly in CSV.
+    pub head: Option<Head>,
+    pub rows: List<Row>,
+}
+
+/// A delta that was read.
+#[derive(Debug, Drop)]
+pub struct DeltaRead {
+    /// None exactly in CSV.
+    pub head: Option<Head>,
+    pub changes: List<Change>,
+}

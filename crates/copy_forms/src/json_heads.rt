@@ -1,0 +1,142 @@
+//! The begins of files in JSON, read back where they stand as they are printed.
+ghost use Rattle.std.specs.Prelude.{◌≡◌, ◌≤◌, ◌<◌, ◌+◌, ◌==◌, List, ℕ, Bool, true, false, [], ◌∷◌, ◌++◌, length, take, slice_index, option_map, Some, None, MatchOption, decimal, codes, IsTrue};
+ghost use Rattle.std.specs.Char.{is_ascii_digit};
+ghost use Rattle.std.specs.List.{prefix_len};
+ghost use Rattle.copy_forms.specs.JsonReading as spec;
+ghost use Rattle.copy_forms.specs.JsonReading.{Gives, number_of};
+
+use crate::faults::FormFault;
+use crate::json_strings::{after, escaped_from};
+use itoa::Buffer;
+use lei_shapes::Moment;
+use std::alloc::Global;
+use std::str;
+
+/// The moment of a file, and the bytes behind it.
+#[tactic(auto, unfolding(crate::specs::JsonReading::date_from, crate::specs::JsonReading::moment_from, json::specs::Print::escape_byte))]
+pub fn date_from<'a>(alloc: Global, bytes: &'a [u8]) -> Result<(Moment, &'a [u8]), FormFault>
+    ensures { Gives (λ read. (read.0, read.1.now)) result (spec.date_from bytes.now) }
+{
+    let Some(date) = after(bytes, b"{\"contentDate\":\"") else {
+        return Err(FormFault::NotRead);
+    };
+    let (text, rest) = escaped_from(alloc, date)?;
+    match printed_moment(text.as_slice()) {
+        Some(moment) => Ok((moment, rest)),
+        None => Err(FormFault::NotRead),
+    }
+}
+
+// The moment that a text is the printed form of.
+fn printed_moment(text: &[u8]) -> Option<Moment>
+    ensures { result ≡ spec.printed_moment text.now }
+{
+    let Ok(text) = str::from_utf8(text) else {
+        return None;
+    };
+    let moment = Moment::read(text)?;
+    if moment.text().as_slice() == text.as_bytes() {
+        Some(moment)
+    } else {
+        None
+    }
+}
+
+// How many digits stand first.
+fn digit_count(bytes: &[u8]) -> usize
+    ensures within { result ≤ length bytes.now }
+    ensures before { (k : ℕ) → k < result → is_ascii_digit (slice_index bytes.now k) ≡ true }
+    ensures stop { result < length bytes.now → is_ascii_digit (slice_index bytes.now result) ≡ false }
+{
+    for (index, byte) in bytes.iter().enumerate() {
+        if !byte.is_ascii_digit() {
+            return index;
+        }
+    }
+    bytes.len()
+}
+
+// The number that digits write in decimal.
+fn number_of(digits: &[u8]) -> Option<u64>
+    ensures { result ≡ number_of digits.now }
+{
+    let number = match str::from_utf8(digits) {
+        Ok(digits) => digits.parse::<u64>(),
+        Err(_) => return None,
+    };
+    let Ok(number) = number else {
+        return None;
+    };
+    let mut buffer = Buffer::new();
+    if buffer.format(number).as_bytes() == digits {
+        Some(number)
+    } else {
+        None
+    }
+}
+
+// A number, and the bytes behind its digits.
+fn number_from(bytes: &[u8]) -> Option<(u64, &[u8])>
+    ensures { option_map (λ read. (read.0, read.1.now)) result ≡ spec.number_from bytes.now }
+{
+    let (digits, rest) = bytes.split_at(digit_count(bytes));
+    match number_of(digits) {
+        Some(number) => Some((number, rest)),
+        None => None,
+    }
+}
+
+// The number of a publication behind a front, and the bytes behind it.
+#[tactic(auto, unfolding(crate::specs::JsonReading::publication_behind))]
+fn publication_behind<'a>(bytes: &'a [u8], front: &[u8]) -> Option<(u32, &'a [u8])>
+    ensures { option_map (λ read. (read.0, read.1.now)) result ≡ spec.publication_behind front.now bytes.now }
+{
+    let Some((number, rest)) = number_behind(bytes, front) else {
+        return None;
+    };
+    if matches!(number, 1..=1_000_000) {
+        Some((number as u32, rest))
+    } else {
+        None
+    }
+}
+
+// The number behind a front, and the bytes behind it.
+fn number_behind<'a>(bytes: &'a [u8], front: &[u8]) -> Option<(u64, &'a [u8])>
+    ensures { option_map (λ read. (read.0, read.1.now)) result ≡ spec.number_behind front.now bytes.now }
+{
+    match after(bytes, front) {
+        Some(digits) => number_from(digits),
+        None => None,
+    }
+}
+
+/// The number of a publication, and the bytes behind it.
+#[tactic(auto, unfolding(json::specs::Print::escape_byte))]
+pub fn publication_from(bytes: &[u8]) -> Option<(u32, &[u8])>
+    ensures { option_map (λ read. (read.0, read.1.now)) result ≡ spec.publication_from (codes "publication") bytes.now }
+{
+    publication_behind(bytes, b",\"publication\":")
+}
+
+/// The number of the publication that a delta goes from, and the bytes behind it.
+#[tactic(auto, unfolding(json::specs::Print::escape_byte))]
+pub fn base_from(bytes: &[u8]) -> Option<(u32, &[u8])>
+    ensures { option_map (λ read. (read.0, read.1.now)) result ≡ spec.publication_from (codes "fromPublication") bytes.now }
+{
+    publication_behind(bytes, b",\"fromPublication\":")
+}
+
+/// How many records a file has, and the bytes behind the bracket that opens their array.
+#[tactic(auto, unfolding(crate::specs::JsonReading::count_from, json::specs::Print::escape_byte))]
+pub fn count_from(bytes: &[u8]) -> Option<(u64, &[u8])>
+    ensures { option_map (λ read. (read.0, read.1.now)) result ≡ spec.count_from bytes.now }
+{
+    let Some((count, rest)) = number_behind(bytes, b",\"recordCount\":") else {
+        return None;
+    };
+    match after(rest, b",\"records\":[") {
+        Some(records) => Some((count, records)),
+        None => None,
+    }
+}

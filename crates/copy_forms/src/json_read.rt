@@ -1,0 +1,182 @@
+//! The records of JSON, read back where they stand as they are printed.
+ghost use Rattle.std.specs.Prelude.{◌≡◌, ◌≤◌, ◌++◌, ◌∷◌, List, ℕ, Bool, true, false, [], length, map, IfOk, OnOk, Some};
+ghost use Rattle.copy_forms.specs.Json.{json_names};
+ghost use Rattle.copy_forms.specs.JsonTexts;
+ghost use Rattle.copy_forms.specs.JsonReading as spec;
+ghost use Rattle.copy_forms.specs.JsonReading.{Adds, Gives, json_ranks, kept};
+ghost use Rattle.copy_forms.specs.Sheets;
+
+use crate::faults::FormFault;
+use crate::json_strings::{after, escaped_from, plain_len};
+use crate::json_text::{name_at, places};
+use crate::rows::Row;
+use crate::sheets::Sheet;
+use crate::texts::Texts;
+use json::Writer;
+use lei_outside::{Bytes, NoMemory};
+use std::alloc::Global;
+use std::str;
+
+// Where each field of a sheet, in order of place, stands in byte order of the names.
+const LEI_RANKS: [u8; 28] = [
+    21, 16, 17, 11, 9, 13, 10, 12, 6, 4, 8, 5, 7, 19, 18, 15, 1, 14, 3, 2, 20, 23, 24, 27, 26, 25,
+    28, 22,
+];
+
+const RR_RANKS: [u8; 11] = [11, 9, 7, 8, 10, 6, 1, 2, 4, 3, 5];
+
+const REPEX_RANKS: [u8; 4] = [4, 1, 2, 3];
+
+fn ranks(sheet: Sheet) -> &'static [u8]
+    ensures { result.now ≡ json_ranks sheet }
+{
+    match sheet {
+        Sheet::Lei => &LEI_RANKS,
+        Sheet::Rr => &RR_RANKS,
+        Sheet::Repex => &REPEX_RANKS,
+    }
+}
+
+/// What stands before the texts of a sheet's fields, in byte order of their names and each with its comma.
+pub fn leads(alloc: Global, sheet: Sheet) -> Result<Vec<Bytes>, NoMemory>
+    ensures { IfOk result (λ leads. leads.items ≡ map (JsonTexts.lead true) (json_names sheet)) }
+{
+    let mut leads = Vec::new(alloc);
+    for place in places(sheet) {
+        leads.push(lead(alloc, name_at(sheet, usize::from(*place)))?)?;
+    }
+    Ok(leads)
+}
+
+fn lead(alloc: Global, name: &str) -> Result<Bytes, NoMemory>
+    ensures { IfOk result (λ lead. lead ≡ JsonTexts.lead true name.now) }
+{
+    let mut out = Vec::new(alloc);
+    out.push(b',')?;
+    let mut out = Writer::new(out);
+    out.key(name)?;
+    let mut out = out.into_inner();
+    out.push(b'"')?;
+    Ok(Bytes::from(out))
+}
+
+// Puts a text behind the others, where it may stand in a record.
+fn put_text(texts: &mut Texts, text: &[u8]) -> Result<(), FormFault>
+    ensures { Adds (λ kept _. kept) texts.old texts.new result (kept text.now) }
+{
+    if text.is_empty() {
+        return Err(FormFault::NotRead);
+    }
+    match str::from_utf8(text) {
+        Ok(text) => {
+            texts.push(text)?;
+            Ok(())
+        }
+        Err(_) => Err(FormFault::NotRead),
+    }
+}
+
+// Puts the text of a string behind the others, from behind its opening quote, and gives the bytes behind it.
+fn text_from<'a>(alloc: Global, texts: &mut Texts, bytes: &'a [u8]) -> Result<&'a [u8], FormFault>
+    ensures { Adds (λ text rest. (text, rest.now)) texts.old texts.new result (spec.text_from bytes.now) }
+{
+    let (plain, stop) = bytes.split_at(plain_len(bytes));
+    if let Some(rest) = after(stop, b"\"") {
+        put_text(texts, plain)?;
+        return Ok(rest);
+    }
+    let (text, rest) = escaped_from(alloc, bytes)?;
+    put_text(texts, text.as_slice())?;
+    Ok(rest)
+}
+
+// Puts the text of a field behind the others, the empty text where its lead doesn't stand there. It gives whether a field
+// stands before the bytes that follow, and these.
+fn field_from<'a>(
+    alloc: Global,
+    texts: &mut Texts,
+    lead: &[u8],
+    later: bool,
+    bytes: &'a [u8],
+) -> Result<(bool, &'a [u8]), FormFault>
+    ensures { Adds (λ text read. record { text = text; later = read.0; rest = read.1.now }) texts.old texts.new result
+        (spec.field_behind later bytes.now (spec.after lead.now bytes.now)) }
+{
+    match after(bytes, lead) {
+        None => {
+            texts.push("")?;
+            Ok((later, bytes))
+        }
+        Some(text) => {
+            let rest = text_from(alloc, texts, text)?;
+            Ok((true, rest))
+        }
+    }
+}
+
+// The texts of a record's fields in byte order of their names, from behind its opening brace, and the bytes behind it.
+fn fields_from<'a>(
+    alloc: Global,
+    sheet: Sheet,
+    leads: &[Bytes],
+    bytes: &'a [u8],
+) -> Result<(Texts, &'a [u8]), FormFault>
+    requires { leads.now ≡ map (JsonTexts.lead true) (json_names sheet) }
+    ensures { Gives (λ read. (read.0, read.1.now)) result (spec.fields_from (json_names sheet) false bytes.now) }
+{
+    let mut texts = Texts::new(alloc);
+    let mut rest = bytes;
+    let mut later = false;
+    for lead in leads {
+        (later, rest) = field_from(alloc, &mut texts, own_lead(lead, later), later, rest)?;
+    }
+    match after(rest, b"}") {
+        Some(behind) => Ok((texts, behind)),
+        None => Err(FormFault::NotRead),
+    }
+}
+
+// The lead without its comma where no field stands before.
+fn own_lead(lead: &Bytes, later: bool) -> &[u8]
+    ensures { (name : List ℕ) → lead.now ≡ JsonTexts.lead true name → result.now ≡ JsonTexts.lead later name }
+{
+    let lead = lead.as_slice();
+    if later {
+        return lead;
+    }
+    match lead.split_first() {
+        Some((_, lead)) => lead,
+        None => lead,
+    }
+}
+
+// The row of texts that stand in byte order of their names.
+#[tactic(auto, unfolding(crate::specs::JsonReading::placed))]
+fn placed(alloc: Global, sheet: Sheet, texts: &Texts) -> Result<Row, NoMemory>
+    requires { length texts.now ≡ Sheets.width sheet }
+    ensures { IfOk result (λ row. row ≡ spec.placed sheet texts.now) }
+{
+    let mut row = Texts::new(alloc);
+    for rank in ranks(sheet) {
+        row.push(texts.text(usize::from(*rank)))?;
+    }
+    Ok(Row::of(sheet, row))
+}
+
+/// The row of a record, and the bytes behind it. The leads are those of the sheet.
+#[tactic(auto, unfolding(crate::specs::JsonReading::record_from))]
+pub fn record_from<'a>(
+    alloc: Global,
+    sheet: Sheet,
+    leads: &[Bytes],
+    bytes: &'a [u8],
+) -> Result<(Row, &'a [u8]), FormFault>
+    requires { leads.now ≡ map (JsonTexts.lead true) (json_names sheet) }
+    ensures { Gives (λ read. (read.0, read.1.now)) result (spec.record_from sheet bytes.now) }
+{
+    let Some(fields) = after(bytes, b"{") else {
+        return Err(FormFault::NotRead);
+    };
+    let (texts, rest) = fields_from(alloc, sheet, leads, fields)?;
+    Ok((placed(alloc, sheet, &texts)?, rest))
+}

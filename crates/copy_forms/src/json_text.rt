@@ -1,0 +1,72 @@
+//! The texts of JSON: a record, and the files that records are joined to.
+ghost use Rattle.std.specs.Prelude.{◌≡◌, ◌≤◌, ◌++◌, ◌∷◌, List, ℕ, [], length, map, IfOk, OnOk, Some, slice_index_or, codes};
+ghost use Rattle.json.specs.Print.{print};
+ghost use Rattle.lei_records.specs.Rows.{text_at};
+ghost use Rattle.copy_forms.specs.Json.{field_at, json_places, json_record};
+ghost use Rattle.copy_forms.specs.JsonTexts as spec;
+ghost use Rattle.copy_forms.specs.Sheets;
+
+use crate::rows::Row;
+use crate::sheets::Sheet;
+use json::Writer;
+use lei_outside::{Bytes, NoMemory};
+use std::alloc::Global;
+
+// The places of each sheet's fields in byte order of their names.
+const LEI_PLACES: [u8; 28] = [
+    17, 20, 19, 10, 12, 9, 13, 11, 5, 7, 4, 8, 6, 18, 16, 2, 3, 15, 14, 21, 1, 28, 22, 23, 26, 25,
+    24, 27,
+];
+
+const RR_PLACES: [u8; 11] = [7, 8, 10, 9, 11, 6, 3, 4, 2, 5, 1];
+
+const REPEX_PLACES: [u8; 4] = [2, 3, 4, 1];
+
+pub fn places(sheet: Sheet) -> &'static [u8]
+    ensures { result.now ≡ json_places sheet }
+{
+    match sheet {
+        Sheet::Lei => &LEI_PLACES,
+        Sheet::Rr => &RR_PLACES,
+        Sheet::Repex => &REPEX_PLACES,
+    }
+}
+
+/// The name of the field at a place, places counted from 1.
+pub fn name_at(sheet: Sheet, place: usize) -> &'static str
+    requires first { 1 ≤ place }
+    requires last { place ≤ Sheets.width sheet }
+    ensures { result.now ≡ text_at (Sheets.names sheet) place }
+{
+    sheet.kind().fields()[place - 1].0
+}
+
+/// The record of a row: the fields that are present, with names in byte order.
+pub fn record_text(alloc: Global, row: &Row) -> Result<Bytes, NoMemory>
+    ensures { IfOk result (λ text. text ≡ json_record row.now) }
+{
+    let mut out = Writer::new(Vec::new(alloc));
+    out.begin_object()?;
+    for place in places(row.sheet()) {
+        put_field(&mut out, row, usize::from(*place))?;
+    }
+    out.end_object()?;
+    Ok(Bytes::from(out.into_inner()))
+}
+
+// Writes the field at a place, unless it is absent.
+fn put_field(out: &mut Writer, row: &Row, place: usize) -> Result<(), NoMemory>
+    requires first { 1 ≤ place }
+    requires last { place ≤ Sheets.width row.now.sheet }
+    ensures before { out.new.before ≡ out.old.before }
+    ensures tokens { OnOk result (out.new.tokens ≡ out.old.tokens ++ spec.field_tokens (field_at row.now place)) }
+{
+    let name = name_at(row.sheet(), place);
+    let text = row.text(place);
+    if text.is_empty() {
+        return Ok(());
+    }
+    out.key(name)?;
+    out.string(text)?;
+    Ok(())
+}

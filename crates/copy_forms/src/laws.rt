@@ -1,0 +1,23 @@
+//! Laws of the definitions, each as the contract of a function that does nothing.
+ghost use Rattle.std.specs.Prelude.{◌≡◌, ◌≤◌, List, length};
+ghost use Rattle.copy_forms.specs.declared.rows.Change.{Change};
+ghost use Rattle.copy_forms.specs.declared.sheets.Sheet.{Sheet};
+ghost use Rattle.copy_forms.specs.Csv.{csv_copy, csv_delta};
+ghost use Rattle.copy_forms.specs.Rows.{AreChanges, AreRows};
+ghost use Rattle.copy_forms.specs.Sheets.{SheetRow};
+ghost use Rattle.copy_forms.specs.Trails.{DeltasLeadOn, IsSound, Trail};
+
+/// In every sound trail of at most 1,000,000 publications, a copy that is patched by the delta to a later one is the copy
+/// of that one, byte for byte, in both forms and of each sheet. So it is for an empty delta, for a row that changed back,
+/// and where a key is dropped that the copy lacks.
+pub fn deltas_lead_from_copy_to_copy()
+    ensures { (trail : Trail) → IsSound trail → length trail ≤ 1_000_000 → DeltasLeadOn trail }
+{}
+
+/// In CSV no two lists of rows have one text, and no two lists of changes.
+pub fn csv_tells_its_rows()
+    ensures copies { (sheet : Sheet) (rows others : List SheetRow) → AreRows sheet rows → AreRows sheet others
+        → csv_copy sheet rows ≡ csv_copy sheet others → rows ≡ others }
+    ensures deltas { (sheet : Sheet) (changes others : List Change) → AreChanges sheet changes → AreChanges sheet others
+        → csv_delta sheet changes ≡ csv_delta sheet others → changes ≡ others }
+{}
