@@ -66,6 +66,18 @@ delta-falls sheet bytes head changes short read falls other others is =
     let same = deltas-differ sheet bytes head other changes others short read (delta-to sheet bytes other others is) in
     falls (subst (λ (l : List Change). AreRising (map changed_key l)) (sym same.1) is.changes_are.rising)
 
+-- no two heads and rows have one text
+pub copy-same : (sheet : Sheet) (bytes : List ℕ) (head other : Head) (rows others : List SheetRow) → length bytes < 2 ^ 64
+    → IsCopy bytes sheet Form.Json head rows → IsCopy bytes sheet Form.Json other others → (head ≡ other) × (rows ≡ others)
+copy-same sheet bytes head other rows others short is also =
+    copies-differ sheet bytes head other rows others short (copy-to sheet bytes head rows is) (copy-to sheet bytes other others also)
+
+-- no two heads and lists of changes have one text
+pub delta-same : (sheet : Sheet) (bytes : List ℕ) (head other : Head) (changes others : List Change) → length bytes < 2 ^ 64
+    → IsDelta bytes sheet Form.Json head changes → IsDelta bytes sheet Form.Json other others → (head ≡ other) × (changes ≡ others)
+delta-same sheet bytes head other changes others short is also =
+    deltas-differ sheet bytes head other changes others short (delta-to sheet bytes head changes is) (delta-to sheet bytes other others also)
+
 -- a fault is the same whatever else might have been answered
 pub same-fault : {T U : Type 0} (fault : FormFault) → IsErrOf {T = T} (Err fault) FormFault.NotRead
     → IsErrOf {T = U} (Err fault) FormFault.NotRead

@@ -1,8 +1,12 @@
 //! Laws of the definitions, each as the contract of a function that does nothing.
-ghost use Rattle.std.specs.Prelude.{◌≡◌, ◌≤◌, List, length};
+ghost use Rattle.std.specs.Prelude.{◌≡◌, ◌≤◌, ◌<◌, ◌^◌, List, length};
+ghost use Rattle.lei_code.specs.Texts.{Text};
+ghost use Rattle.copy_forms.specs.declared.heads.Head.{Head};
 ghost use Rattle.copy_forms.specs.declared.rows.Change.{Change};
+ghost use Rattle.copy_forms.specs.declared.sheets.Form.{Form};
 ghost use Rattle.copy_forms.specs.declared.sheets.Sheet.{Sheet};
 ghost use Rattle.copy_forms.specs.Csv.{csv_copy, csv_delta};
+ghost use Rattle.copy_forms.specs.Files.{IsCopy, IsDelta};
 ghost use Rattle.copy_forms.specs.Rows.{AreChanges, AreRows};
 ghost use Rattle.copy_forms.specs.Sheets.{SheetRow};
 ghost use Rattle.copy_forms.specs.Trails.{DeltasLeadOn, IsSound, Trail};
@@ -20,4 +24,15 @@ pub fn csv_tells_its_rows()
         → csv_copy sheet rows ≡ csv_copy sheet others → rows ≡ others }
     ensures deltas { (sheet : Sheet) (changes others : List Change) → AreChanges sheet changes → AreChanges sheet others
         → csv_delta sheet changes ≡ csv_delta sheet others → changes ≡ others }
+{}
+
+/// In JSON no two heads and no two lists of rows have one text, and no two heads and lists of changes. It is said of texts
+/// of fewer than 2^64 bytes, as every text in memory has.
+pub fn json_tells_its_heads_and_rows()
+    ensures copies { (sheet : Sheet) (bytes : Text) (head other : Head) (rows others : List SheetRow) → length bytes < 2 ^ 64
+        → IsCopy bytes sheet Form.Json head rows → IsCopy bytes sheet Form.Json other others
+        → (head ≡ other) × (rows ≡ others) }
+    ensures deltas { (sheet : Sheet) (bytes : Text) (head other : Head) (changes others : List Change) → length bytes < 2 ^ 64
+        → IsDelta bytes sheet Form.Json head changes → IsDelta bytes sheet Form.Json other others
+        → (head ≡ other) × (changes ≡ others) }
 {}

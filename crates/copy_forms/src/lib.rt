@@ -23,7 +23,7 @@ mod texts;
 pub use copies::{copy_text, delta_text, read_copy, read_delta};
 pub use faults::FormFault;
 pub use heads::{CopyRead, DeltaRead, Head};
-pub use laws::{csv_tells_its_rows, deltas_lead_from_copy_to_copy};
+pub use laws::{csv_tells_its_rows, deltas_lead_from_copy_to_copy, json_tells_its_heads_and_rows};
 pub use rendering::row_texts;
 pub use rows::{Change, Row, RowTexts, TextChange};
 pub use sheets::{Form, Sheet};
