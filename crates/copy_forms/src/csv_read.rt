@@ -114,13 +114,21 @@ impl<'a> Reader<'a> {
         Ok(self.skip(byte))
     }
 
+    // About how many bytes the texts of the next line take: those up to LF, less two quotes and what follows for each field.
+    fn line_room(&self, count: usize) -> usize {
+        match memchr(b'\n', self.rest()) {
+            Some(len) => len.saturating_sub(count.saturating_mul(3)),
+            None => 0,
+        }
+    }
+
     /// The texts of a line of so many fields.
     pub fn line(&mut self, alloc: Global, count: usize) -> Result<Option<Texts>, NoMemory>
         requires { IsUtf8 self.old }
         ensures read { IfOk result (λ texts. taken texts self.new ≡ line_from count self.old) }
         ensures utf8 { IfOk result (λ texts. IsSome texts → IsUtf8 self.new) }
     {
-        let mut bytes = Vec::new(alloc);
+        let mut bytes = Vec::with_capacity(alloc, self.line_room(count))?;
         let mut spans = Vec::with_capacity(alloc, count)?;
         for index in 0..count {
             let byte = separator(count - index - 1);

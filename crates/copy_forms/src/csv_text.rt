@@ -39,7 +39,7 @@ pub fn put_row(out: &mut Vec<u8>, row: &Row) -> Result<(), NoMemory>
     let count = row.sheet().width();
     for index in 0..count {
         let byte = separator(count - index - 1);
-        put_field(out, row.text(index + 1).as_bytes(), byte)?;
+        put_field(out, row.text_bytes(index + 1), byte)?;
     }
     Ok(())
 }

@@ -12,10 +12,15 @@ use std::alloc::Global;
 pub fn row_texts(alloc: Global, row: &Row) -> Result<RowTexts, NoMemory>
     ensures { IfOk result (λ texts. texts ≡ rendered row.now) }
 {
-    let mut csv = Vec::new(alloc);
+    let mut csv = Vec::with_capacity(alloc, line_room(row))?;
     put_row(&mut csv, row)?;
     Ok(RowTexts {
         csv: Bytes::from(csv),
         json: record_text(alloc, row)?,
     })
+}
+
+// About how many bytes its line takes: its texts, and for each two quotes and what follows.
+fn line_room(row: &Row) -> usize {
+    row.size().saturating_add(3 * row.sheet().width())
 }

@@ -56,6 +56,21 @@ impl Row {
     {
         self.texts.text(place)
     }
+
+    /// The bytes of its text at a place.
+    pub fn text_bytes(&self, place: usize) -> &[u8]
+        requires first { 1 ≤ place }
+        requires last { place ≤ length self.now.texts }
+        ensures value { result.now ≡ text_at self.now.texts place }
+        ensures row { spec.IsRow self.now }
+    {
+        self.texts.text_bytes(place)
+    }
+
+    /// How many bytes its texts take.
+    pub(crate) fn size(&self) -> usize {
+        self.texts.size()
+    }
 }
 
 impl Row {
@@ -70,8 +85,8 @@ impl Row {
         let alike = self.sheet() == other.sheet();
         prove!(alike);
         for index in 0..self.sheet().key_len() {
-            let (text, other_text) = (self.text(index + 1), other.text(index + 1));
-            match text.as_bytes().cmp(&other_text.as_bytes()) {
+            let (text, other_text) = (self.text_bytes(index + 1), other.text_bytes(index + 1));
+            match text.cmp(&other_text) {
                 Ordering::Less => return true,
                 Ordering::Greater => return false,
                 Ordering::Equal => {}
@@ -85,7 +100,7 @@ impl Row {
         ensures { result ≡ spec.is_key_alone self.now }
     {
         for index in self.sheet().key_len()..self.sheet().width() {
-            if !self.text(index + 1).is_empty() {
+            if !self.text_bytes(index + 1).is_empty() {
                 return false;
             }
         }

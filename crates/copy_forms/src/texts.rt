@@ -82,6 +82,22 @@ impl Texts {
         self.spans.is_empty()
     }
 
+    /// How many bytes all of them take.
+    pub(crate) fn size(&self) -> usize {
+        self.bytes.len()
+    }
+
+    /// The bytes of the text at a place, places counted from 1.
+    pub fn text_bytes(&self, place: usize) -> &[u8]
+        requires first { 1 ≤ place }
+        requires last { place ≤ length self.now }
+        ensures value { result.now ≡ text_at self.now place }
+        ensures utf8 { IsTrue (list_all is_utf8 self.now) }
+    {
+        let span = self.spans[place - 1];
+        &self.bytes.as_slice()[span.start..span.end]
+    }
+
     /// The text at a place, places counted from 1.
     pub fn text(&self, place: usize) -> &str
         requires first { 1 ≤ place }
