@@ -124,7 +124,9 @@ fn fields_from<'a>(
     requires { leads.now ≡ map (JsonTexts.lead true) (json_names sheet) }
     ensures { Gives (λ read. (read.0, read.1.now)) result (spec.fields_from (json_names sheet) false bytes.now) }
 {
-    let mut texts = Texts::new(alloc);
+    // Most texts are short.
+    let room = leads.len().saturating_mul(16);
+    let mut texts = Texts::with_capacity(alloc, leads.len(), room)?;
     let mut rest = bytes;
     let mut later = false;
     for lead in leads {
@@ -156,7 +158,7 @@ fn placed(alloc: Global, sheet: Sheet, texts: &Texts) -> Result<Row, NoMemory>
     requires { length texts.now ≡ Sheets.width sheet }
     ensures { IfOk result (λ row. row ≡ spec.placed sheet texts.now) }
 {
-    let mut row = Texts::new(alloc);
+    let mut row = Texts::with_capacity(alloc, texts.len(), texts.size())?;
     for rank in ranks(sheet) {
         row.push(texts.text(usize::from(*rank)))?;
     }

@@ -45,13 +45,26 @@ pub fn name_at(sheet: Sheet, place: usize) -> &'static str
 pub fn record_text(alloc: Global, row: &Row) -> Result<Bytes, NoMemory>
     ensures { IfOk result (λ text. text ≡ json_record row.now) }
 {
-    let mut out = Writer::new(Vec::new(alloc));
+    let mut out = Writer::new(Vec::with_capacity(alloc, record_room(row))?);
     out.begin_object()?;
     for place in places(row.sheet()) {
         put_field(&mut out, row, usize::from(*place))?;
     }
     out.end_object()?;
     Ok(Bytes::from(out.into_inner()))
+}
+
+// About how many bytes its record takes: of each field that is present the name and the text, four quotes, a colon and a
+// comma.
+fn record_room(row: &Row) -> usize {
+    let sheet = row.sheet();
+    let mut room = row.size().saturating_add(1);
+    for index in 0..sheet.width() {
+        if !row.text_bytes(index + 1).is_empty() {
+            room = room.saturating_add(name_at(sheet, index + 1).len() + 6);
+        }
+    }
+    room
 }
 
 // Writes the field at a place, unless it is absent.

@@ -1,5 +1,5 @@
 //! Several texts in one piece of memory.
-ghost use Rattle.std.specs.Prelude.{◌≡◌, ◌==◌, ◌≤◌, ◌++◌, ◌∷◌, [], length, IsTrue, OnOk, OnErr};
+ghost use Rattle.std.specs.Prelude.{◌≡◌, ◌==◌, ◌≤◌, ◌++◌, ◌∷◌, [], length, IfOk, IsTrue, OnOk, OnErr};
 ghost use Rattle.std.specs.List.{list_all};
 ghost use Rattle.std.specs.Str.{is_utf8};
 ghost use Rattle.lei_records.specs.Rows.{text_at};
@@ -44,6 +44,16 @@ impl Texts {
             bytes: Vec::new(alloc),
             spans: Vec::new(alloc),
         }
+    }
+
+    /// No texts, with room for so many of so many bytes in all.
+    pub fn with_capacity(alloc: Global, count: usize, bytes: usize) -> Result<Self, NoMemory>
+        ensures { IfOk result (λ texts. texts ≡ []) }
+    {
+        Ok(Texts {
+            bytes: Vec::with_capacity(alloc, bytes)?,
+            spans: Vec::with_capacity(alloc, count)?,
+        })
     }
 
     /// The texts in the parts of these bytes, which move. The condition is that each part lies within the bytes and is

@@ -19,7 +19,7 @@ returns-in_err-later c =
     let here =
     ap (λ l. with_texts c.loop-lead.texts (fields_from l c.loop-lead.later c.loop-lead.rest.now)) (sym (drop_more names c.loop-lead.lead-index [] within))
     ∙ c.loop-lead.invariant in
-    let failed = err_from_is_err_and c.from_residual.result c.from_residual.ensures.1 in
+    let failed = err_from_is_err_and c.from_residual-in_err-later.result c.from_residual-in_err-later.ensures.1 in
     rw (failed.1, failed.2)
     (fails-through c.in_err-later.field-0.0 _ _ (fields-failed (drop (c.loop-lead.lead-index + 1) names) name c.loop-lead.texts c.loop-lead.later _ c.loop-lead.rest.now _ here own)
     c.in_err-later.ensures)
