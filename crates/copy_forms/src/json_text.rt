@@ -54,11 +54,11 @@ pub fn record_text(alloc: Global, row: &Row) -> Result<Bytes, NoMemory>
     Ok(Bytes::from(out.into_inner()))
 }
 
-// About how many bytes its record takes: of each field that is present the name and the text, four quotes, a colon and a
-// comma.
+// About how many bytes its record takes, and one to spare, which the writer asks for: of each field that is present the
+// name and the text, four quotes, a colon and a comma.
 fn record_room(row: &Row) -> usize {
     let sheet = row.sheet();
-    let mut room = row.size().saturating_add(1);
+    let mut room = row.size().saturating_add(2);
     for index in 0..sheet.width() {
         if !row.text_bytes(index + 1).is_empty() {
             room = room.saturating_add(name_at(sheet, index + 1).len() + 6);
