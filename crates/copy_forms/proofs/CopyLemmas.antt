@@ -1,5 +1,5 @@
 -- What is read of a copy or a delta in JSON.
-use Rattle.std.proofs.Common.{◌≡◌, ℕ, ◌<◌, ◌^◌, Bool, true, false, Option, Some, None, List, map, length, refl, sym, ap, subst, ◌∙◌}
+use Rattle.std.proofs.Common.{◌≡◌, ℕ, ◌<◌, ◌^◌, false, List, map, length, refl, sym, subst, ◌∙◌}
 use Rattle.std.specs.Prelude.{[], ◌∷◌, ◌++◌, Result, Ok, Err, IfOk, IsErrOf}
 use Rattle.copy_forms.specs.declared.faults.FormFault.{FormFault}
 use Rattle.copy_forms.specs.declared.heads.Head.{Head}

@@ -1,4 +1,4 @@
-use Rattle.std.proofs.Common.{◌≡◌, ◌<◌, ◌^◌, ℕ, List, length, map, Bool, true, false, sym, subst, ◌∙◌, rules, refl}
+use Rattle.std.proofs.Common.{◌<◌, ◌^◌, List, length, map, sym, subst, ◌∙◌, rules, refl}
 use Rattle.std.specs.List.{All}
 use Rattle.std.proofs.lemmas.Bool.{false≢true}
 use Rattle.copy_forms.specs.declared.sheets.Form.{Form}
