@@ -16,6 +16,11 @@ pub enum FormFault {
 }
 
 impl fmt::Display for FormFault {
+    ghost use Rattle.std.specs.Prelude.{Some};
+    ghost use Rattle.copy_forms.specs.Faults.{fault_words};
+
+    ghost output = { λ fault. Some (fault_words fault) };
+
     fn fmt<W: fmt::Write>(&self, f: &mut fmt::Formatter<W>) -> fmt::Result {
         match self {
             FormFault::NotRead => write!(f, "the text is of another form"),
