@@ -139,6 +139,85 @@ fn has(table: &Table, cells: &[Touched]) -> Result<bool, Fail> {
     Ok(table.touched(0, u64::MAX)?.as_slice() == cells)
 }
 
+// Whether a write of an item, as the entry of this number, changes what the table tells of its cells, and its undo leaves
+// all as it was.
+fn is_undone(alloc: Global, table: &mut Table, item: Item, entry: u64) -> Result<bool, Fail>
+    requires { IsLater entry table.old.held }
+    ensures later { OnOk result (IsLater entry table.new.held) }
+{
+    let cells = table.touched(0, u64::MAX)?;
+    put(alloc, table, item, entry)?;
+    let changed = !has(table, cells.as_slice())?;
+    table.undo();
+    Ok(changed && has(table, cells.as_slice())?)
+}
+
+#[test]
+fn each_write_is_undone(rt: HostRuntime) -> Result<(), Fail> {
+    let alloc = rt.alloc();
+    let mut table = Table::new(alloc)?;
+    let first = record(alloc, "ISSUED", "ISSUED")?;
+    assert!(&rt; is_undone(alloc, &mut table, first, 1)?, "new");
+    put(alloc, &mut table, record(alloc, "ISSUED", "ISSUED")?, 1)?;
+    let lapsed = record(alloc, "ISSUED", "LAPSED")?;
+    assert!(&rt; is_undone(alloc, &mut table, lapsed, 2)?, "replaced");
+    let retired = record(alloc, "ISSUED", "RETIRED")?;
+    assert!(&rt;
+        is_undone(alloc, &mut table, retired, 2)?,
+        "not live any longer"
+    );
+    put(alloc, &mut table, record(alloc, "ISSUED", "RETIRED")?, 2)?;
+    let other = record(alloc, LEI, "00000000000000000292")?;
+    assert!(&rt; is_undone(alloc, &mut table, other, 3)?, "another's key");
+    Ok(())
+}
+
+#[test]
+fn an_exception_that_was_withdrawn_is_put_again(rt: HostRuntime) -> Result<(), Fail> {
+    let alloc = rt.alloc();
+    let Item::Exception(own) = exception(alloc)? else {
+        return Err(Fail::from("an exception"));
+    };
+    let mut table = Table::new(alloc)?;
+    put(alloc, &mut table, exception(alloc)?, 1)?;
+    withdraw(alloc, &mut table, &own, 2)?;
+    let again = exception(alloc)?;
+    assert!(&rt; is_undone(alloc, &mut table, again, 3)?, "put again");
+    put(alloc, &mut table, exception(alloc)?, 3)?;
+    assert_eq!(&rt; table.touched(2, 3)?.len(), 1, "the upper end is within");
+    assert_eq!(&rt;
+        table.touched(1, 2)?.len(),
+        0,
+        "no longer of its withdrawal"
+    );
+    assert_eq!(&rt; table.touched(3, 4)?.len(), 0, "the lower end is not");
+    Ok(())
+}
+
+#[test]
+fn an_active_end_moves_and_comes_back(rt: HostRuntime) -> Result<(), Fail> {
+    let alloc = rt.alloc();
+    let (end, other) = ("00000000000000000292", "00000000000000000389");
+    let mut table = Table::new(alloc)?;
+    let new = relation(alloc, end, end)?;
+    assert!(&rt; is_undone(alloc, &mut table, new, 1)?, "new");
+    put(alloc, &mut table, relation(alloc, end, end)?, 1)?;
+    let ended = relation(alloc, "\"ACTIVE\"", "\"INACTIVE\"")?;
+    assert!(&rt;
+        is_undone(alloc, &mut table, ended, 2)?,
+        "not active any longer"
+    );
+    put(
+        alloc,
+        &mut table,
+        relation(alloc, "\"ACTIVE\"", "\"INACTIVE\"")?,
+        2,
+    )?;
+    let moved = relation(alloc, end, other)?;
+    assert!(&rt; is_undone(alloc, &mut table, moved, 3)?, "another end");
+    Ok(())
+}
+
 #[test]
 fn a_record_is_put_replaced_and_put_back(rt: HostRuntime) -> Result<(), Fail> {
     let alloc = rt.alloc();
