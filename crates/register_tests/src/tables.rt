@@ -1,6 +1,6 @@
 // What a table has after writes, and after the last ones were undone. The record is the standard one of the profile of
 // uploads, and the exception is of its entity.
-ghost use Rattle.std.specs.Prelude.{◌≡◌, ◌+◌, ◌∷◌, [], IsTrue, OnOk, Some};
+ghost use Rattle.std.specs.Prelude.{◌≡◌, ◌+◌, ◌∷◌, [], IsTrue, IfOk, OnOk, Some};
 ghost use Rattle.register_table.specs.Held.{rows};
 ghost use Rattle.register_table.specs.Undos.{IsLater, MayApply};
 ghost use Rattle.lei_records.specs.declared.item.Item as items;
@@ -11,7 +11,7 @@ use authority_rules::taken;
 use lei_code::Lei;
 use lei_outside::List;
 use lei_records::{ExceptionItem, Item, Readied, Record, Relation, RowKey, Seen, View};
-use lei_shapes::{ExceptionCategory, RecordStatus, RelationType};
+use lei_shapes::ExceptionCategory;
 use register_table::{Table, Touched};
 use std::alloc::Global;
 use std::test::Fail;
@@ -19,6 +19,13 @@ use std::test::Fail;
 const LEI: &str = "00000000000000000195";
 
 const DIRECT: ExceptionCategory = ExceptionCategory::DirectAccountingConsolidationParent;
+
+// A table without cells. Its first entry may have the number 1.
+fn new_table(alloc: Global) -> Result<Table, Fail>
+    ensures { IfOk result (λ table. IsLater 1 table.held) }
+{
+    Ok(Table::new(alloc)?)
+}
 
 // The one item of a body, which passes the checks of its fields.
 fn item_of(alloc: Global, body: &str) -> Result<Item, Fail> {
@@ -124,16 +131,6 @@ fn withdraw(alloc: Global, table: &mut Table, item: &ExceptionItem, entry: u64) 
     Ok(table.apply(&writes, entry)?)
 }
 
-// The status of a record as the table shows it, and as the rules see it.
-fn statuses(table: &Table, lei: &Lei) -> (Option<RecordStatus>, Option<RecordStatus>) {
-    let shown = table.show(lei).map(|record| record.status());
-    let seen = match table.record_cell(lei) {
-        Seen::Held(cell) => Some(cell.status),
-        _ => None,
-    };
-    (shown, seen)
-}
-
 // Whether all that the table tells of its cells is this.
 fn has(table: &Table, cells: &[Touched]) -> Result<bool, Fail> {
     Ok(table.touched(0, u64::MAX)?.as_slice() == cells)
@@ -155,7 +152,7 @@ fn is_undone(alloc: Global, table: &mut Table, item: Item, entry: u64) -> Result
 #[test]
 fn each_write_is_undone(rt: HostRuntime) -> Result<(), Fail> {
     let alloc = rt.alloc();
-    let mut table = Table::new(alloc)?;
+    let mut table = new_table(alloc)?;
     let first = record(alloc, "ISSUED", "ISSUED")?;
     assert!(&rt; is_undone(alloc, &mut table, first, 1)?, "new");
     put(alloc, &mut table, record(alloc, "ISSUED", "ISSUED")?, 1)?;
@@ -178,7 +175,7 @@ fn an_exception_that_was_withdrawn_is_put_again(rt: HostRuntime) -> Result<(), F
     let Item::Exception(own) = exception(alloc)? else {
         return Err(Fail::from("an exception"));
     };
-    let mut table = Table::new(alloc)?;
+    let mut table = new_table(alloc)?;
     put(alloc, &mut table, exception(alloc)?, 1)?;
     withdraw(alloc, &mut table, &own, 2)?;
     let again = exception(alloc)?;
@@ -198,7 +195,7 @@ fn an_exception_that_was_withdrawn_is_put_again(rt: HostRuntime) -> Result<(), F
 fn an_active_end_moves_and_comes_back(rt: HostRuntime) -> Result<(), Fail> {
     let alloc = rt.alloc();
     let (end, other) = ("00000000000000000292", "00000000000000000389");
-    let mut table = Table::new(alloc)?;
+    let mut table = new_table(alloc)?;
     let new = relation(alloc, end, end)?;
     assert!(&rt; is_undone(alloc, &mut table, new, 1)?, "new");
     put(alloc, &mut table, relation(alloc, end, end)?, 1)?;
@@ -219,33 +216,11 @@ fn an_active_end_moves_and_comes_back(rt: HostRuntime) -> Result<(), Fail> {
 }
 
 #[test]
-fn a_record_is_put_replaced_and_put_back(rt: HostRuntime) -> Result<(), Fail> {
-    let alloc = rt.alloc();
-    let lei = Lei::read(LEI.as_bytes())?;
-    let issued = Some(RecordStatus::Issued);
-    let lapsed = Some(RecordStatus::Lapsed);
-    let mut table = Table::new(alloc)?;
-
-    put(alloc, &mut table, record(alloc, "ISSUED", "ISSUED")?, 1)?;
-    assert_eq!(&rt; statuses(&table, &lei), (issued, issued), "put");
-    let cells = table.touched(0, 1)?;
-    put(alloc, &mut table, record(alloc, "ISSUED", "LAPSED")?, 2)?;
-    assert_eq!(&rt; table.held(), 1, "one record still");
-    assert_eq!(&rt; statuses(&table, &lei), (lapsed, lapsed), "replaced");
-    table.undo();
-    assert_eq!(&rt; statuses(&table, &lei), (issued, issued), "put back");
-    assert!(&rt; has(&table, cells.as_slice())?, "all as before");
-    Ok(())
-}
-
-#[test]
 fn a_key_that_a_record_gave_up_is_its_own_again(rt: HostRuntime) -> Result<(), Fail> {
     let alloc = rt.alloc();
-    let lei = Lei::read(LEI.as_bytes())?;
-    let mut table = Table::new(alloc)?;
+    let mut table = new_table(alloc)?;
 
     put(alloc, &mut table, record(alloc, "ISSUED", "ISSUED")?, 1)?;
-    let cells = table.touched(0, 1)?;
     put(alloc, &mut table, record(alloc, "ISSUED", "RETIRED")?, 2)?;
     assert_eq!(&rt; table.holder("RA000001", "1001"), Seen::Empty, "not live");
     put(
@@ -268,11 +243,6 @@ fn a_key_that_a_record_gave_up_is_its_own_again(rt: HostRuntime) -> Result<(), F
         0,
         "touched again by a later entry"
     );
-    assert_eq!(&rt;
-        cells.as_slice()[0].key,
-        RowKey::Rec(lei),
-        "the first entry's own"
-    );
     Ok(())
 }
 
@@ -283,7 +253,7 @@ fn an_exception_is_put_withdrawn_and_put_back(rt: HostRuntime) -> Result<(), Fai
     let Item::Exception(own) = exception(alloc)? else {
         return Err(Fail::from("an exception"));
     };
-    let mut table = Table::new(alloc)?;
+    let mut table = new_table(alloc)?;
     put(alloc, &mut table, exception(alloc)?, 1)?;
     let cells = table.touched(0, 1)?;
     assert_eq!(&rt; table.exception(&lei, DIRECT), Seen::Held(()), "put");
@@ -298,39 +268,6 @@ fn an_exception_is_put_withdrawn_and_put_back(rt: HostRuntime) -> Result<(), Fai
     );
     table.undo();
     assert_eq!(&rt; table.exception(&lei, DIRECT), Seen::Held(()), "put back");
-    assert!(&rt; has(&table, cells.as_slice())?, "all as before");
-    Ok(())
-}
-
-#[test]
-fn an_active_end_comes_back(rt: HostRuntime) -> Result<(), Fail> {
-    let alloc = rt.alloc();
-    let (start, kind) = (
-        Lei::read(LEI.as_bytes())?,
-        RelationType::IsDirectlyConsolidatedBy,
-    );
-    let first = Lei::read(b"00000000000000000292")?;
-    let mut table = Table::new(alloc)?;
-    put(
-        alloc,
-        &mut table,
-        relation(alloc, "\"ACTIVE\"", "\"ACTIVE\"")?,
-        1,
-    )?;
-    let cells = table.touched(0, 1)?;
-    put(
-        alloc,
-        &mut table,
-        relation(alloc, "\"ACTIVE\"", "\"INACTIVE\"")?,
-        2,
-    )?;
-    assert_eq!(&rt; table.active(&start, kind), Seen::Empty, "not active");
-    table.undo();
-    assert_eq!(&rt;
-        table.active(&start, kind),
-        Seen::Held(first),
-        "active again"
-    );
     assert!(&rt; has(&table, cells.as_slice())?, "all as before");
     Ok(())
 }
