@@ -3,3 +3,5 @@ pub mod Told
 pub mod Clocks
 pub mod Faulting
 pub mod PieceLemmas
+pub mod KeepingLemmas
+pub mod CellLemmas

@@ -4,3 +4,5 @@ pub mod Faults
 pub mod Memory
 pub mod Clock
 pub mod Pieces
+pub mod Keeping
+pub mod CellLists

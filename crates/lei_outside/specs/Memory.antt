@@ -1,6 +1,11 @@
--- Sources and sinks in memory, as contracts see them.
-use Rattle.std.specs.Prelude.{ℕ, List, Contains}
+-- Sources, sinks and keepers in memory, as contracts see them.
+use Rattle.std.specs.Prelude.{ℕ, List, [], ◌∷◌, ◌++◌, Contains}
+use Rattle.std.specs.FinMap.{empty}
 use Rattle.lei_outside.specs.Count.{counted}
+use Rattle.lei_outside.specs.Keeping.{KeptTables, put_cells}
+use Rattle.lei_outside.specs.declared.entry.KeptEntry.{KeptEntry}
+use Rattle.lei_outside.specs.declared.keeper.Batch.{Batch}
+use Rattle.lei_outside.specs.declared.keeper.KeptCell.{KeptCell}
 
 -- A source in memory: the bytes that it has left, the greatest number of bytes that a read gives, the numbers of the reads
 -- that fail, and how many reads there were and have failed.
@@ -29,6 +34,27 @@ pub record SureSourceState : Type 0 where
 pub record SureSinkState : Type 0 where
   pub written : List ℕ
   pub most : ℕ
+
+-- A keeper in memory that never fails: the entries, and each cell that was kept, in the order in which they came.
+pub record SureKeeperState : Type 0 where
+  pub entries : List KeptEntry
+  pub cells : List KeptCell
+
+-- Its tables: of the cells of one place the last one is kept.
+abbrev pub tables_of : SureKeeperState → KeptTables
+tables_of keeper = record { entries = keeper.entries; cells = put_cells empty keeper.cells }
+
+-- What it keeps with a batch.
+abbrev pub with_kept : Batch → SureKeeperState → SureKeeperState
+with_kept batch keeper =
+    record { entries = keeper.entries ++ batch.entry ∷ []; cells = keeper.cells ++ batch.cells }
+
+-- A keeper in memory: what it keeps, the numbers of the calls that fail, and how many calls there were and have failed.
+pub record KeeperState : Type 0 where
+  pub kept : SureKeeperState
+  pub failing : List ℕ
+  pub calls : ℕ
+  pub faults : ℕ
 
 -- After this many calls, the next one is among those that fail. The first call has the number 1.
 abbrev pub FailsNext : List ℕ → ℕ → Type 0

@@ -103,3 +103,58 @@ impl From<NoMemory> for SinkFault {
         SinkFault::NoMemory
     }
 }
+
+/// Why a keeper kept or gave nothing.
+#[derive(Clone, Copy, Debug, PartialEq, Eq)]
+pub enum KeepFault {
+    /// The device failed.
+    Failed,
+    /// Memory ran out.
+    NoMemory,
+}
+
+impl fmt::Display for KeepFault {
+    ghost use Rattle.std.specs.Prelude.{Some};
+    ghost use Rattle.lei_outside.specs.Faults.{keep_fault_text};
+
+    ghost output = { λ fault. Some (keep_fault_text fault) };
+
+    fn fmt<W: fmt::Write>(&self, f: &mut fmt::Formatter<W>) -> fmt::Result {
+        match self {
+            KeepFault::Failed => write!(f, "the keeper failed"),
+            KeepFault::NoMemory => write!(f, "out of memory"),
+        }
+    }
+}
+
+impl Error for KeepFault {}
+
+impl From<AllocError> for KeepFault {
+    ghost use Rattle.lei_outside.specs.declared.faults.KeepFault.TheVariants.{NoMemory as OutOfMemory};
+
+    ghost from_gives = { λ _ e. e ≡ OutOfMemory };
+
+    fn from(_: AllocError) -> Self {
+        KeepFault::NoMemory
+    }
+}
+
+impl<T: Drop> From<AllocFailed<T>> for KeepFault {
+    ghost use Rattle.lei_outside.specs.declared.faults.KeepFault.TheVariants.{NoMemory as OutOfMemory};
+
+    ghost from_gives = { λ _ e. e ≡ OutOfMemory };
+
+    fn from(_: AllocFailed<T>) -> Self {
+        KeepFault::NoMemory
+    }
+}
+
+impl From<NoMemory> for KeepFault {
+    ghost use Rattle.lei_outside.specs.declared.faults.KeepFault.TheVariants.{NoMemory as OutOfMemory};
+
+    ghost from_gives = { λ _ e. e ≡ OutOfMemory };
+
+    fn from(_: NoMemory) -> Self {
+        KeepFault::NoMemory
+    }
+}

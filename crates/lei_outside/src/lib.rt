@@ -2,22 +2,28 @@
 #![tactic(auto)]
 
 mod calls;
+mod cell_list;
 mod clock;
 mod entry;
 mod faults;
+mod keeper;
 mod list;
 mod memory_clock;
+mod memory_keeper;
 mod memory_sink;
 mod memory_source;
+mod order;
 mod sink;
 mod source;
 mod texts;
 
 pub use clock::Clock;
 pub use entry::KeptEntry;
-pub use faults::{Failed, NoMemory, SinkFault};
+pub use faults::{Failed, KeepFault, NoMemory, SinkFault};
+pub use keeper::{Batch, Keeper, KeptCell};
 pub use list::{Bytes, List, Text};
 pub use memory_clock::ListClock;
+pub use memory_keeper::{MapKeeper, SureKeeper};
 pub use memory_sink::{ByteSink, SureSink};
 pub use memory_source::{ByteSource, SureSource};
 pub use sink::{Sink, write_all};

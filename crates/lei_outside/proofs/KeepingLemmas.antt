@@ -1,0 +1,78 @@
+-- Tables that are kept stay so with a batch.
+use Rattle.std.specs.Prelude.{◌≡◌, ◌<◌, ◌≤◌, ◌+◌, ◌-◌, ◌&&◌, nat_le, nat_lt, filter, ℕ, List, [], ◌∷◌, ◌++◌, length, slice_get, fold, Bool, true, false, cond, Option, None, Some, IfSome}
+use Rattle.std.proofs.lemmas.Cmp.{nat_list_cmp_total}
+use Rattle.std.specs.Cmp.Lexicographic.{slice_cmp}
+use Rattle.std.specs.FinMap.{empty, get, insert, get-empty, get-insert}
+use Rattle.std.specs.List.{AllByRecursion}
+use Rattle.std.specs.Ordering.{eq_by_cmp, nat_cmp}
+use Rattle.std.proofs.Common.{refl, sym, ap, subst, ◌∙◌, arith}
+use Rattle.std.proofs.lemmas.List.Sums.{fold-append}
+use Rattle.lei_outside.specs.declared.entry.KeptEntry.{KeptEntry}
+use Rattle.lei_outside.specs.declared.keeper.Batch.{Batch}
+use Rattle.lei_outside.specs.declared.keeper.KeptCell.{KeptCell}
+use Rattle.lei_outside.specs.Keeping.{AreKept, AreTouched, CellContent, CellPlace, Cells, IsBatch, IsCellOf, IsNextOf, RiseFrom, content_of, last_number, number_of, place_of, put_cell, put_cells}
+use Rattle.lei_outside.specs.Memory.{SureKeeperState, tables_of, with_kept}
+
+-- ---- entries
+
+-- the number of the last entry, from the front
+abbrev last_from : ℕ → List KeptEntry → ℕ
+last_from number [] = number
+last_from number (e ∷ list) = last_from e.seq list
+
+last_is : (e : KeptEntry) (list : List KeptEntry) → number_of (slice_get (e ∷ list) (length list)) ≡ last_from e.seq list
+last_is e [] = refl
+last_is e (next ∷ list) = last_is next list
+
+last_of : (list : List KeptEntry) → number_of (slice_get list (length list - 1)) ≡ last_from 0 list
+last_of [] = refl
+last_of (e ∷ list) =
+    let before : length (e ∷ list) - 1 ≡ length list = omega arith in
+    ap (λ n. number_of (slice_get (e ∷ list) n)) before ∙ last_is e list
+
+rise_on : (number : ℕ) (list : List KeptEntry) (e : KeptEntry) → RiseFrom number list → last_from number list < e.seq → RiseFrom number (list ++ e ∷ [])
+rise_on number [] e rise more = (more, tt)
+rise_on number (first ∷ list) e rise more = (rise.0, rise_on first.seq list e rise.1 more)
+
+-- the entries whose number is greater than one number and at most another
+abbrev pub between : ℕ → ℕ → List KeptEntry → List KeptEntry
+between after upto list = filter (λ e. nat_lt after e.seq && nat_le e.seq upto) list
+
+-- ---- cells
+
+touched_by : (b : Bool) (new : CellContent) (old : Option CellContent) (content : CellContent) → cond b (Some new) old ≡ Some content
+    → 1 ≤ new.touched → (old ≡ Some content → 1 ≤ content.touched) → 1 ≤ content.touched
+touched_by true new old content is low kept = subst (λ o. IfSome o (λ c. 1 ≤ c.touched)) is low
+touched_by false new old content is low kept = kept is
+
+put_touched : (cells : Cells) (cell : KeptCell) → AreTouched cells → 1 ≤ cell.touched → AreTouched (put_cell cells cell)
+put_touched cells cell are low place content is =
+    touched_by (eq_by_cmp (slice_cmp nat_cmp) place (place_of cell)) (content_of cell) (get cells place) content
+    (sym (get-insert nat_list_cmp_total cells (place_of cell) (content_of cell) place) ∙ is) low (are place content)
+
+all_touched : (number : ℕ) (cells : Cells) (list : List KeptCell) → 1 ≤ number → AllByRecursion (IsCellOf number) list → AreTouched cells → AreTouched (put_cells cells list)
+all_touched number cells [] low all are = are
+all_touched number cells (cell ∷ list) low all are =
+    let own : cell.touched ≡ number = all.0.0 in
+    all_touched number (put_cell cells cell) list low all.1 (put_touched cells cell are (omega (arith, own, low)))
+
+none_touched : AreTouched empty
+none_touched place content is = let none = sym (get-empty (slice_cmp nat_cmp) place) ∙ is in cc
+
+-- ---- tables
+
+pub nothing-kept : AreKept (tables_of (record { entries = []; cells = [] }))
+nothing-kept = record { entries = tt; cells = none_touched }
+
+pub tables-with : (keeper : SureKeeperState) (batch : Batch) → put_cells (put_cells empty keeper.cells) batch.cells ≡ put_cells empty (keeper.cells ++ batch.cells)
+tables-with keeper batch = sym (fold-append put_cell empty keeper.cells batch.cells)
+
+pub kept-with : (keeper : SureKeeperState) (batch : Batch) → AreKept (tables_of keeper) → IsBatch batch → batch.entry.seq ≡ last_number (tables_of keeper) + 1
+    → AreKept (tables_of (with_kept batch keeper))
+kept-with keeper batch kept is next =
+    let low : 1 ≤ batch.entry.seq = omega (arith, next) in
+    let behind : last_from 0 keeper.entries < batch.entry.seq = omega (arith, next, last_of keeper.entries) in
+    record {
+      entries = rise_on 0 keeper.entries batch.entry kept.entries behind;
+      cells = subst AreTouched (tables-with keeper batch) (all_touched batch.entry.seq (put_cells empty keeper.cells) batch.cells low is.cells kept.cells);
+    }

@@ -1,0 +1,9 @@
+use Rattle.std.proofs.Common.{◌≡◌, ◌++◌, drop}
+use Rattle.lei_outside.specs.Keeping.{entries_between}
+use Rattle.lei_outside.specs.Memory.{tables_of}
+use Rattle.lei_outside.proofs.KeepingLemmas.{between}
+use Rattle.lei_outside.proofs.memory_keeper.SureKeeperKeeper.entries.Given as goal
+
+-- what was copied, with what is left to copy, is all that is asked for
+abbrev pub invariant-loop-entry : goal.invariant-loop-entry
+invariant-loop-entry l = l.list.items ++ between l.after l.upto (drop l.entry-index l.entry-items) ≡ between l.after l.upto l.fn.self.entries

@@ -1,0 +1,18 @@
+-- Cells by the bytes of their places, as a map in memory has them.
+use Rattle.std.specs.Prelude.{ℕ, List, ◌&&◌, map, filter, nat_le, nat_lt}
+use Rattle.std.specs.Borrow.{Bor}
+use Rattle.std.specs.FinMap.{entries, from_entries}
+use Rattle.lei_outside.specs.Keeping.{CellContent, CellPlace, Cells, cell_at, content_of}
+use Rattle.lei_outside.specs.declared.keeper.KeptCell.{KeptCell}
+
+-- What is kept of a cell, in a place.
+abbrev pub content_at : CellPlace × Bor KeptCell → CellPlace × CellContent
+content_at (place, cell) = (place, content_of cell.now)
+
+-- The cells in their places.
+unfoldable pub cells_in : List (CellPlace × Bor KeptCell) → Cells
+cells_in list = from_entries (map content_at list)
+
+-- The cells that an entry of such a number touched last, in the order of the list.
+abbrev pub between_of : ℕ → ℕ → List (CellPlace × CellContent) → List KeptCell
+between_of after upto list = filter (λ cell. nat_lt after cell.touched && nat_le cell.touched upto) (map cell_at list)

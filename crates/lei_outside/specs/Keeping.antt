@@ -1,0 +1,162 @@
+-- What a keeper keeps: entries and cells. What it tells of them, and how its calls change that; `None` is a keeper that
+-- tells nothing.
+use Rattle.std.specs.Prelude.{◌≡◌, ◌≢◌, ◌⊎◌, ◌≤◌, ◌<◌, ◌+◌, ◌-◌, ◌&&◌, ℕ, List, [], ◌∷◌, ◌++◌, length, slice_get, map, filter, fold, nat_le, nat_lt, Option, None, Some, IfSome, Result, MatchResult, ⊤}
+use Rattle.std.specs.Cmp.Lexicographic.{slice_cmp}
+use Rattle.std.specs.FinMap.{FinMap, empty, entries, get, insert}
+use Rattle.std.specs.List.{AllByRecursion}
+use Rattle.std.specs.Ordering.{nat_cmp}
+use Rattle.std.specs.Str.{IsAscii}
+use Rattle.lei_outside.specs.declared.entry.KeptEntry.{KeptEntry}
+use Rattle.lei_outside.specs.declared.keeper.Batch.{Batch}
+use Rattle.lei_outside.specs.declared.keeper.KeptCell.{KeptCell}
+
+-- ---- the two tables
+
+-- Where a cell stands: its kind, and behind it the bytes of its name. So cells are in the order of kinds and names.
+abbrev pub CellPlace : Type 0
+CellPlace = List ℕ
+
+-- What is kept of a cell: the number of the entry that touched it last, and the text of its row, or none after a
+-- withdrawal.
+pub record CellContent : Type 0 where
+  pub touched : ℕ
+  pub row : Option (List ℕ)
+
+-- Cells in their places.
+abbrev pub Cells : Type 0
+Cells = FinMap (slice_cmp nat_cmp) CellContent
+
+-- What is kept: the entries in order, and the cells.
+pub record KeptTables : Type 0 where
+  pub entries : List KeptEntry
+  pub cells : Cells
+
+-- The tables of a keeper that has kept nothing.
+abbrev pub nothing_kept : KeptTables
+nothing_kept = record { entries = []; cells = empty }
+
+-- The place of a cell.
+abbrev pub place_of : KeptCell → CellPlace
+place_of cell = cell.kind ∷ cell.name
+
+-- What is kept of it.
+abbrev pub content_of : KeptCell → CellContent
+content_of cell = record { touched = cell.touched; row = cell.row }
+
+-- The cells with this one in its place.
+abbrev pub put_cell : Cells → KeptCell → Cells
+put_cell cells cell = insert cells (place_of cell) (content_of cell)
+
+-- The cells with all of these, from the first to the last.
+abbrev pub put_cells : Cells → List KeptCell → Cells
+put_cells cells list = fold put_cell cells list
+
+-- The tables with a batch: its entry stands behind the others, and its cells in their places.
+abbrev pub with_batch : Batch → KeptTables → KeptTables
+with_batch batch tables = record {
+  entries = tables.entries ++ batch.entry ∷ [];
+  cells = put_cells tables.cells batch.cells;
+}
+
+-- ---- which tables there are
+
+-- The numbers of entries rise, and the first is greater than this number.
+abbrev pub RiseFrom : ℕ → List KeptEntry → Type 0
+RiseFrom number [] = ⊤
+RiseFrom number (e ∷ list) = (number < e.seq) × RiseFrom e.seq list
+
+-- Each cell was touched by an entry, whose number is at least 1.
+abbrev pub AreTouched : Cells → Type 0
+AreTouched cells = (place : CellPlace) (content : CellContent) → get cells place ≡ Some content → 1 ≤ content.touched
+
+-- Tables that are kept: each entry and each cell has a number of at least 1, and no number of an entry stands twice.
+pub record AreKept (tables : KeptTables) : Type 0 where
+  pub entries : RiseFrom 0 tables.entries
+  pub cells : AreTouched tables.cells
+
+-- ---- what is read of them
+
+-- The number of an entry, 0 where there is none.
+abbrev pub number_of : Option KeptEntry → ℕ
+number_of None = 0
+number_of (Some e) = e.seq
+
+-- The number of the last entry, 0 where there is none.
+abbrev pub last_number : KeptTables → ℕ
+last_number tables = number_of (slice_get tables.entries (length tables.entries - 1))
+
+-- The entries whose number is greater than one number and at most another.
+abbrev pub entries_between : ℕ → ℕ → KeptTables → List KeptEntry
+entries_between after upto tables = filter (λ e. nat_lt after e.seq && nat_le e.seq upto) tables.entries
+
+-- A cell in its place.
+abbrev pub cell_at : CellPlace × CellContent → KeptCell
+cell_at ([], content) = record { kind = 0; name = []; touched = content.touched; row = content.row }
+cell_at (kind ∷ name, content) = record { kind = kind; name = name; touched = content.touched; row = content.row }
+
+-- The cells that were touched last by such an entry, in the order of their places.
+abbrev pub cells_between : ℕ → ℕ → KeptTables → List KeptCell
+cells_between after upto tables =
+    filter (λ cell. nat_lt after cell.touched && nat_le cell.touched upto) (map cell_at (entries tables.cells))
+
+-- ---- what is committed
+
+-- A cell of a batch: the batch's entry touched it, and its name is ASCII.
+abbrev pub IsCellOf : ℕ → KeptCell → Type 0
+IsCellOf number cell = (cell.touched ≡ number) × IsAscii cell.name
+
+-- No two cells have one place.
+abbrev pub AreApart : List KeptCell → Type 0
+AreApart [] = ⊤
+AreApart (cell ∷ list) = AllByRecursion (λ other. place_of other ≢ place_of cell) list × AreApart list
+
+-- A batch that may be committed: the number of its entry is at most 9,223,372,036,854,775,807, which a store has room
+-- for, its cells are cells of this entry in places of their own, and the texts that name something are ASCII.
+pub record IsBatch (batch : Batch) : Type 0 where
+  pub number : batch.entry.seq ≤ 9223372036854775807
+  pub office : IsAscii batch.entry.office
+  pub cells : AllByRecursion (IsCellOf batch.entry.seq) batch.cells
+  pub apart : AreApart batch.cells
+
+-- Where the tables are told, the batch's entry has the number behind the last.
+abbrev pub IsNextOf : Option KeptTables → Batch → Type 0
+IsNextOf told batch = IfSome told (λ tables. batch.entry.seq ≡ last_number tables + 1)
+
+-- ---- what calls do
+
+-- The told tables became what this makes of them. What is untold stays untold, and what is told may become untold.
+abbrev pub Becomes : (KeptTables → KeptTables) → Option KeptTables → Option KeptTables → Type 0
+Becomes change None None = ⊤
+Becomes change None (Some new) = ⊥
+Becomes change (Some old) None = ⊤
+Becomes change (Some old) (Some new) = new ≡ change old
+
+-- The told tables are as they were.
+abbrev pub Stays : Option KeptTables → Option KeptTables → Type 0
+Stays old new = Becomes (λ tables. tables) old new
+
+-- A batch was kept whole, or nothing of it.
+abbrev pub Commits : {E : Type 0} → Batch → Result (Unit {0}) E → Option KeptTables → Option KeptTables → Type 0
+Commits batch result old new =
+    MatchResult result (λ _. Becomes (with_batch batch) old new) (λ _. Stays old new)
+
+-- ---- what a crash may leave
+
+-- A crash leaves nothing that it might not have left before.
+abbrev pub LeavesNoMore : (Option KeptTables → Type 0) → (Option KeptTables → Type 0) → Type 0
+LeavesNoMore old new = (left : Option KeptTables) → new left → old left
+
+-- Where the tables are told, a crash leaves these.
+abbrev pub LeavesTold : Option KeptTables → (Option KeptTables → Type 0) → Type 0
+LeavesTold told leaves = IfSome told (λ tables. (left : Option KeptTables) → leaves left → left ≡ Some tables)
+
+-- What is left is what might have been left before, or the told tables with the batch.
+abbrev pub LeavesEither : Batch → Option KeptTables → (Option KeptTables → Type 0) → (Option KeptTables → Type 0) → Type 0
+LeavesEither batch told old new = (left : Option KeptTables) → new left
+    → old left ⊎ ((tables : KeptTables) × (told ≡ Some tables) × (left ≡ Some (with_batch batch tables)))
+
+-- After a commit a crash leaves the told tables; after one that was refused it may leave those with the batch too.
+abbrev pub CommitLeaves : {E : Type 0} → Batch → Result (Unit {0}) E → Option KeptTables → Option KeptTables
+    → (Option KeptTables → Type 0) → (Option KeptTables → Type 0) → Type 0
+CommitLeaves batch result told_old told_new old new =
+    MatchResult result (λ _. LeavesTold told_new new) (λ _. LeavesEither batch told_old old new)

@@ -1,0 +1,103 @@
+// Where what was taken is kept.
+ghost use Rattle.std.specs.Prelude.{◌≡◌, ℕ, ◌≤◌, Option, IfOk, OnOk, IfSome, IsErrOf};
+ghost use Rattle.lei_outside.specs.Count.{Rose};
+ghost use Rattle.lei_outside.specs.Keeping.{AreKept, CommitLeaves, Commits, IsBatch, IsNextOf, KeptTables, LeavesNoMore, Stays, cells_between, entries_between, last_number};
+
+use crate::{Bytes, KeepFault, KeptEntry, List, NoMemory};
+use std::alloc::Global;
+
+/// A cell of the register, as it is kept.
+#[derive(Debug, PartialEq, Eq, Drop)]
+pub struct KeptCell {
+    /// What it is a cell of: 1 for a record, 2 for a relationship, 3 for an exception.
+    pub kind: u8,
+    /// The texts of its key, with a space between two.
+    pub name: Bytes,
+    /// The number of the entry that touched it last.
+    pub touched: u64,
+    /// The row that is held, as the text of a JSON object, or none after a withdrawal.
+    pub row: Option<Bytes>,
+}
+
+impl KeptCell {
+    /// The cell in memory of its own.
+    pub fn copy(&self, alloc: Global) -> Result<Self, NoMemory>
+        ensures { IfOk result (λ copy. copy ≡ self.now) }
+    {
+        Ok(KeptCell {
+            kind: self.kind,
+            name: Bytes::copy_of(alloc, self.name.as_slice())?,
+            touched: self.touched,
+            row: copy_of_row(alloc, &self.row)?,
+        })
+    }
+}
+
+/// A row's text in memory of its own, or none.
+pub fn copy_of_row(alloc: Global, row: &Option<Bytes>) -> Result<Option<Bytes>, NoMemory>
+    ensures { IfOk result (λ copy. copy ≡ row.now) }
+{
+    match row {
+        Some(row) => Ok(Some(Bytes::copy_of(alloc, row.as_slice())?)),
+        None => Ok(None),
+    }
+}
+
+/// What is kept at once: an entry, and the cells that it touched.
+#[derive(Debug, PartialEq, Eq, Drop)]
+pub struct Batch {
+    pub entry: KeptEntry,
+    pub cells: List<KeptCell>,
+}
+
+/// A device that keeps entries and cells, as a file or memory: all of a batch, or nothing of it.
+pub trait Keeper {
+    /// The two tables, where the keeper tells them.
+    ghost tables: { Self → Option KeptTables };
+
+    /// How many calls have failed.
+    ghost faults: { Self → ℕ };
+
+    /// What the tables may be after a crash at this moment, or none where they can't be read then.
+    ghost leaves: { Self → Option KeptTables → Type 0 };
+
+    /// The number of the last entry, 0 where there is none.
+    fn last(&mut self) -> Result<u64, KeepFault>
+        ensures answer { IfSome (tables self.new) (λ told. IfOk result (λ number. number ≡ last_number told)) }
+        ensures kept { OnOk result (IfSome (tables self.new) AreKept) }
+        ensures same { Stays (tables self.old) (tables self.new) }
+        ensures crash { LeavesNoMore (leaves self.old) (leaves self.new) }
+        ensures count { faults self.old ≤ faults self.new }
+        ensures faultless { ¬ (IsErrOf result KeepFault.Failed) → faults self.new ≡ faults self.old }
+        ensures failed { IsErrOf result KeepFault.Failed → Rose (faults self.old) (faults self.new) };
+
+    /// The entries whose number is greater than `after` and at most `upto`, in their order.
+    fn entries(&mut self, after: u64, upto: u64) -> Result<List<KeptEntry>, KeepFault>
+        ensures answer { IfSome (tables self.new) (λ told. IfOk result (λ list. list ≡ entries_between after upto told)) }
+        ensures same { Stays (tables self.old) (tables self.new) }
+        ensures crash { LeavesNoMore (leaves self.old) (leaves self.new) }
+        ensures count { faults self.old ≤ faults self.new }
+        ensures faultless { ¬ (IsErrOf result KeepFault.Failed) → faults self.new ≡ faults self.old }
+        ensures failed { IsErrOf result KeepFault.Failed → Rose (faults self.old) (faults self.new) };
+
+    /// The cells that an entry touched last whose number is greater than `after` and at most `upto`, in the order of
+    /// kinds and names.
+    fn cells(&mut self, after: u64, upto: u64) -> Result<List<KeptCell>, KeepFault>
+        ensures answer { IfSome (tables self.new) (λ told. IfOk result (λ list. list ≡ cells_between after upto told)) }
+        ensures same { Stays (tables self.old) (tables self.new) }
+        ensures crash { LeavesNoMore (leaves self.old) (leaves self.new) }
+        ensures count { faults self.old ≤ faults self.new }
+        ensures faultless { ¬ (IsErrOf result KeepFault.Failed) → faults self.new ≡ faults self.old }
+        ensures failed { IsErrOf result KeepFault.Failed → Rose (faults self.old) (faults self.new) };
+
+    /// Keeps a batch: its entry behind the others, and each of its cells in the place of the one of its kind and name.
+    /// After an `Err` the tables are as they were.
+    fn commit(&mut self, batch: &Batch) -> Result<(), KeepFault>
+        requires batch { IsBatch batch.now }
+        requires next { IsNextOf (tables self.old) batch.now }
+        ensures tables { Commits batch.now result (tables self.old) (tables self.new) }
+        ensures crash { CommitLeaves batch.now result (tables self.old) (tables self.new) (leaves self.old) (leaves self.new) }
+        ensures count { faults self.old ≤ faults self.new }
+        ensures faultless { ¬ (IsErrOf result KeepFault.Failed) → faults self.new ≡ faults self.old }
+        ensures failed { IsErrOf result KeepFault.Failed → Rose (faults self.old) (faults self.new) };
+}
