@@ -6,3 +6,4 @@ pub mod PassLemmas
 pub mod OptionLemmas
 pub mod FindLemmas
 pub mod PairLemmas
+pub mod PrintedLemmas

@@ -1,5 +1,5 @@
 -- The typed parts of a record, a relationship and an exception are what the texts of its row spell.
-use Rattle.std.specs.Prelude.{◌≡◌}
+use Rattle.std.specs.Prelude.{◌≡◌, ◌<◌, ℕ, ℤ, List, [], length, Option, Some, None, get_or}
 use Rattle.std.specs.Arc.{arc_value}
 use Rattle.lei_records.specs.declared.exception.ExceptionItem.TheInside.{Inside as ExceptionParts}
 use Rattle.lei_records.specs.declared.record.Record.TheInside.{Inside}
@@ -7,7 +7,9 @@ use Rattle.lei_records.specs.declared.relation.Relation.TheInside.{Inside as Rel
 use Rattle.lei_records.specs.Cells.{category_in, created_in, entity_status_in, initial_in, lei_in, manager_in, receiver_in, renewal_in, status_in, successor_in, updated_in}
 use Rattle.lei_records.specs.Exceptions.{exception_category_in, reason_in, subject_in}
 use Rattle.lei_records.specs.Relations.{end_in, ended_in, kind_in, registration_in, relation_initial_in, relation_manager_in, relation_status_in, relation_updated_in, start_in, started_in}
+use Rattle.lei_records.specs.Rows.{Row}
 use Rattle.lei_records.specs.Spelled.{IsExceptionRow, IsRelationRow, IsRow}
+use Rattle.lei_shapes.specs.Moment.{read_moment}
 
 -- The parts are those of a record whose row the texts are.
 pub record IsSpelled (parts : Inside) : Type 0 where
@@ -44,3 +46,7 @@ pub record IsExceptionSpelled (parts : ExceptionParts) : Type 0 where
   pub lei : parts.lei ≡ subject_in (arc_value parts.texts)
   pub category : parts.category ≡ exception_category_in (arc_value parts.texts)
   pub reason : parts.reason ≡ reason_in (arc_value parts.texts)
+
+-- Each moment is the one that the text of its index reads as. Of a text without one nothing is said.
+abbrev pub AreRead : Row → List (Option ℤ) → Type 0
+AreRead row moments = (index : ℕ) (moment : ℤ) → index < length row → get_or moments index None ≡ Some moment → read_moment (get_or row index []) ≡ Some moment

@@ -78,6 +78,14 @@ impl ExceptionItem {
         })
     }
 
+    /// Its texts in order of place.
+    pub fn texts(&self) -> &Texts
+        ensures value { result.now ≡ self.now.0 }
+        ensures row { IsExceptionRow self.now.0 }
+    {
+        &self.texts
+    }
+
     /// The text of a field, by its place from 1 to 4: the empty text where the field is absent.
     pub fn field(&self, place: u8) -> &str
         requires first { 1 ≤ place }

@@ -10,6 +10,7 @@ mod item;
 mod laws;
 pub mod numbers;
 mod places;
+mod printed;
 mod readying;
 mod record;
 mod relation;

@@ -1,4 +1,4 @@
-ghost use Rattle.std.specs.Prelude.{◌≡◌, ◌++◌, ◌∷◌, [], codes, length, IfOk, OnOk, None, option_map, unwrap_or};
+ghost use Rattle.std.specs.Prelude.{◌≡◌, ◌<◌, ◌++◌, ◌∷◌, ◌&&◌, [], codes, length, not, is_some, IfOk, IfSome, IsAscii, IsTrue, OnOk, None, Some, option_map, unwrap_or, if◌then◌else◌};
 ghost use Rattle.std.specs.Str.{bytes_eq};
 ghost use Rattle.std.specs.Option.{option_copied};
 ghost use Rattle.lei_shapes.specs.Clock.{moment_text};
@@ -7,6 +7,7 @@ ghost use Rattle.lei_records.specs.Checks.{IsNumber};
 ghost use Rattle.lei_records.specs.Fields.{field_count, read_field};
 ghost use Rattle.lei_records.specs.Items;
 ghost use Rattle.lei_records.specs.Items.{failed_check, failed_field, ready_as};
+ghost use Rattle.lei_records.specs.Places.{record_places};
 ghost use Rattle.lei_records.specs.Sheets;
 ghost use Rattle.lei_records.specs.Sheets.{failed_at, field_fails, first_at, printed_at, read_texts, readied_by};
 ghost use Rattle.lei_records.specs.Spelled.{IsRowOf};
@@ -18,11 +19,12 @@ use crate::fields::{Content, Facts, Field, Kind};
 use crate::item::{Fields, Item, RawItem, Readied};
 use crate::numbers::{CHECK_DIGITS, FIELD_MISSING, FIELD_SHAPE, FIELD_UNKNOWN};
 use crate::places;
+use crate::printed::Printed;
 use crate::record::Record;
 use crate::relation::Relation;
 use crate::sheet::sheet_of;
 use lei_code::Lei;
-use lei_outside::{NoMemory, Text, Texts};
+use lei_outside::{NoMemory, Text};
 use lei_shapes::{Moment, Shape, fits};
 use std::alloc::Global;
 
@@ -70,23 +72,25 @@ fn by_shapes(alloc: Global, kind: Kind, texts: &[&str]) -> Result<Readied, NoMem
     requires present { first_at FieldCheck.Presence kind (read_texts texts.now) ≡ None }
     ensures { let row = read_texts texts.now in IfOk result (λ item. item ≡ readied_by kind row (failed_at kind row)) }
 {
-    match first_failing(FieldCheck::Shape, kind, texts) {
+    let shaped = shaped_row(alloc, kind, texts)?;
+    match shaped.misshapen {
         Some(name) => bad(alloc, FIELD_SHAPE, name),
-        None => by_digits(alloc, kind, texts),
+        None => by_digits(alloc, kind, texts, shaped.row),
     }
 }
 
 // C04, and then the item.
 #[tactic(auto, unfolding(crate::specs::Sheets::failed_at))]
-fn by_digits(alloc: Global, kind: Kind, texts: &[&str]) -> Result<Readied, NoMemory>
+fn by_digits(alloc: Global, kind: Kind, texts: &[&str], row: Printed) -> Result<Readied, NoMemory>
     requires places { length texts.now ≡ field_count kind }
     requires present { first_at FieldCheck.Presence kind (read_texts texts.now) ≡ None }
     requires shaped { first_at FieldCheck.Shape kind (read_texts texts.now) ≡ None }
+    requires row { row ≡ printed_at kind (read_texts texts.now) }
     ensures { let row = read_texts texts.now in IfOk result (λ item. item ≡ readied_by kind row (failed_at kind row)) }
 {
     match first_failing(FieldCheck::Digits, kind, texts) {
         Some(name) => bad(alloc, CHECK_DIGITS, name),
-        None => good(alloc, kind, texts),
+        None => good(alloc, kind, texts, row),
     }
 }
 
@@ -98,27 +102,31 @@ fn bad(alloc: Global, code: u8, name: &str) -> Result<Readied, NoMemory>
     Ok(Readied::Bad(Check { code, detail }))
 }
 
-fn good(alloc: Global, kind: Kind, texts: &[&str]) -> Result<Readied, NoMemory>
+fn good(alloc: Global, kind: Kind, texts: &[&str], row: Printed) -> Result<Readied, NoMemory>
     requires places { length texts.now ≡ field_count kind }
     requires present { first_at FieldCheck.Presence kind (read_texts texts.now) ≡ None }
     requires shaped { first_at FieldCheck.Shape kind (read_texts texts.now) ≡ None }
     requires checked { first_at FieldCheck.Digits kind (read_texts texts.now) ≡ None }
+    requires row { row ≡ printed_at kind (read_texts texts.now) }
     ensures { let row = read_texts texts.now in IfOk result (λ item. item ≡ readied_by kind row None) }
 {
-    let row = printed_texts(alloc, kind, texts)?;
     let withdraws = facts_at(kind, texts).withdrawal;
     Ok(Readied::Good(item_of(alloc, kind, withdraws, row)?))
 }
 
 // The item of a kind with this row. Of an exception it is said whether it is a withdrawal.
-fn item_of(alloc: Global, kind: Kind, withdraws: bool, row: Texts) -> Result<Item, NoMemory>
+fn item_of(alloc: Global, kind: Kind, withdraws: bool, row: Printed) -> Result<Item, NoMemory>
     requires { IsRowOf kind row }
     ensures { IfOk result (λ item. item ≡ Items.item_of kind withdraws row) }
 {
     match kind {
         Kind::Record => Ok(Item::Record(Record::of(alloc, row)?)),
         Kind::Relation => Ok(Item::Relation(Relation::of(alloc, row)?)),
-        Kind::Exception => Ok(Item::Exception(ExceptionItem::of(alloc, row, withdraws)?)),
+        Kind::Exception => Ok(Item::Exception(ExceptionItem::of(
+            alloc,
+            row.into_texts(),
+            withdraws,
+        )?)),
     }
 }
 
@@ -193,46 +201,128 @@ fn has_other_remainder(text: &str) -> bool
     fits(Shape::Code, text) && Lei::read(text.as_bytes()).is_err()
 }
 
-// The texts of the row, each a copy or, of a moment, its printed form.
-#[tactic(auto, unfolding(crate::specs::Sheets::printed_at))]
-fn printed_texts(alloc: Global, kind: Kind, texts: &[&str]) -> Result<Texts, NoMemory>
+// A row as far as its fields have their shapes, and the first field that hasn't.
+#[derive(Drop)]
+struct Shaped {
+    row: Printed,
+    misshapen: Option<&'static str>,
+}
+
+// C03 of each field, and the texts of the row: each a copy or, of a moment, its printed form. So each text is read once.
+#[tactic(auto, unfolding(crate::specs::Sheets::first_at, crate::specs::Sheets::printed_at))]
+fn shaped_row(alloc: Global, kind: Kind, texts: &[&str]) -> Result<Shaped, NoMemory>
     requires { length texts.now ≡ field_count kind }
-    ensures { IfOk result (λ row. row ≡ printed_at kind (read_texts texts.now)) }
+    ensures misshapen { IfOk result (λ shaped. option_copied shaped.misshapen ≡ first_at FieldCheck.Shape kind (read_texts texts.now)) }
+    ensures row { IfOk result (λ shaped. shaped.misshapen ≡ None → shaped.row ≡ printed_at kind (read_texts texts.now)) }
 {
-    let table = &kind.fields()[..kind.row_len()];
-    let mut row = Texts::with_capacity(alloc, table.len(), size_of(texts))?;
+    let facts = facts_at(kind, texts);
+    let table = kind.fields();
+    let count = kind.row_len();
+    let mut row = Printed::with_capacity(alloc, count, size_of(table, texts))?;
     for (index, field) in table.iter().enumerate() {
-        push_row_text(&mut row, field.1, texts[index])?;
+        let fits = place_text(&mut row, index < count, facts, field, texts[index])?;
+        if !fits {
+            let misshapen = Some(field.0);
+            return Ok(Shaped { row, misshapen });
+        }
     }
-    Ok(row)
+    let misshapen = None;
+    Ok(Shaped { row, misshapen })
 }
 
-// How many bytes the texts have, which are about those of their row.
-fn size_of(texts: &[&str]) -> usize {
-    texts
-        .iter()
-        .fold(0usize, |size, text| size.saturating_add(text.len()))
+// How many bytes the texts have in a row.
+fn size_of(table: &[Field], texts: &[&str]) -> usize {
+    table.iter().zip(texts).fold(0usize, |size, (field, text)| {
+        size.saturating_add(form_len(field.1, text))
+    })
 }
 
-// Puts the text of a field, as a row has it, behind the others.
-fn push_row_text(row: &mut Texts, content: Content, text: &str) -> Result<(), NoMemory>
-    ensures { OnOk result (row.new ≡ row.old ++ Items.row_text content text.now ∷ []) }
-{
+// How many bytes the text of a field has in a row, where it has the field's shape: a moment's printed form has 20.
+fn form_len(content: Content, text: &str) -> usize {
     match content {
-        Content::Shaped(Shape::Moment) if !text.is_empty() => push_moment(row, text),
-        _ => row.push(text),
+        Content::Shaped(Shape::Moment) if !text.is_empty() => 20,
+        Content::Action => 0,
+        _ => text.len(),
     }
 }
 
-// Puts the printed form of the moment that a text reads as, and else the text.
-fn push_moment(row: &mut Texts, text: &str) -> Result<(), NoMemory>
-    ensures { OnOk result
-        (row.new ≡ row.old ++ unwrap_or (option_map moment_text (read_moment text.now)) text.now ∷ []) }
+// Whether the text of a field has its shape. Where it has, and stands in a row, it is put behind the others.
+fn place_text(
+    row: &mut Printed,
+    stands: bool,
+    facts: Facts,
+    field: &Field,
+    text: &str,
+) -> Result<bool, NoMemory>
+    requires { IsTrue stands → length row.old < record_places }
+    ensures fits { IfOk result (λ fits. not fits ≡ field_fails FieldCheck.Shape facts (read_field field.now) text.now) }
+    ensures row { IfOk result (λ fits. IsTrue fits
+        → row.new ≡ (if stands then row.old ++ Items.row_text field.now.1 text.now ∷ [] else row.old)) }
 {
-    match Moment::read(text) {
-        None => row.push(text),
-        Some(moment) => match str::from_utf8(&moment.text()) {
-            Ok(form) => row.push(form),
+    if stands {
+        return push_fitting(row, facts, field, text);
+    }
+    Ok(!fails(FieldCheck::Shape, facts, field, text))
+}
+
+// Puts the text of a field, as a row has it, behind the others where it has the field's shape, and says whether it has.
+fn push_fitting(
+    row: &mut Printed,
+    facts: Facts,
+    field: &Field,
+    text: &str,
+) -> Result<bool, NoMemory>
+    requires { length row.old < record_places }
+    ensures fits { IfOk result (λ fits. not fits ≡ field_fails FieldCheck.Shape facts (read_field field.now) text.now) }
+    ensures row { IfOk result (λ fits. IsTrue fits
+        → row.new ≡ row.old ++ Items.row_text field.now.1 text.now ∷ []) }
+{
+    match field.1 {
+        Content::Shaped(Shape::Moment) if !text.is_empty() => {
+            push_moment(row, field.2.may_stand(facts), text)
+        }
+        _ => {
+            if fails(FieldCheck::Shape, facts, field, text) {
+                return Ok(false);
+            }
+            row.push(text, None)?;
+            Ok(true)
+        }
+    }
+}
+
+// The same of the text of a moment, where it may stand.
+fn push_moment(row: &mut Printed, may_stand: bool, text: &str) -> Result<bool, NoMemory>
+    requires { length row.old < record_places }
+    ensures fits { IfOk result (λ fits. fits ≡ (is_some (read_moment text.now) && may_stand)) }
+    ensures row { IfOk result (λ fits. IsTrue fits
+        → row.new ≡ row.old ++ unwrap_or (option_map moment_text (read_moment text.now)) text.now ∷ []) }
+{
+    let Some((moment, form)) = Moment::read_form(text) else {
+        return Ok(false);
+    };
+    if may_stand {
+        push_form(row, moment, text, form)?;
+    }
+    Ok(may_stand)
+}
+
+// Puts the printed form of a moment behind the others, which is the text where there is no other.
+fn push_form(
+    row: &mut Printed,
+    moment: Moment,
+    text: &str,
+    form: Option<[u8; 20]>,
+) -> Result<(), NoMemory>
+    requires room { length row.old < record_places }
+    requires ascii { IfSome form IsAscii }
+    requires reads_back { read_moment (unwrap_or form text.now) ≡ Some moment }
+    ensures { OnOk result (row.new ≡ row.old ++ unwrap_or form text.now ∷ []) }
+{
+    match form {
+        None => row.push(text, Some(moment)),
+        Some(form) => match str::from_utf8(&form) {
+            Ok(form) => row.push(form, Some(moment)),
             Err(_) => unreachable!(),
         },
     }

@@ -5,7 +5,8 @@ ghost use Rattle.lei_records.specs.Rows.{text_at};
 ghost use Rattle.lei_records.specs.Spelled.{IsRow};
 
 use crate::places;
-use crate::texts::{code_at, moment_at, present_code_at, present_moment_at, text_at};
+use crate::printed::Printed;
+use crate::texts::{code_at, present_code_at, text_at};
 use lei_code::Lei;
 use lei_outside::{NoMemory, Texts};
 use lei_shapes::{Category, EntityStatus, Moment, RecordStatus};
@@ -68,24 +69,33 @@ impl Eq for Record {
 
 impl Record {
     /// The record with these texts, which move. The condition is that they are the row of a record.
-    pub fn of(alloc: Global, texts: Texts) -> Result<Self, NoMemory>
-        requires { IsRow texts }
-        ensures { IfOk result (λ made. made ≡ texts) }
+    pub(crate) fn of(alloc: Global, row: Printed) -> Result<Self, NoMemory>
+        requires { IsRow row }
+        ensures { IfOk result (λ made. made ≡ row) }
     {
+        let texts = row.texts();
         Ok(Record {
-            lei: code_at(&texts, places::LEI),
-            category: category_of(&texts),
-            entity_status: entity_status_of(&texts),
-            created: present_moment_at(&texts, places::CREATED),
-            successor: present_code_at(&texts, places::SUCCESSOR),
-            initial: moment_at(&texts, places::INITIAL),
-            updated: moment_at(&texts, places::UPDATED),
-            status: status_of(&texts),
-            renewal: moment_at(&texts, places::RENEWAL),
-            manager: code_at(&texts, places::MANAGER),
-            transfer_to: present_code_at(&texts, places::TRANSFER_TO),
-            texts: Arc::new(alloc, texts)?,
+            lei: code_at(texts, places::LEI),
+            category: category_of(texts),
+            entity_status: entity_status_of(texts),
+            created: row.present_moment(places::CREATED),
+            successor: present_code_at(texts, places::SUCCESSOR),
+            initial: row.moment(places::INITIAL),
+            updated: row.moment(places::UPDATED),
+            status: status_of(texts),
+            renewal: row.moment(places::RENEWAL),
+            manager: code_at(texts, places::MANAGER),
+            transfer_to: present_code_at(texts, places::TRANSFER_TO),
+            texts: Arc::new(alloc, row.into_texts())?,
         })
+    }
+
+    /// Its texts in order of place.
+    pub fn texts(&self) -> &Texts
+        ensures value { result.now ≡ self.now }
+        ensures row { IsRow self.now }
+    {
+        &self.texts
     }
 
     /// The text of a field, by its place from 1 to 28: the empty text where the field is absent.

@@ -5,7 +5,8 @@ ghost use Rattle.lei_records.specs.Rows.{text_at};
 ghost use Rattle.lei_records.specs.Spelled.{IsRelationRow};
 
 use crate::places;
-use crate::texts::{code_at, moment_at, present_moment_at, text_at};
+use crate::printed::Printed;
+use crate::texts::{code_at, text_at};
 use lei_code::Lei;
 use lei_outside::{NoMemory, Texts};
 use lei_shapes::{Moment, RelationRegistration, RelationStatus, RelationType};
@@ -67,23 +68,32 @@ impl Eq for Relation {
 
 impl Relation {
     /// The relationship with these texts, which move. The condition is that they are the row of a relationship.
-    pub fn of(alloc: Global, texts: Texts) -> Result<Self, NoMemory>
-        requires { IsRelationRow texts }
-        ensures { IfOk result (λ made. made ≡ texts) }
+    pub(crate) fn of(alloc: Global, row: Printed) -> Result<Self, NoMemory>
+        requires { IsRelationRow row }
+        ensures { IfOk result (λ made. made ≡ row) }
     {
+        let texts = row.texts();
         Ok(Relation {
-            start: code_at(&texts, places::START),
-            kind: kind_of(&texts),
-            end: code_at(&texts, places::END),
-            status: status_of(&texts),
-            start_date: moment_at(&texts, places::START_DATE),
-            end_date: present_moment_at(&texts, places::END_DATE),
-            initial: moment_at(&texts, places::RELATION_INITIAL),
-            updated: moment_at(&texts, places::RELATION_UPDATED),
-            registration: registration_of(&texts),
-            manager: code_at(&texts, places::RELATION_MANAGER),
-            texts: Arc::new(alloc, texts)?,
+            start: code_at(texts, places::START),
+            kind: kind_of(texts),
+            end: code_at(texts, places::END),
+            status: status_of(texts),
+            start_date: row.moment(places::START_DATE),
+            end_date: row.present_moment(places::END_DATE),
+            initial: row.moment(places::RELATION_INITIAL),
+            updated: row.moment(places::RELATION_UPDATED),
+            registration: registration_of(texts),
+            manager: code_at(texts, places::RELATION_MANAGER),
+            texts: Arc::new(alloc, row.into_texts())?,
         })
+    }
+
+    /// Its texts in order of place.
+    pub fn texts(&self) -> &Texts
+        ensures value { result.now ≡ self.now }
+        ensures row { IsRelationRow self.now }
+    {
+        &self.texts
     }
 
     /// The text of a field, by its place from 1 to 11: the empty text where the field is absent.

@@ -1,4 +1,4 @@
-ghost use Rattle.std.specs.Prelude.{◌≡◌, ◌<◌, is_some, take, IfSome, slice_index_or};
+ghost use Rattle.std.specs.Prelude.{◌≡◌, ◌↔◌, ◌<◌, is_some, take, true, IfSome, IsTrue, slice_index_or};
 ghost use Rattle.std.specs.Option.{option_copied};
 ghost use Rattle.lei_records.specs.Items.{is_field};
 ghost use Rattle.lei_records.specs.Fields.{field_count, names_of};
@@ -8,6 +8,7 @@ ghost use Rattle.lei_records.specs.Sheets.{first_unknown, read_texts, texts_of};
 use crate::fields::Kind;
 use crate::item::Fields;
 use crate::places::RECORD_PLACES;
+use crate::tables;
 
 // What an item has under the names of fields, and the name that it should not have.
 #[derive(Drop)]
@@ -25,19 +26,59 @@ pub fn sheet_of(kind: Kind, fields: &Fields) -> Sheet<'_>
 {
     let mut texts = [""; RECORD_PLACES];
     let mut unknown = None;
+    let mut near = 0;
     for index in (0..fields.len()).rev() {
         let name = fields.name(index);
         let text = fields.text(index);
-        match index_of(kind, name) {
-            Some(at) => texts[at] = text,
+        match index_of(kind, name, near) {
+            Some(at) => {
+                texts[at] = text;
+                near = index_before(kind, at);
+            }
             None => unknown = Some(name),
         }
     }
     Sheet { texts, unknown }
 }
 
-// The index of the field with this name.
-fn index_of(kind: Kind, name: &str) -> Option<usize>
+// The index of the field with this name. It is looked for first at an index that is likely, and at the one whose name
+// comes before in byte order.
+fn index_of(kind: Kind, name: &str, near: usize) -> Option<usize>
+    ensures known { is_some result ≡ is_field kind name.now }
+    ensures index { IfSome result
+        (λ index. (index < field_count kind) × (slice_index_or (names_of kind) index name.now ≡ name.now)) }
+    ensures bound { IfSome result (λ index. index < record_places) }
+{
+    if is_at(kind, name, near) {
+        return Some(near);
+    }
+    let before = index_before(kind, near);
+    if is_at(kind, name, before) {
+        return Some(before);
+    }
+    search(kind, name)
+}
+
+// Whether the field at an index has this name.
+fn is_at(kind: Kind, name: &str, index: usize) -> bool
+    ensures known { IsTrue result → is_field kind name.now ≡ true }
+    ensures index { IsTrue result → index < field_count kind }
+    ensures name { IsTrue result → slice_index_or (names_of kind) index name.now ≡ name.now }
+    ensures bound { IsTrue result → index < record_places }
+{
+    let table = kind.fields();
+    index < table.len() && is_same(table[index].0, name)
+}
+
+// Whether two names are one, compared many bytes at a time.
+fn is_same(one: &str, other: &str) -> bool
+    ensures { IsTrue result ↔ (one.now ≡ other.now) }
+{
+    one.as_bytes() == other.as_bytes()
+}
+
+// The index of the field with this name, looked for among all.
+fn search(kind: Kind, name: &str) -> Option<usize>
     ensures known { is_some result ≡ is_field kind name.now }
     ensures index { IfSome result
         (λ index. (index < field_count kind) × (slice_index_or (names_of kind) index name.now ≡ name.now)) }
@@ -50,4 +91,14 @@ fn index_of(kind: Kind, name: &str) -> Option<usize>
         }
     }
     None
+}
+
+// The index of the field whose name comes before that of this index in byte order, or some index where none does.
+fn index_before(kind: Kind, index: usize) -> usize {
+    let before: &[u8] = match kind {
+        Kind::Record => &tables::record::BEFORE,
+        Kind::Relation => &tables::relation::BEFORE,
+        Kind::Exception => &tables::exception::BEFORE,
+    };
+    before.get(index).map_or(0, |before| usize::from(*before))
 }

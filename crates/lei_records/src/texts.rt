@@ -1,7 +1,6 @@
 //! What the texts of a row spell, by place.
-ghost use Rattle.std.specs.Prelude.{◌≡◌, ◌≤◌, length, IfSome, option_and_then};
+ghost use Rattle.std.specs.Prelude.{◌≡◌, ◌≤◌, length, IfSome};
 ghost use Rattle.lei_code.specs.Code.{IsValid};
-ghost use Rattle.lei_shapes.specs.Moment.{read_moment};
 ghost use Rattle.lei_records.specs.Rows.{text_at};
 ghost use Rattle.lei_records.specs.Spelled.{IsPrinted, moment_in, present};
 
@@ -56,17 +55,4 @@ pub fn moment_at(texts: &Texts, place: usize) -> Moment
         Some(moment) => moment,
         None => unreachable!(),
     }
-}
-
-// The same where the text may be absent.
-pub fn present_moment_at(texts: &Texts, place: usize) -> Option<Moment>
-    requires first { 1 ≤ place }
-    requires last { place ≤ length texts.now }
-    ensures { result ≡ option_and_then read_moment (present (text_at texts.now place)) }
-{
-    let text = text_at(texts, place);
-    if text.is_empty() {
-        return None;
-    }
-    Moment::read(text)
 }

@@ -1,6 +1,6 @@
 -- What a clock shows at a moment, and the moment's text.
-use Rattle.std.proofs.Common.{◌≡◌, ℕ, zero, suc, ◌+◌, ◌*◌, ◌/◌, ◌%◌, ◌<◌, true, false, None, Some, Option, Ok, Err, Result, List, [], ◌∷◌, ◌++◌, append_assoc, refl, ap, ◌∙◌, arith, ℤ, pos, ◌+ℤ◌, ◌*ℤ◌}
-use Rattle.std.specs.Prelude.{IsAscii, MatchResult}
+use Rattle.std.proofs.Common.{◌≡◌, ℕ, Bool, sym, zero, suc, ◌+◌, ◌*◌, ◌/◌, ◌%◌, ◌<◌, true, false, None, Some, Option, Ok, Err, Result, List, [], ◌∷◌, ◌++◌, append_assoc, refl, ap, ◌∙◌, arith, ℤ, pos, ◌+ℤ◌, ◌*ℤ◌}
+use Rattle.std.specs.Prelude.{IsAscii, MatchResult, if◌then◌else◌}
 use Rattle.std.specs.Option.{SomeIff}
 use Rattle.std.specs.Int.{int_div_euclid}
 use Rattle.jiff.specs.Words.{Error, civil_nanos, datetime_text, epoch_day, nanos_of_seconds, parse_timestamp}
@@ -16,8 +16,8 @@ use Rattle.jiff_core.specs.declared.timestamp.Timestamp.{Timestamp}
 use Rattle.std.proofs.lemmas.Int.{ints}
 use Rattle.jiff_fmt.specs.Text.{zulu_text}
 use Rattle.jiff_fmt.proofs.RoundTrip.{parse_timestamp-text}
-use Rattle.lei_shapes.specs.Clock.{march_count, year_at, month_at, day_at, IsClockAt, moment_text}
-use Rattle.lei_shapes.specs.Moment.{IsMoment, IsMomentRead, moment_of_instant, whole_seconds, is_moment, read_moment, day_of, second_of_day, ShowsMoment}
+use Rattle.lei_shapes.specs.Clock.{march_count, year_at, month_at, day_at, form_of, IsClockAt, moment_text}
+use Rattle.lei_shapes.specs.Moment.{IsMoment, IsMomentRead, IsMomentText, moment_of_instant, whole_seconds, is_moment, read_moment, day_of, second_of_day, ShowsMoment}
 use Rattle.lei_shapes.proofs.ClockLemmas.{day_count-at, civil-at}
 
 pub is_moment-true : (s : ℤ) → IsMoment s → is_moment s ≡ true
@@ -109,6 +109,31 @@ read_moment-text s h =
     let inside : is_moment s ≡ true = is_moment-true s h in
     rw (text, parse_timestamp-text clock.0 instant clock.1, whole, inside)
 
+-- the text is the one that `jiff` writes
+pub is_written : (s : ℤ) → IsMoment s → IsMomentText s (moment_text s)
+is_written s h =
+    let clock = shown s h in
+    record { clock = clock.0; shows = clock.1; written = moment_text-clock clock.0 s (clock_at_moment clock.0 s h clock.1) }
+
+-- the parts of a date have so many digits
+pub date_bounds : (n : ℕ) → n < 3_652_000 → (year_at n < 10_000) × (month_at n < 100) × (day_at n < 100)
+date_bounds n h =
+    let civil = civil-at n h in
+    (omega (arith, signed_arith, civil.0.1), omega (arith, civil.1), omega arith)
+
+-- the text by its parts
+pub moment_text-form : (s : ℤ) → moment_text s ≡ form_of (year_at (march_count (day_of s))) (month_at (march_count (day_of s))) (day_at (march_count (day_of s))) (second_of_day s)
+unfolding moment_text
+moment_text-form s = simp append_assoc refl
+
+pub moment_text-by : (s : ℤ) (n year month day second : ℕ) → n ≡ march_count (day_of s) → year ≡ year_at n → month ≡ month_at n → day ≡ day_at n → second ≡ second_of_day s
+    → form_of year month day second ≡ moment_text s
+moment_text-by s n year month day second days years months number seconds = rw (years, months, number, days, seconds) (sym (moment_text-form s))
+
+-- a printed form reads as its moment
+pub read_moment-form : (text form : List ℕ) (s : ℤ) → IsMoment s → form ≡ moment_text s → text ≡ form → read_moment text ≡ Some s
+read_moment-form text form s h printed same = rw (same, printed) (read_moment-text s h)
+
 -- each byte of a text that is written out is ASCII
 abbrev AsciiEach : List ℕ → Type 0
 AsciiEach [] = Unit {0}
@@ -154,3 +179,20 @@ reading-is (Ok nanos) (Some s) h = rw (is_moment-true (whole_seconds nanos) h.0)
 pub read_moment-is : (text : List ℕ) (read : Option ℤ) → IsMomentRead text read → read ≡ read_moment text
 unfolding read_moment
 read_moment-is text read h = reading-is (parse_timestamp text) read h
+
+reads-by : (test : Bool) (s : ℤ) → is_moment s ≡ test → SomeIff (if test then Some s else None) (IsMoment s) s
+reads-by true s e = (grind (arith, ints), refl)
+reads-by false s e = λ h. grind (arith, ints)
+
+reads-as : (reading : Result ℤ Error)
+    → MatchResult reading (λ nanos. SomeIff (moment_of_instant reading) (IsMoment (whole_seconds nanos)) (whole_seconds nanos)) (λ _. moment_of_instant reading ≡ None)
+reads-as (Err e) = refl
+reads-as (Ok nanos) = reads-by (is_moment (whole_seconds nanos)) (whole_seconds nanos) refl
+
+IsMomentRead-of : (text : List ℕ) → IsMomentRead text (read_moment text)
+unfolding read_moment
+IsMomentRead-of text = reads-as (parse_timestamp text)
+
+-- the function's value is what the text reads as
+pub IsMomentRead-by : (text : List ℕ) (read : Option ℤ) → read ≡ read_moment text → IsMomentRead text read
+IsMomentRead-by text read e = rw e (IsMomentRead-of text)

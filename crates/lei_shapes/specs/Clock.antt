@@ -70,3 +70,8 @@ time_at second = pad2 (second / 3600) ++ 58 ∷ pad2 (second / 60 % 60) ++ 58 �
 unfoldable pub moment_text : ℤ → Text
 moment_text seconds =
     date_at (march_count (day_of seconds)) ++ 84 ∷ time_at (second_of_day seconds) ++ 90 ∷ []
+
+-- A date and a second of it as they are written.
+abbrev pub form_of : ℕ → ℕ → ℕ → ℕ → Text
+form_of year month day second =
+    pad4 year ++ 45 ∷ [] ++ pad2 month ++ 45 ∷ [] ++ pad2 day ++ 84 ∷ time_at second ++ 90 ∷ []

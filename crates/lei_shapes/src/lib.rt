@@ -12,5 +12,5 @@ pub use lists::{
     Category, EntityStatus, ExceptionCategory, Reason, RecordStatus, RelationRegistration,
     RelationStatus, RelationType, Validation,
 };
-pub use moments::Moment;
+pub use moments::{Moment, day_number};
 pub use shapes::{Shape, fits};

@@ -1,5 +1,6 @@
 //! The shapes that texts of fields have.
-ghost use Rattle.std.specs.Prelude.{◌≡◌, length, chars};
+ghost use Rattle.std.specs.Prelude.{◌≡◌, ◌&&◌, length, chars, not};
+ghost use Rattle.std.specs.Int.{is_in_range};
 ghost use Rattle.std.specs.Char.{is_ascii_digit, is_control};
 ghost use Rattle.std.specs.List.{list_all, list_any};
 ghost use Rattle.lei_shapes.specs.Shape.{fits_shape, is_capital_or_digit, is_lang_byte, is_code as code, is_free as free, is_lang as lang, is_country as country, is_authority as authority, is_subdivision as subdivision, is_jurisdiction as jurisdiction, is_form as form};
@@ -72,10 +73,34 @@ fn is_code(text: &[u8]) -> bool
     text.len() == 20 && are_capitals_or_digits(&text[..18]) && are_digits(&text[18..])
 }
 
+#[tactic(auto, using(crate::proofs::ShapeLemmas::free_ascii))]
 fn is_free(text: &str) -> bool
     ensures { result ≡ free text.now }
 {
+    if text.is_ascii() {
+        return are_free(text.as_bytes());
+    }
     (1..=500).contains(&char_count(text)) && !has_control(text)
+}
+
+// The same of bytes, as of a text whose characters they are.
+fn are_free(text: &[u8]) -> bool
+    ensures { result ≡ (is_in_range 1 500 (length text.now) && not (list_any is_control text.now)) }
+{
+    (1..=500).contains(&text.len()) && !has_control_byte(text)
+}
+
+fn has_control_byte(text: &[u8]) -> bool
+    ensures { result ≡ list_any is_control text.now }
+{
+    text.iter()
+        .fold(false, |found, byte| found | is_control_byte(*byte))
+}
+
+fn is_control_byte(byte: u8) -> bool
+    ensures { result ≡ is_control byte }
+{
+    byte < 0x20 || (0x7F..=0x9F).contains(&byte)
 }
 
 fn char_count(text: &str) -> usize

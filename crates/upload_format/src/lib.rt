@@ -7,4 +7,4 @@ mod ordered;
 mod reading;
 
 pub use fault::{Malformed, UploadFault};
-pub use reading::{MAX_ITEMS, read_upload};
+pub use reading::{MAX_ITEMS, Reader, read_upload};

@@ -14,26 +14,32 @@ use json::{Error, Items, Members, Scratch, Tape};
 use lei_outside::NoMemory;
 use lei_records::{Fields, Kind, RawItem};
 use std::alloc::Global;
-use std::str;
 
 // The items of a body that is an upload whose items have their names in byte order. Of another body nothing is said.
 #[tactic(auto, unfolding(crate::specs::Bodies::value_of))]
-pub fn read_ordered(alloc: Global, body: &[u8]) -> Result<Option<Vec<RawItem>>, NoMemory>
+pub fn read_ordered(
+    alloc: Global,
+    scratch: &mut Scratch,
+    body: &[u8],
+) -> Result<Option<Vec<RawItem>>, NoMemory>
     ensures { IfOk result (λ read. IfSome read
         (λ items. option_and_then items_of (value_of body.now) ≡ Some items.items)) }
 {
-    let Ok(text) = str::from_utf8(body) else {
+    let Ok(text) = simdutf8::basic::from_utf8(body) else {
         return Ok(None);
     };
-    read_text(alloc, text)
+    read_text(alloc, scratch, text)
 }
 
-fn read_text(alloc: Global, text: &str) -> Result<Option<Vec<RawItem>>, NoMemory>
+fn read_text(
+    alloc: Global,
+    scratch: &mut Scratch,
+    text: &str,
+) -> Result<Option<Vec<RawItem>>, NoMemory>
     ensures { IfOk result (λ read. IfSome read
         (λ items. option_and_then items_of (value_of text.now) ≡ Some items.items)) }
 {
-    let mut scratch = Scratch::new(alloc);
-    let tape = match Tape::parse(text, &mut scratch, Vec::new(alloc)) {
+    let tape = match Tape::parse(text, scratch, Vec::new(alloc)) {
         Ok(tape) => tape,
         Err(Error::OutOfMemory) => return Err(NoMemory),
         Err(_) => return Ok(None),

@@ -9,6 +9,7 @@ ghost use Rattle.upload_format.specs.Bodies.{Gives, behind, fields_of, found, in
 
 use crate::fault::{Malformed, UploadFault};
 use crate::ordered::read_ordered;
+use json::Scratch;
 use lei_outside::{List, Text};
 use lei_records::{Fields, Kind, RawItem, Upload};
 use serde_json::{Map, Value};
@@ -21,27 +22,51 @@ pub const MAX_ITEMS: usize = 5000;
 /// `exceptions`, or some of them. Each lists objects of texts. A repeated name in an object has its last value. There
 /// are from 1 to [`MAX_ITEMS`] items in all: first the records, then the relationships, then the exceptions, and each in
 /// the order in which they were sent. Names and texts move out of the JSON value and aren't copied.
-#[tactic(auto, unfolding(crate::specs::Bodies::upload))]
 pub fn read_upload(alloc: Global, body: &[u8]) -> Result<Upload, UploadFault>
     ensures { Gives (λ read. read.items) result (upload body.now) }
 {
-    let items = read_body(alloc, body)?;
-    if items.is_empty() {
-        return Err(UploadFault::Malformed(Malformed::NoItems));
+    let mut reader = Reader::new(alloc);
+    reader.read(alloc, body)
+}
+
+/// Reads bodies one after the other, in memory that it keeps: about five bytes for each byte of the longest one. So none
+/// of it is asked for and cleared anew for a body that is no longer than those before.
+#[derive(Drop)]
+pub struct Reader {
+    scratch: Scratch,
+}
+
+impl Reader {
+    /// A reader that holds no memory yet.
+    pub fn new(alloc: Global) -> Reader {
+        Reader {
+            scratch: Scratch::new(alloc),
+        }
     }
-    if items.len() > MAX_ITEMS {
-        return Err(UploadFault::Malformed(Malformed::TooManyItems));
+
+    /// Reads a body as [`read_upload`] does.
+    #[tactic(auto, unfolding(crate::specs::Bodies::upload))]
+    pub fn read(&mut self, alloc: Global, body: &[u8]) -> Result<Upload, UploadFault>
+        ensures { Gives (λ read. read.items) result (upload body.now) }
+    {
+        let items = read_body(alloc, &mut self.scratch, body)?;
+        if items.is_empty() {
+            return Err(UploadFault::Malformed(Malformed::NoItems));
+        }
+        if items.len() > MAX_ITEMS {
+            return Err(UploadFault::Malformed(Malformed::TooManyItems));
+        }
+        Ok(Upload {
+            items: List::from(items),
+        })
     }
-    Ok(Upload {
-        items: List::from(items),
-    })
 }
 
 // The items of a body before they are counted. Where they have their names in byte order, no value becomes a tree.
-fn read_body(alloc: Global, body: &[u8]) -> Result<Vec<RawItem>, UploadFault>
+fn read_body(alloc: Global, scratch: &mut Scratch, body: &[u8]) -> Result<Vec<RawItem>, UploadFault>
     ensures { Gives (λ items. items.items) result (uncounted (value_of body.now)) }
 {
-    match read_ordered(alloc, body)? {
+    match read_ordered(alloc, scratch, body)? {
         Some(items) => Ok(items),
         None => read_tree(alloc, body),
     }

@@ -21,3 +21,6 @@ pub const FIELDS: [Field; ACTION] = [
     ("ExceptionReference", Shaped(Shape::Free), Need::Optional),
     ("Action", Action, Need::Optional),
 ];
+
+/// For each index that of the field whose name comes before in byte order. That of the first is any.
+pub const BEFORE: [u8; ACTION] = [3, 4, 1, 2, 0];

@@ -139,3 +139,9 @@ pub const FIELDS: [Field; RECORD_PLACES] = [
         Need::WherePendingArchival,
     ),
 ];
+
+/// For each index that of the field whose name comes before in byte order. That of the first is any.
+pub const BEFORE: [u8; RECORD_PLACES] = [
+    20, 15, 1, 6, 10, 7, 4, 3, 11, 18, 12, 9, 8, 14, 2, 17, 0, 5, 19, 16, 13, 27, 21, 24, 25, 22,
+    23, 0,
+];

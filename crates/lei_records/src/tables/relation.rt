@@ -54,3 +54,6 @@ pub const FIELDS: [Field; RELATION_PLACES] = [
         Need::Always,
     ),
 ];
+
+/// For each index that of the field whose name comes before in byte order. That of the first is any.
+pub const BEFORE: [u8; RELATION_PLACES] = [4, 3, 5, 2, 1, 10, 0, 6, 9, 7, 8];

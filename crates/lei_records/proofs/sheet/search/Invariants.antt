@@ -1,7 +1,7 @@
 use Rattle.std.proofs.Common.{◌≡◌, drop}
 use Rattle.std.specs.List.{list_any}
 use Rattle.std.specs.Str.{bytes_eq}
-use Rattle.lei_records.proofs.sheet.index_of.Given as goal
+use Rattle.lei_records.proofs.sheet.search.Given as goal
 
 -- the name is that of a field of the rest exactly where it is that of a field
 abbrev pub invariant-loop-index : goal.invariant-loop-index

@@ -1,6 +1,6 @@
 use Rattle.std.proofs.Common.{sym, ◌∙◌}
 use Rattle.lei_records.proofs.SheetLemmas.{below_28, field_found, no_field_found, within_count}
-use Rattle.lei_records.proofs.sheet.index_of.Goals as goal
+use Rattle.lei_records.proofs.sheet.search.Goals as goal
 
 pub returns-then-eq-clause-known : goal.returns-then-eq-clause-known
 returns-then-eq-clause-known c =

@@ -1,0 +1,110 @@
+//! The texts of a row as they are put together, with the moments that were read on the way.
+ghost use Rattle.std.specs.Prelude.{◌≡◌, ◌<◌, ◌≤◌, ◌++◌, ◌∷◌, [], length, IfOk, IfSome, OnOk, Some, option_and_then};
+ghost use Rattle.lei_shapes.specs.Moment.{read_moment};
+ghost use Rattle.lei_records.specs.Places.{record_places};
+ghost use Rattle.lei_records.specs.Rows.{text_at};
+ghost use Rattle.lei_records.specs.Spelled.{IsPrinted, moment_in, present};
+
+use crate::places::RECORD_PLACES;
+use crate::texts::{moment_at, text_at};
+use lei_outside::{NoMemory, Texts};
+use lei_shapes::Moment;
+use std::alloc::Global;
+use std::marker::Model;
+
+/// The texts of a row. Contracts see the list of them.
+#[derive(Drop)]
+pub struct Printed {
+    texts: Texts,
+    // For a text that was read as a moment, that moment.
+    moments: [Option<Moment>; RECORD_PLACES],
+}
+
+impl Model for Printed {
+    ghost use Rattle.lei_records.specs.Rows.{Row};
+    ghost use Rattle.lei_records.specs.Parts.{AreRead};
+
+    ghost Value = { Row };
+
+    ghost view = { λ printed. printed.texts };
+
+    ghost invariant = { λ printed. AreRead printed.texts printed.moments };
+}
+
+impl Printed {
+    /// No text, with room for so many of so many bytes together.
+    pub fn with_capacity(alloc: Global, texts: usize, bytes: usize) -> Result<Self, NoMemory>
+        ensures { IfOk result (λ printed. printed ≡ []) }
+    {
+        Ok(Printed {
+            texts: Texts::with_capacity(alloc, texts, bytes)?,
+            moments: [None; RECORD_PLACES],
+        })
+    }
+
+    /// Puts a text behind the others, with the moment that it reads as, where that is known.
+    pub fn push(&mut self, text: &str, moment: Option<Moment>) -> Result<(), NoMemory>
+        requires room { length self.old < record_places }
+        requires read { IfSome moment (λ m. read_moment text.now ≡ Some m) }
+        ensures { OnOk result (self.new ≡ self.old ++ text.now ∷ []) }
+    {
+        let index = self.texts.len();
+        self.texts.push(text)?;
+        self.moments[index] = moment;
+        Ok(())
+    }
+
+    /// The texts, which are seen as they are.
+    pub fn texts(&self) -> &Texts
+        ensures { result.now ≡ self.now }
+    {
+        &self.texts
+    }
+
+    /// The texts alone.
+    pub fn into_texts(self) -> Texts
+        ensures { result ≡ self }
+    {
+        self.texts
+    }
+
+    /// The moment that the text at a place reads as.
+    pub fn moment(&self, place: usize) -> Moment
+        requires first { 1 ≤ place }
+        requires last { place ≤ length self.now }
+        requires printed { IsPrinted (text_at self.now place) }
+        ensures { result ≡ moment_in self.now place }
+    {
+        match self.read_at(place) {
+            Some(moment) => moment,
+            None => moment_at(&self.texts, place),
+        }
+    }
+
+    /// The same where the text may be absent.
+    pub fn present_moment(&self, place: usize) -> Option<Moment>
+        requires first { 1 ≤ place }
+        requires last { place ≤ length self.now }
+        ensures { result ≡ option_and_then read_moment (present (text_at self.now place)) }
+    {
+        if text_at(&self.texts, place).is_empty() {
+            return None;
+        }
+        match self.read_at(place) {
+            Some(moment) => Some(moment),
+            None => Moment::read(text_at(&self.texts, place)),
+        }
+    }
+
+    // The moment of the text at a place, where it was read on the way.
+    fn read_at(&self, place: usize) -> Option<Moment>
+        requires first { 1 ≤ place }
+        requires last { place ≤ length self.now }
+        ensures { IfSome result (λ m. read_moment (text_at self.now place) ≡ Some m) }
+    {
+        if place > RECORD_PLACES {
+            return None;
+        }
+        self.moments[place - 1]
+    }
+}
