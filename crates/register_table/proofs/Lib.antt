@@ -7,3 +7,5 @@ pub mod ReadLemmas
 pub mod KeptLemmas
 pub mod StampLemmas
 pub mod TouchLemmas
+pub mod FreedLemmas
+pub mod HoldLemmas

@@ -1,21 +1,21 @@
 -- Notes of writes: what one more note comes to, and what is left when the last was put back.
-use Rattle.std.specs.Prelude.{◌≡◌, ℕ, suc, ◌+◌, ◌<◌, List, [], ◌∷◌, ◌++◌, drop, get_or, length, map, Option, Some, None, IfSome, IsSome, is_some, option_map}
+use Rattle.std.specs.Prelude.{◌≡◌, ℕ, suc, ◌+◌, ◌-◌, ◌<◌, ◌≤◌, true, List, [], ◌∷◌, ◌++◌, drop, get_or, length, map, take, Option, Some, None, IfSome, IsSome, is_some, option_and_then, option_map}
 use Rattle.std.specs.FinMap.{get, insert}
 use Rattle.std.specs.List.{AllByRecursion}
-use Rattle.std.proofs.Common.{refl, sym, ap, subst, ◌∙◌, add-one}
+use Rattle.std.proofs.Common.{arith, refl, sym, ap, subst, ◌∙◌, add-one}
 use Rattle.std.proofs.Math.Seq.{drop-cons}
+use Rattle.std.proofs.lemmas.List.{take_more}
 use Rattle.lei_records.specs.declared.item.Item.{Item}
 use Rattle.lei_records.specs.declared.view.RowKey.{RowKey}
 use Rattle.lei_records.specs.Cells.{lei_in}
 use Rattle.lei_records.specs.Tables.{Table, put_write, record_key, relation_key_in}
 use Rattle.register_table.specs.declared.cells.Slot.{Slot}
-use Rattle.register_table.specs.declared.ends.Ends.{Ends}
-use Rattle.register_table.specs.declared.holders.Holders.{Holders}
 use Rattle.register_table.specs.declared.parts.Note.{Note}
 use Rattle.register_table.specs.declared.parts.Parts.{Parts}
 use Rattle.register_table.specs.Cells.{IsItemOf, IsOwnCell, cell_in}
 use Rattle.register_table.specs.Held.{Cell, Held, IsKept, cell_key, row_in, rows}
-use Rattle.register_table.specs.Parts.{AreParts, AreUndoable, CanBeUndone, Grows, IsNoteOf, IsNoted, note_of}
+use Rattle.register_table.specs.Indexes.{Marks, noted_end, noted_holder}
+use Rattle.register_table.specs.Parts.{AreParts, AreUndoable, CanBeUndone, IsMarked, IsNoteOf, Stays, note_of, noted, taken}
 use Rattle.register_table.specs.Undos.{AreOwn, IsOwn, Notes, StaysKept, WriteList, cell_of, put_back, touch, touch_all, undone}
 use Rattle.register_table.proofs.RowsLemmas.{cell_again, cell_there, record_at, relation_at, rows-touch}
 
@@ -67,37 +67,53 @@ undoable-last (first ∷ notes) note held undoable =
       others = (subst (λ h. IsSome (get h (cell_key first.0)) × IsKept (rows (put_back h first))) (undone-push notes note held) undoable.0, rest.others);
     }
 
--- ---- what was noted stays noted
+-- ---- what was marked stays marked
 
-noted-grown : (item : Option Item) (holders newer : Holders) (ends later : Ends) → Grows holders ends newer later → IsNoted holders ends item → IsNoted newer later item
-noted-grown None holders newer ends later grows noted = tt
-noted-grown (Some (Item.Record row)) holders newer ends later grows noted = λ a i held. grows.by_key a i (noted a i held)
-noted-grown (Some (Item.Relation row)) holders newer ends later grows noted = λ s kind active. grows.by_start s kind (noted s kind active)
-noted-grown (Some (Item.Exception item)) holders newer ends later grows noted = tt
+marked-still : (item : Option Item) (before after : Marks) → Stays before after → IsMarked before item → IsMarked after item
+marked-still None before after stays marked = tt
+marked-still (Some (Item.Record row)) before after stays marked = λ a i held. stays.by_key a i (marked a i held)
+marked-still (Some (Item.Relation row)) before after stays marked = λ s kind active. stays.by_start s kind (marked s kind active)
+marked-still (Some (Item.Exception item)) before after stays marked = tt
 
-slot-grown : (slot : Option Slot) (holders newer : Holders) (ends later : Ends) → Grows holders ends newer later
-    → IfSome slot (λ s. IsNoted holders ends s.item) → IfSome slot (λ s. IsNoted newer later s.item)
-slot-grown None holders newer ends later grows noted = tt
-slot-grown (Some slot) holders newer ends later grows noted = noted-grown slot.item holders newer ends later grows noted
+slot-still : (slot : Option Slot) (before after : Marks) → Stays before after → IfSome slot (λ s. IsMarked before s.item) → IfSome slot (λ s. IsMarked after s.item)
+slot-still None before after stays marked = tt
+slot-still (Some slot) before after stays marked = marked-still slot.item before after stays marked
 
-pub each-grown : (notes : List Note) (holders newer : Holders) (ends later : Ends) → Grows holders ends newer later
-    → AllByRecursion (IsNoteOf holders ends) notes → AllByRecursion (IsNoteOf newer later) notes
-each-grown notes holders newer ends later grows each =
-    all-weaker (IsNoteOf holders ends) (IsNoteOf newer later)
-    (λ note is. record { own = is.own; noted = slot-grown note.slot holders newer ends later grows is.noted }) notes each
+pub each-still : (notes : List Note) (before after : Marks) → Stays before after → AllByRecursion (IsNoteOf before) notes → AllByRecursion (IsNoteOf after) notes
+each-still notes before after stays each =
+    all-weaker (IsNoteOf before) (IsNoteOf after) (λ note is. record { own = is.own; marked = slot-still note.slot before after stays is.marked }) notes each
 
-pub can-grown : (notes : List Note) (old new : Parts) → Grows old.holders old.ends new.holders new.ends → new.cells ≡ old.cells → CanBeUndone notes old → CanBeUndone notes new
-can-grown notes old new grows same can = record {
-  each = each-grown notes old.holders new.holders old.ends new.ends grows can.each;
+pub can-still : (notes : List Note) (before after : Marks) (old new : Held) → Stays before after → new ≡ old → CanBeUndone before notes old → CanBeUndone after notes new
+can-still notes before after old new stays same can = record {
+  each = each-still notes before after stays can.each;
   kept = subst (AreUndoable (map note_of notes)) (sym same) can.kept;
 }
 
-pub grows-none : (holders : Holders) (ends : Ends) → Grows holders ends holders ends
-grows-none holders ends = record { by_key = λ a i is. is; by_start = λ s kind is. is }
+pub stays-same : (marks : Marks) → Stays marks marks
+stays-same marks = record { by_key = λ a i is. is; by_start = λ s kind is. is }
 
-pub grows-more : (a b c : Holders) (d e f : Ends) → Grows a d b e → Grows b e c f → Grows a d c f
-grows-more a b c d e f first second =
-    record { by_key = λ x y is. second.by_key x y (first.by_key x y is); by_start = λ x y is. second.by_start x y (first.by_start x y is) }
+pub stays-more : (first second third : Marks) → Stays first second → Stays second third → Stays first third
+stays-more first second third begin more =
+    record { by_key = λ a i is. more.by_key a i (begin.by_key a i is); by_start = λ s kind is. more.by_start s kind (begin.by_start s kind is) }
+
+one_there : {X : Type 0} (o : Option (Option X)) → is_some (option_and_then (λ x. x) o) ≡ true → is_some o ≡ true
+one_there None is = is
+one_there (Some x) is = refl
+
+-- where a LEI stands, something does
+pub taken-noted : (parts : Parts) → Stays (taken parts) (noted parts)
+taken-noted parts = record {
+  by_key = λ a i. one_there (noted_holder parts.holders a i);
+  by_start = λ s kind. one_there (noted_end parts.ends s kind);
+}
+
+-- so notes whose keys are all taken can be put back
+pub can_undo : (notes : List Note) (parts : Parts) → CanBeUndone (taken parts) notes parts.cells → CanBeUndone (noted parts) notes parts.cells
+can_undo notes parts can = can-still notes (taken parts) (noted parts) parts.cells parts.cells (taken-noted parts) refl can
+
+pub if_weaker : {X : Type 0} (P Q : X → Type 0) (o : Option X) → ((x : X) → P x → Q x) → IfSome o P → IfSome o Q
+if_weaker P Q None weaker is = tt
+if_weaker P Q (Some x) weaker is = weaker x is
 
 -- ---- what is held was noted
 
@@ -105,7 +121,7 @@ some_is : {X : Type 0} (o : Option X) (x : X) → o ≡ Some x → IsSome o
 some_is o x is = ap is_some is
 
 module _ (parts : Parts) (are : AreParts parts) (key : RowKey) where
-  held_noted : (entry : ℕ) (item : Option Item) → IsItemOf key item → get parts.cells (cell_key key) ≡ Some (cell_of entry item) → IsNoted parts.holders parts.ends item
+  held_noted : (entry : ℕ) (item : Option Item) → IsItemOf key item → get parts.cells (cell_key key) ≡ Some (cell_of entry item) → IsMarked (taken parts) item
   held_noted entry None own at = tt
   held_noted entry (Some (Item.Record row)) own at = λ a i held.
       let there : get (rows parts.cells).records (record_key (lei_in row)) ≡ Some row =
@@ -117,14 +133,14 @@ module _ (parts : Parts) (are : AreParts parts) (key : RowKey) where
       some_is _ _ (are.indexes.by_start s kind (relation_key_in row) row there active)
   held_noted entry (Some (Item.Exception item)) own at = tt
 
-  out_noted : (out : Option Slot) → IfSome out (IsOwnCell key) → option_map cell_in out ≡ get parts.cells (cell_key key) → IfSome out (λ s. IsNoted parts.holders parts.ends s.item)
+  out_noted : (out : Option Slot) → IfSome out (IsOwnCell key) → option_map cell_in out ≡ get parts.cells (cell_key key) → IfSome out (λ s. IsMarked (taken parts) s.item)
   out_noted None own is = tt
   out_noted (Some slot) own is = held_noted slot.entry slot.item own (sym is)
 
 -- ---- after a cell was put
 
 module _ (old new : Parts) (notes all : List Note) (note : Note) (cell : Cell)
-    (are : AreParts old) (can : CanBeUndone notes old) (grows : Grows old.holders old.ends new.holders new.ends)
+    (are : AreParts old) (can : CanBeUndone (taken old) notes old.cells) (stays : Stays (taken old) (taken new))
     (put : new.cells ≡ insert old.cells (cell_key note.key) cell)
     (own : IfSome note.slot (IsOwnCell note.key)) (out : option_map cell_in note.slot ≡ get old.cells (cell_key note.key)) (pushed : all ≡ notes ++ note ∷ []) where
   back : put_back new.cells (note_of note) ≡ old.cells
@@ -139,38 +155,44 @@ module _ (old new : Parts) (notes all : List Note) (note : Note) (cell : Cell)
   here : IsSome (get new.cells (cell_key note.key))
   here = ap is_some (ap (λ h. get h (cell_key note.key)) put ∙ cell_there old.cells (cell_key note.key) cell)
 
-  pub can-pushed : CanBeUndone all new
+  pub can-pushed : CanBeUndone (taken new) all new.cells
   can-pushed = record {
-    each = subst (AllByRecursion (IsNoteOf new.holders new.ends)) (sym pushed)
-        (all-push (IsNoteOf new.holders new.ends) notes note (each-grown notes old.holders new.holders old.ends new.ends grows can.each)
-        (record { own = own; noted = slot-grown note.slot old.holders new.holders old.ends new.ends grows (out_noted old are note.key note.slot own out) }));
+    each = subst (AllByRecursion (IsNoteOf (taken new))) (sym pushed)
+        (all-push (IsNoteOf (taken new)) notes note (each-still notes (taken old) (taken new) stays can.each)
+        (record { own = own; marked = slot-still note.slot (taken old) (taken new) stays (out_noted old are note.key note.slot own out) }));
     kept = subst (λ ns. AreUndoable ns new.cells) (sym listed) (undoable-push (map note_of notes) (note_of note) new.cells old.cells back here are.kept can.kept);
   }
 
 -- ---- before a note is put back
 
-module _ (parts : Parts) (notes all : List Note) (note : Note) (can : CanBeUndone all parts) (popped : all ≡ notes ++ note ∷ []) where
+module _ (parts : Parts) (notes all : List Note) (note : Note) (can : CanBeUndone (noted parts) all parts.cells) (popped : all ≡ notes ++ note ∷ []) where
   listed_all : map note_of all ≡ map note_of notes ++ note_of note ∷ []
   listed_all = ap (map note_of) popped ∙ noted-push notes note
 
-  parted : AllByRecursion (IsNoteOf parts.holders parts.ends) notes × IsNoteOf parts.holders parts.ends note
-  parted = all-front (IsNoteOf parts.holders parts.ends) notes note (subst (AllByRecursion (IsNoteOf parts.holders parts.ends)) popped can.each)
+  parted : AllByRecursion (IsNoteOf (noted parts)) notes × IsNoteOf (noted parts) note
+  parted = all-front (IsNoteOf (noted parts)) notes note (subst (AllByRecursion (IsNoteOf (noted parts))) popped can.each)
 
-  pub of_note : IsNoteOf parts.holders parts.ends note
+  pub of_note : IsNoteOf (noted parts) note
   of_note = parted.1
 
   pub last_note : Last (map note_of notes) (note_of note) parts.cells
   last_note = undoable-last (map note_of notes) (note_of note) parts.cells (subst (λ ns. AreUndoable ns parts.cells) listed_all can.kept)
 
-  pub can-popped : (new : Parts) → Grows parts.holders parts.ends new.holders new.ends → new.cells ≡ put_back parts.cells (note_of note) → CanBeUndone notes new
-  can-popped new grows put = record {
-    each = each-grown notes parts.holders new.holders parts.ends new.ends grows parted.0;
+  pub can-popped : (new : Parts) → Stays (noted parts) (noted new) → new.cells ≡ put_back parts.cells (note_of note) → CanBeUndone (noted new) notes new.cells
+  can-popped new stays put = record {
+    each = each-still notes (noted parts) (noted new) stays parted.0;
     kept = subst (AreUndoable (map note_of notes)) (sym put) last_note.others;
   }
 
   pub undone-popped : (new : Parts) → new.cells ≡ put_back parts.cells (note_of note) → undone (map note_of notes) new.cells ≡ undone (map note_of all) parts.cells
   undone-popped new put =
       ap (undone (map note_of notes)) put ∙ (sym (undone-push (map note_of notes) (note_of note) parts.cells) ∙ ap (λ ns. undone ns parts.cells) (sym listed_all))
+
+-- the last of the notes that are left
+pub last_left : (notes : List Note) (left : ℕ) (note : Note) → 0 < left → left ≤ length notes → take left notes ≡ take (left - 1) notes ++ get_or notes (left - 1) note ∷ []
+last_left notes left note some inside =
+    let one : left ≡ (left - 1) + 1 = omega (arith, some) in
+    ap (λ n. take n notes) one ∙ take_more notes (left - 1) note (omega (arith, some, inside))
 
 -- ---- a loop over writes
 

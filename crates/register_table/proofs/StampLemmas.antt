@@ -23,7 +23,7 @@ use Rattle.register_table.specs.Stamps.{AreInOrder, AreStamped, HasStamp, IsStam
 use Rattle.register_table.specs.Touched.{is_touched, touched}
 use Rattle.register_table.specs.Undos.{IsLater, WriteList, cell_of, touch, touch_all}
 
-by_order : (a b : ℕ) (P : Type 0) → (a < b → P) → (b ≤ a → P) → P
+pub by_order : (a b : ℕ) (P : Type 0) → (a < b → P) → (b ≤ a → P) → P
 by_order a b P less more = elim (ltb a b) as (λ t. ltb a b ≡ t → P) [
   | true ↦ λ t. less (ltb-true a b t)
   | false ↦ λ t. more (ltb-false a b t)
@@ -60,6 +60,24 @@ whole stamps after upto low high fits ends begins entry key more most none k d s
     let big = leb-false (get_or stamps k d).entry upto (ends.1 k d behind less) in
     let own = is.0 in
     absurd (omega (arith, big, own, most)))
+
+-- and no other stands there
+pub ranged : (stamps : List Stamp) (after upto low high : ℕ) → high ≤ length stamps
+    → IsPartitionPoint (λ s. leb s.entry upto ≡ true) (λ s. leb s.entry upto ≡ false) stamps high
+    → IsPartitionPoint (λ s. leb s.entry after ≡ true) (λ s. leb s.entry after ≡ false) (take high stamps) low
+    → All (λ (s : Stamp). (after < s.entry) × (s.entry ≤ upto)) (take (length (take high stamps) - low) (drop low (take high stamps)))
+ranged stamps after upto low high fits ends begins k d less =
+    let first = take high stamps in
+    let rest = drop low first in
+    let n = length first - low in
+    let len = length-take-le high stamps fits in
+    let size = length-take-le n rest (subst (λ m. n ≤ m) (sym (length-drop low first)) (omega arith)) in
+    let same : get_or first (low + k) d ≡ get_or stamps (low + k) d = get_or-take high stamps (low + k) d (omega (arith, less, size, len)) in
+    let there : get_or (take n rest) k d ≡ get_or stamps (low + k) d =
+    get_or-take n rest k d (omega (arith, less, size)) ∙ (get_or-drop low first k d ∙ same) in
+    let more = leb-false (get_or first (low + k) d).entry after (begins.1 (low + k) d (omega arith) (omega (arith, less, size))) in
+    let most = leb-true (get_or stamps (low + k) d).entry upto (ends.0 (low + k) d (omega arith) (omega (arith, less, size, len))) in
+    subst (λ (s : Stamp). (after < s.entry) × (s.entry ≤ upto)) (sym there) (subst (λ (s : Stamp). after < s.entry) same more, most)
 
 -- ---- stamps that are put
 
@@ -241,7 +259,7 @@ both true b p q = q
 both false b p q = p
 
 -- a cell that passes a test, if there is one
-abbrev only : (Cell → Bool) → Option Cell → Option Cell
+abbrev pub only : (Cell → Bool) → Option Cell → Option Cell
 only p None = None
 only p (Some cell) = cond (p cell) (Some cell) None
 
@@ -268,7 +286,7 @@ module _ (p : Cell → Bool) where
   lower_apart Equal t = absurd t
   lower_apart Greater t = absurd t
 
-  find_below : (key : KeyTexts) (cells : List (KeyTexts × Cell)) → T (below_all key_cmp key cells) → find key_cmp key cells ≡ None
+  pub find_below : (key : KeyTexts) (cells : List (KeyTexts × Cell)) → T (below_all key_cmp key cells) → find key_cmp key cells ≡ None
   find_below key [] t = refl
   find_below key (e ∷ cells) t = ap (λ b. cond b (Some e.1) (find key_cmp key cells)) (lower_apart (key_cmp key e.0) (first _ _ t)) ∙ find_below key cells (second _ _ t)
 
@@ -315,6 +333,15 @@ pub same_touched : (after upto : ℕ) (held found : Held) → AreAmong held foun
     → ((key : KeyTexts) (cell : Cell) → get held key ≡ Some cell → is_touched after upto cell ≡ true → get found key ≡ Some cell)
     → touched after upto found ≡ touched after upto held
 same_touched after upto held found among each = same_passing (is_touched after upto) held found among each
+
+-- what was touched stands in the order of keys
+pub touched-sorted : (after upto : ℕ) (held : Held) → T (is_sorted key_cmp (touched after upto held))
+touched-sorted after upto held = sorted_passing (is_touched after upto) (entries held) (entries_sorted held)
+
+-- under a key is found its cell, where that was touched
+pub touched-find : (after upto : ℕ) (held : Held) (key : KeyTexts) → find key_cmp key (touched after upto held) ≡ only (is_touched after upto) (get held key)
+touched-find after upto held key =
+    find_passing (is_touched after upto) key (entries held) (entries_sorted held) ∙ ap (only (is_touched after upto)) (sym (get-entries held key))
 
 -- ---- no stamps
 

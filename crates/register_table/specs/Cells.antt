@@ -7,6 +7,7 @@ use Rattle.lei_records.specs.declared.view.RowKey.{RowKey}
 use Rattle.lei_records.specs.Tables.{KeyTexts, row_key}
 use Rattle.register_table.specs.declared.cells.Slot.{Slot}
 use Rattle.register_table.specs.declared.keys.TextKey.{TextKey}
+use Rattle.register_table.specs.declared.touched.Touched.{Touched}
 use Rattle.register_table.specs.Held.{Cell, Held, cell_key}
 use Rattle.register_table.specs.Undos.{cell_of}
 
@@ -14,10 +15,14 @@ use Rattle.register_table.specs.Undos.{cell_of}
 abbrev pub cell_in : Slot → Cell
 cell_in slot = cell_of slot.entry slot.item
 
--- A slot stands under the key of its item.
+-- An item stands under its own key.
 abbrev pub IsItemOf : RowKey → Option Item → Type 0
 IsItemOf key None = ⊤
 IsItemOf key (Some item) = cell_key key ≡ cell_key (row_key item)
+
+-- Each key that is told as touched is that of its item.
+abbrev pub AreOwnItems : List Touched → Type 0
+AreOwnItems = AllByRecursion (λ told. IsItemOf told.key told.item)
 
 -- The same of a slot.
 abbrev pub IsOwnCell : RowKey → Slot → Type 0

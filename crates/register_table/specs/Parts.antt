@@ -1,5 +1,5 @@
 -- Parts: the cells of a table with the two indexes over them, and notes of what writes replaced.
-use Rattle.std.specs.Prelude.{◌≡◌, true, List, [], ◌∷◌, Option, Some, IfSome, IsSome, if◌then◌else◌, map, option_map, ⊤}
+use Rattle.std.specs.Prelude.{◌≡◌, true, List, [], ◌∷◌, Option, Some, IfSome, IsSome, if◌then◌else◌, is_some, map, option_map, ⊤}
 use Rattle.std.specs.FinMap.{get}
 use Rattle.std.specs.List.{AllByRecursion}
 use Rattle.lei_code.specs.Texts.{Lei, Text}
@@ -9,14 +9,14 @@ use Rattle.lei_records.specs.declared.view.RowKey.{RowKey}
 use Rattle.lei_records.specs.Cells.{holds, lei_in}
 use Rattle.lei_records.specs.Relations.{end_in, is_active_of}
 use Rattle.lei_records.specs.Rows.{Row}
-use Rattle.lei_records.specs.Tables.{KeyTexts, Table}
+use Rattle.lei_records.specs.Tables.{KeyTexts, Table, active_of, holder_of}
 use Rattle.register_table.specs.declared.ends.Ends.{Ends}
 use Rattle.register_table.specs.declared.holders.Holders.{Holders}
 use Rattle.register_table.specs.declared.parts.Note.{Note}
 use Rattle.register_table.specs.declared.parts.Parts.{Parts}
 use Rattle.register_table.specs.Cells.{IsOwnCell, cell_in}
 use Rattle.register_table.specs.Held.{Cell, Held, IsKept, cell_key, rows}
-use Rattle.register_table.specs.Indexes.{HasNewEnd, HoldsNewKey, end_in_index, holder_in}
+use Rattle.register_table.specs.Indexes.{HasNewEnd, HoldsNewKey, Marks, end_in_index, holder_in, noted_in, taken_in}
 use Rattle.register_table.specs.Undos.{Notes, put_back, undone}
 
 -- ---- what is noted of an item
@@ -44,18 +44,37 @@ IsNew (Some (Item.Record row)) holders ends = HoldsNewKey row holders
 IsNew (Some (Item.Relation row)) holders ends = HasNewEnd row ends
 IsNew item holders ends = ⊥
 
--- Under each key of an item something was noted.
-abbrev pub IsNoted : Holders → Ends → Option Item → Type 0
-IsNoted holders ends (Some (Item.Record row)) =
-    (authority id : Text) → holds authority id row ≡ true → IsSome (holder_in holders authority id)
-IsNoted holders ends (Some (Item.Relation row)) =
-    (start : Lei) (kind : RelationType) → is_active_of start kind row ≡ true → IsSome (end_in_index ends start kind)
-IsNoted holders ends item = ⊤
+-- Each key of an item is marked.
+abbrev pub IsMarked : Marks → Option Item → Type 0
+IsMarked marks (Some (Item.Record row)) =
+    (authority id : Text) → holds authority id row ≡ true → marks.by_key authority id ≡ true
+IsMarked marks (Some (Item.Relation row)) =
+    (start : Lei) (kind : RelationType) → is_active_of start kind row ≡ true → marks.by_start start kind ≡ true
+IsMarked marks item = ⊤
 
--- Where something was noted, something still is.
-pub record Grows (holders : Holders) (ends : Ends) (newer : Holders) (later : Ends) : Type 0 where
-  pub by_key : (authority id : Text) → IsSome (holder_in holders authority id) → IsSome (holder_in newer authority id)
-  pub by_start : (start : Lei) (kind : RelationType) → IsSome (end_in_index ends start kind) → IsSome (end_in_index later start kind)
+-- Each key of an item that some have marked is marked by others, too.
+abbrev pub IsWithin : Marks → Marks → Option Item → Type 0
+IsWithin some others (Some (Item.Record row)) =
+    (authority id : Text) → holds authority id row ≡ true → some.by_key authority id ≡ true → others.by_key authority id ≡ true
+IsWithin some others (Some (Item.Relation row)) =
+    (start : Lei) (kind : RelationType) → is_active_of start kind row ≡ true → some.by_start start kind ≡ true → others.by_start start kind ≡ true
+IsWithin some others item = ⊤
+
+-- The same of the item of a note, if it has one.
+abbrev pub IsNoteWithin : Marks → Marks → Note → Type 0
+IsNoteWithin some others note = IfSome note.slot (λ slot. IsWithin some others slot.item)
+
+-- The authority keys that a live record has, and the starts and types of active relationships.
+abbrev pub held_by : Table → Marks
+held_by table = record {
+  by_key = λ authority id. is_some (holder_of table authority id);
+  by_start = λ start kind. is_some (active_of table start kind);
+}
+
+-- What was marked still is.
+pub record Stays (before after : Marks) : Type 0 where
+  pub by_key : (authority id : Text) → before.by_key authority id ≡ true → after.by_key authority id ≡ true
+  pub by_start : (start : Lei) (kind : RelationType) → before.by_start start kind ≡ true → after.by_start start kind ≡ true
 
 -- ---- indexes over a table
 
@@ -78,10 +97,10 @@ pub record AreParts (parts : Parts) : Type 0 where
 abbrev pub note_of : Note → RowKey × Option Cell
 note_of note = (note.key, option_map cell_in note.slot)
 
--- What a note has is of its key, and each key of it was noted.
-pub record IsNoteOf (holders : Holders) (ends : Ends) (note : Note) : Type 0 where
+-- What a note has is of its key, and each key of its item is marked.
+pub record IsNoteOf (marks : Marks) (note : Note) : Type 0 where
   pub own : IfSome note.slot (IsOwnCell note.key)
-  pub noted : IfSome note.slot (λ slot. IsNoted holders ends slot.item)
+  pub marked : IfSome note.slot (λ slot. IsMarked marks slot.item)
 
 -- Each note can be put back from the last on: its key has a cell then, and the cells can be kept once it is put back.
 abbrev pub AreUndoable : Notes → Held → Type 0
@@ -89,7 +108,15 @@ AreUndoable [] held = ⊤
 AreUndoable (note ∷ notes) held = (IsSome (get (undone notes held) (cell_key note.0))
     × IsKept (rows (put_back (undone notes held) note))) × AreUndoable notes held
 
--- Notes can be put back into these parts.
-pub record CanBeUndone (notes : List Note) (parts : Parts) : Type 0 where
-  pub each : AllByRecursion (IsNoteOf parts.holders parts.ends) notes
-  pub kept : AreUndoable (map note_of notes) parts.cells
+-- Notes can be put back into these cells, and each key of theirs is marked.
+pub record CanBeUndone (marks : Marks) (notes : List Note) (held : Held) : Type 0 where
+  pub each : AllByRecursion (IsNoteOf marks) notes
+  pub kept : AreUndoable (map note_of notes) held
+
+-- The keys under which something stands in the indexes of these parts.
+abbrev pub noted : Parts → Marks
+noted parts = noted_in parts.holders parts.ends
+
+-- The keys under which a LEI does.
+abbrev pub taken : Parts → Marks
+taken parts = taken_in parts.holders parts.ends

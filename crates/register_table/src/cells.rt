@@ -1,7 +1,7 @@
 // The cells of a table, in an ordered map.
 ghost use Rattle.std.specs.Prelude.{◌≡◌, true, Some, None, IfOk, OnOk, OnErr, IfSome, is_some, map, option_map};
 ghost use Rattle.std.specs.FinMap.{empty, get, insert, remove};
-ghost use Rattle.register_table.specs.Cells.{IsOwnCell, cell_in};
+ghost use Rattle.register_table.specs.Cells.{AreOwnCells, AreOwnItems, IsOwnCell, cell_in};
 ghost use Rattle.register_table.specs.Counts.{AreCounts};
 ghost use Rattle.lei_records.specs.Tables.{KeyTexts};
 ghost use Rattle.register_table.specs.Held.{Cell, cell_key, row_in, rows};
@@ -112,7 +112,8 @@ impl CellMap {
     ) -> Result<Vec<Touched>, NoMemory>
         requires { (key : KeyTexts) (cell : Cell) → get self.now key ≡ Some cell
             → is_touched after upto cell ≡ true → HasStamp stamps.now cell.entry key }
-        ensures { IfOk result (λ list. map shown list.items ≡ touched after upto self.now) }
+        ensures told { IfOk result (λ list. map shown list.items ≡ touched after upto self.now) }
+        ensures own { IfOk result (λ list. AreOwnItems list.items) }
     {
         let stamped = self.stamped(alloc, stamps, after, upto)?;
         touched_in(alloc, &stamped.map, after, upto)
@@ -193,7 +194,9 @@ fn touched_in(
     after: u64,
     upto: u64,
 ) -> Result<Vec<Touched>, NoMemory>
+    requires { AreOwnCells slots.now.entries }
     ensures told { IfOk result (λ list. map shown list.items ≡ within after upto slots.now.entries) }
+    ensures own { IfOk result (λ list. AreOwnItems list.items) }
     ensures rise { AreRising slots.now.entries }
 {
     // Its keys rise.

@@ -1,9 +1,10 @@
 // Which relationship of a start and a type is active.
-ghost use Rattle.std.specs.Prelude.{◌≡◌, List, ℕ, Some, None, if◌then◌else◌, OnOk, OnErr};
+ghost use Rattle.std.specs.Prelude.{◌≡◌, ◌&&◌, List, ℕ, true, Some, None, if◌then◌else◌, OnOk, OnErr, is_some};
+ghost use Rattle.std.specs.Str.{bytes_eq};
 ghost use Rattle.lei_shapes.specs.declared.lists.RelationType.{RelationType};
 ghost use Rattle.lei_records.specs.Relations;
-ghost use Rattle.lei_records.specs.Relations.{end_in};
-ghost use Rattle.register_table.specs.Indexes.{HasNewEnd, end_in_index};
+ghost use Rattle.lei_records.specs.Relations.{end_in, is_same_type};
+ghost use Rattle.register_table.specs.Indexes.{HasNewEnd, dropped, end_in_index, freed, noted_end};
 
 use lei_code::Lei;
 use lei_outside::NoMemory;
@@ -13,16 +14,17 @@ use std::alloc::Global;
 use std::collections::BTreeMap;
 
 /// By start and type, the end of the relationship that was put as an active one last. It may not be active any longer.
-/// Types have no order of their own, and stand by their texts.
+/// A start and a type that are freed stay without an end until they are dropped. Types have no order of their own, and
+/// stand by their texts.
 #[derive(Drop)]
 pub struct Ends {
-    pub map: BTreeMap<(Lei, &'static str), Lei>,
+    pub map: BTreeMap<(Lei, &'static str), Option<Lei>>,
 }
 
 impl Ends {
     /// No relationship is active.
     pub fn new(alloc: Global) -> Self
-        ensures { (start : List ℕ) (kind : RelationType) → end_in_index result start kind ≡ None }
+        ensures { (start : List ℕ) (kind : RelationType) → noted_end result start kind ≡ None }
     {
         Ends {
             map: BTreeMap::new(alloc),
@@ -33,7 +35,7 @@ impl Ends {
     pub fn get(&self, start: &Lei, kind: RelationType) -> Option<Lei>
         ensures { result ≡ end_in_index self.now start.now kind }
     {
-        self.map.get(&(*start, kind.text())).copied()
+        *self.map.get(&(*start, kind.text()))?
     }
 
     /// Notes the end of a relationship, if it is active. Where one was noted before, it takes no memory.
@@ -43,17 +45,41 @@ impl Ends {
             else end_in_index self.old start kind)) }
         ensures err { OnErr result ((start : List ℕ) (kind : RelationType) → end_in_index self.new start kind
             ≡ end_in_index self.old start kind) }
+        ensures stays { (start : List ℕ) (kind : RelationType) → is_some (noted_end self.old start kind) ≡ true
+            → is_some (noted_end self.new start kind) ≡ true }
         ensures absent { OnErr result (HasNewEnd relation.now self.old) }
     {
         if !relation.is_active() {
             return Ok(());
         }
-        match self
-            .map
-            .insert((relation.start(), relation.kind().text()), relation.end())
-        {
+        match self.map.insert(
+            (relation.start(), relation.kind().text()),
+            Some(relation.end()),
+        ) {
             Ok(_) => Ok(()),
             Err(_) => Err(NoMemory),
+        }
+    }
+
+    /// Leaves no end under a start and a type.
+    pub fn free(&mut self, start: &Lei, kind: RelationType)
+        ensures { (s : List ℕ) (k : RelationType) → noted_end self.new s k
+            ≡ (if bytes_eq start.now s && is_same_type kind k then freed (noted_end self.old s k)
+            else noted_end self.old s k) }
+    {
+        if let Some(noted) = self.map.get_mut(&(*start, kind.text())) {
+            *noted = None;
+        }
+    }
+
+    /// Drops a start and a type under which no end stands.
+    pub fn drop_freed(&mut self, start: &Lei, kind: RelationType)
+        ensures { (s : List ℕ) (k : RelationType) → noted_end self.new s k
+            ≡ (if bytes_eq start.now s && is_same_type kind k then dropped (noted_end self.old s k)
+            else noted_end self.old s k) }
+    {
+        if self.get(start, kind).is_none() {
+            self.map.remove(&(*start, kind.text()));
         }
     }
 }

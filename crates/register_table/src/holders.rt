@@ -1,10 +1,11 @@
 // Which record has an authority key.
-ghost use Rattle.std.specs.Prelude.{◌≡◌, ◌&&◌, List, ℕ, Some, None, if◌then◌else◌, OnOk, OnErr, string_bytes};
+ghost use Rattle.std.specs.Prelude.{◌≡◌, ◌&&◌, List, ℕ, true, Some, None, if◌then◌else◌, OnOk, OnErr, is_some, option_map, string_bytes};
 ghost use Rattle.std.specs.BTreeMap.{get_by_text};
+ghost use Rattle.std.specs.Bool.{OnTrue};
 ghost use Rattle.std.specs.Str.{bytes_eq};
 ghost use Rattle.lei_records.specs.Cells;
 ghost use Rattle.lei_records.specs.Cells.{lei_in};
-ghost use Rattle.register_table.specs.Indexes.{HoldsNewKey, holder_in};
+ghost use Rattle.register_table.specs.Indexes.{HoldsNewKey, dropped, freed, holder_in, noted_holder};
 
 use authority_rules::{is_live, key_of};
 use lei_code::Lei;
@@ -13,10 +14,11 @@ use lei_records::Record;
 use std::alloc::Global;
 use std::collections::BTreeMap;
 
-// By the id of an authority, the LEI of a record.
-type Ids = BTreeMap<String, Lei>;
+// By the id of an authority, the LEI of a record, or none where nobody has the key any more.
+type Ids = BTreeMap<String, Option<Lei>>;
 
-/// By authority key, the LEI of the record that took it last. It may have given the key up again.
+/// By authority key, the LEI of the record that took it last. It may have given the key up again. A key that is freed
+/// stays without a LEI until it is dropped.
 #[derive(Drop)]
 pub struct Holders {
     pub alloc: Global,
@@ -26,7 +28,7 @@ pub struct Holders {
 impl Holders {
     /// Nobody has a key.
     pub fn new(alloc: Global) -> Self
-        ensures { (authority id : List ℕ) → holder_in result authority id ≡ None }
+        ensures { (authority id : List ℕ) → noted_holder result authority id ≡ None }
     {
         Holders {
             alloc,
@@ -39,7 +41,7 @@ impl Holders {
         ensures { result ≡ holder_in self.now authority.now id.now }
     {
         let ids = self.map.get(authority)?;
-        ids.get(id).copied()
+        *ids.get(id)?
     }
 
     /// Notes a record under the key that it holds, if it holds one. Where somebody was noted under the key before, it
@@ -50,22 +52,68 @@ impl Holders {
             else holder_in self.old authority id)) }
         ensures err { OnErr result ((authority id : List ℕ) → holder_in self.new authority id
             ≡ holder_in self.old authority id) }
+        ensures stays { (authority id : List ℕ) → is_some (noted_holder self.old authority id) ≡ true
+            → is_some (noted_holder self.new authority id) ≡ true }
         ensures absent { OnErr result (HoldsNewKey record.now self.old) }
     {
-        if !is_live(record) {
-            return Ok(());
-        }
-        match key_of(record) {
+        match held_key(record) {
             Some((authority, id)) => self.note(authority, id, record.lei()),
             None => Ok(()),
         }
     }
 
+    /// Leaves no LEI under a key.
+    pub fn free(&mut self, authority: &str, id: &str)
+        ensures { (a i : List ℕ) → noted_holder self.new a i
+            ≡ (if bytes_eq authority.now a && bytes_eq id.now i then freed (noted_holder self.old a i)
+            else noted_holder self.old a i) }
+    {
+        if let Some(ids) = self.map.get_mut(authority) {
+            free_id(ids, id);
+        }
+    }
+
+    /// Drops a key under which no LEI stands.
+    pub fn drop_freed(&mut self, authority: &str, id: &str)
+        ensures { (a i : List ℕ) → noted_holder self.new a i
+            ≡ (if bytes_eq authority.now a && bytes_eq id.now i then dropped (noted_holder self.old a i)
+            else noted_holder self.old a i) }
+    {
+        if self.get(authority, id).is_none() {
+            self.remove(authority, id);
+        }
+    }
+
+    // An authority goes with its last id.
+    fn remove(&mut self, authority: &str, id: &str)
+        ensures { (a i : List ℕ) → noted_holder self.new a i
+            ≡ (if bytes_eq authority.now a && bytes_eq id.now i then None else noted_holder self.old a i) }
+    {
+        if self.remove_id(authority, id) {
+            self.map.remove(authority);
+        }
+    }
+
+    // Whether the authority has no id then.
+    fn remove_id(&mut self, authority: &str, id: &str) -> bool
+        ensures removed { (a i : List ℕ) → noted_holder self.new a i
+            ≡ (if bytes_eq authority.now a && bytes_eq id.now i then None else noted_holder self.old a i) }
+        ensures last { OnTrue result ((i : List ℕ) → noted_holder self.new authority.now i ≡ None) }
+    {
+        match self.map.get_mut(authority) {
+            Some(ids) => {
+                ids.remove(id);
+                ids.is_empty()
+            }
+            None => false,
+        }
+    }
+
     fn note(&mut self, authority: &str, id: &str, lei: Lei) -> Result<(), NoMemory>
-        ensures put { OnOk result ((a i : List ℕ) → holder_in self.new a i
-            ≡ (if bytes_eq authority.now a && bytes_eq id.now i then Some lei else holder_in self.old a i)) }
-        ensures err { OnErr result ((a i : List ℕ) → holder_in self.new a i ≡ holder_in self.old a i) }
-        ensures absent { OnErr result (holder_in self.old authority.now id.now ≡ None) }
+        ensures put { OnOk result ((a i : List ℕ) → noted_holder self.new a i
+            ≡ (if bytes_eq authority.now a && bytes_eq id.now i then Some (Some lei) else noted_holder self.old a i)) }
+        ensures err { OnErr result ((a i : List ℕ) → noted_holder self.new a i ≡ noted_holder self.old a i) }
+        ensures absent { OnErr result (noted_holder self.old authority.now id.now ≡ None) }
     {
         match self.map.get_mut(authority) {
             Some(ids) => note_id(self.alloc, ids, id, lei),
@@ -76,9 +124,9 @@ impl Holders {
     // Notes the first id of an authority.
     fn note_first(&mut self, authority: &str, id: &str, lei: Lei) -> Result<(), NoMemory>
         requires { get_by_text self.old.map authority.now ≡ None }
-        ensures put { OnOk result ((a i : List ℕ) → holder_in self.new a i
-            ≡ (if bytes_eq authority.now a && bytes_eq id.now i then Some lei else holder_in self.old a i)) }
-        ensures err { OnErr result ((a i : List ℕ) → holder_in self.new a i ≡ holder_in self.old a i) }
+        ensures put { OnOk result ((a i : List ℕ) → noted_holder self.new a i
+            ≡ (if bytes_eq authority.now a && bytes_eq id.now i then Some (Some lei) else noted_holder self.old a i)) }
+        ensures err { OnErr result ((a i : List ℕ) → noted_holder self.new a i ≡ noted_holder self.old a i) }
     {
         let mut ids = BTreeMap::new(self.alloc);
         note_id(self.alloc, &mut ids, id, lei)?;
@@ -88,15 +136,38 @@ impl Holders {
     }
 }
 
+/// The authority key that a record holds.
+#[tactic(auto, unfolding(lei_records::specs::Cells::holds))]
+pub fn held_key(record: &Record) -> Option<(&str, &str)>
+    ensures { (authority id : List ℕ) → Cells.holds authority id record.now
+        ≡ Cells.is_key authority id (option_map (λ key. (key.0.now, key.1.now)) result) }
+{
+    if is_live(record) {
+        key_of(record)
+    } else {
+        None
+    }
+}
+
+// Leaves no LEI under an id.
+fn free_id(ids: &mut Ids, id: &str)
+    ensures { (i : List ℕ) → get_by_text ids.new i
+        ≡ (if bytes_eq id.now i then freed (get_by_text ids.old i) else get_by_text ids.old i) }
+{
+    if let Some(noted) = ids.get_mut(id) {
+        *noted = None;
+    }
+}
+
 // Notes the LEI under an id.
 fn note_id(alloc: Global, ids: &mut Ids, id: &str, lei: Lei) -> Result<(), NoMemory>
     ensures put { OnOk result ((i : List ℕ) → get_by_text ids.new i
-        ≡ (if bytes_eq id.now i then Some lei else get_by_text ids.old i)) }
+        ≡ (if bytes_eq id.now i then Some (Some lei) else get_by_text ids.old i)) }
     ensures err { OnErr result ((i : List ℕ) → get_by_text ids.new i ≡ get_by_text ids.old i) }
     ensures absent { OnErr result (get_by_text ids.old id.now ≡ None) }
 {
     if let Some(noted) = ids.get_mut(id) {
-        *noted = lei;
+        *noted = Some(lei);
         return Ok(());
     }
     insert_id(ids, String::from_str(alloc, id)?, lei)
@@ -104,9 +175,9 @@ fn note_id(alloc: Global, ids: &mut Ids, id: &str, lei: Lei) -> Result<(), NoMem
 
 fn insert_id(ids: &mut Ids, id: String, lei: Lei) -> Result<(), NoMemory>
     ensures put { OnOk result ((i : List ℕ) → get_by_text ids.new i
-        ≡ (if bytes_eq (string_bytes id) i then Some lei else get_by_text ids.old i)) }
+        ≡ (if bytes_eq (string_bytes id) i then Some (Some lei) else get_by_text ids.old i)) }
     ensures err { OnErr result ((i : List ℕ) → get_by_text ids.new i ≡ get_by_text ids.old i) }
 {
-    ids.insert(id, lei)?;
+    ids.insert(id, Some(lei))?;
     Ok(())
 }

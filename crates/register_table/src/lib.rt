@@ -5,6 +5,7 @@
 mod cells;
 mod counts;
 mod ends;
+mod freed;
 mod holders;
 mod keys;
 mod parts;

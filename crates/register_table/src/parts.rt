@@ -3,8 +3,8 @@ ghost use Rattle.std.specs.Prelude.{◌≡◌, None, IfOk, OnOk, OnErr, IfSome, 
 ghost use Rattle.std.specs.FinMap.{get, insert};
 ghost use Rattle.register_table.specs.Cells.{IsOwnCell, cell_in};
 ghost use Rattle.register_table.specs.Held.{IsKept, cell_key, rows};
-ghost use Rattle.register_table.specs.Indexes.{end_in_index, holder_in};
-ghost use Rattle.register_table.specs.Parts.{AreNoted, AreParts, Grows, IsNew, IsNoted};
+ghost use Rattle.register_table.specs.Indexes.{end_in_index, holder_in, noted_in};
+ghost use Rattle.register_table.specs.Parts.{AreNoted, AreParts, IsMarked, IsNew, Stays, noted, taken};
 ghost use Rattle.register_table.specs.Undos.{with_cell};
 
 use crate::cells::{CellMap, Slot};
@@ -38,9 +38,10 @@ pub fn put(parts: &mut Parts, key: RowKey, slot: Slot) -> Result<Option<Slot>, N
     ensures own { IfOk result (λ out. IfSome out (IsOwnCell key)) }
     ensures err { OnErr result (parts.new.cells ≡ parts.old.cells) }
     ensures parts { AreParts parts.new }
-    ensures grows { Grows parts.old.holders parts.old.ends parts.new.holders parts.new.ends }
+    ensures noted { Stays (noted parts.old) (noted parts.new) }
+    ensures taken { Stays (taken parts.old) (taken parts.new) }
     ensures room { OnErr result (IsSome (get parts.old.cells (cell_key key))
-        → IsNoted parts.old.holders parts.old.ends slot.item → ⊥) }
+        → IsMarked (noted parts.old) slot.item → ⊥) }
 {
     index(&mut parts.holders, &mut parts.ends, &slot.item)?;
     parts.cells.insert(&key, slot)
@@ -50,6 +51,7 @@ pub fn put(parts: &mut Parts, key: RowKey, slot: Slot) -> Result<Option<Slot>, N
 fn index(holders: &mut Holders, ends: &mut Ends, item: &Option<Item>) -> Result<(), NoMemory>
     ensures ok { OnOk result (AreNoted item.now holders.old ends.old holders.new ends.new) }
     ensures err { OnErr result (AreNoted None holders.old ends.old holders.new ends.new) }
+    ensures noted { Stays (noted_in holders.old ends.old) (noted_in holders.new ends.new) }
     ensures absent { OnErr result (IsNew item.now holders.old ends.old) }
 {
     match item {
@@ -65,11 +67,11 @@ pub fn put_back(parts: &mut Parts, key: RowKey, slot: Option<Slot>) -> Option<Sl
     requires parts { AreParts parts.old }
     requires kept { IsKept (rows (with_cell parts.old.cells (cell_key key) (option_map cell_in slot))) }
     requires here { IsSome (get parts.old.cells (cell_key key)) }
-    requires noted { IfSome slot (λ slot. IsNoted parts.old.holders parts.old.ends slot.item) }
+    requires marked { IfSome slot (λ slot. IsMarked (noted parts.old) slot.item) }
     ensures cells { parts.new.cells ≡ with_cell parts.old.cells (cell_key key) (option_map cell_in slot) }
     ensures out { option_map cell_in result ≡ get parts.old.cells (cell_key key) }
     ensures parts { AreParts parts.new }
-    ensures grows { Grows parts.old.holders parts.old.ends parts.new.holders parts.new.ends }
+    ensures noted { Stays (noted parts.old) (noted parts.new) }
 {
     match slot {
         Some(slot) => match put(parts, key, slot) {

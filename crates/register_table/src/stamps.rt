@@ -56,6 +56,7 @@ pub fn stamps_within(stamps: &[Stamp], after: u64, upto: u64) -> &[Stamp]
     requires order { AreInOrder stamps.now }
     ensures whole { (entry : ℕ) (key : KeyTexts) → after < entry → entry ≤ upto
         → NoneFrom 0 result.now entry key → NoneFrom 0 stamps.now entry key }
+    ensures range { All (λ (stamp : Stamp). (after < stamp.entry) × (stamp.entry ≤ upto)) result.now }
 {
     let first = &stamps[..stamps.partition_point(|stamp| stamp.entry <= upto)];
     &first[first.partition_point(|stamp| stamp.entry <= after)..]

@@ -1,17 +1,19 @@
-ghost use Rattle.std.specs.Prelude.{◌≡◌, ℕ, ◌+◌, Some, None, IfOk, OnOk, OnErr, IsSome, map, option_map};
+ghost use Rattle.std.specs.Prelude.{◌≡◌, ℕ, ◌+◌, [], Some, None, IfOk, IfSome, OnOk, OnErr, IsSome, map, option_map};
 ghost use Rattle.std.specs.FinMap.{empty, len};
 ghost use Rattle.lei_records.specs.Tables.{cells_of, put_all, record_count, row_at};
+ghost use Rattle.register_table.specs.Cells.{AreOwnItems};
 ghost use Rattle.register_table.specs.Held.{IsKept, no_rows, rows};
 ghost use Rattle.register_table.specs.Touched.{shown, touched};
 ghost use Rattle.register_table.specs.Undos.{IsLater, MayApply, touch_all};
 
 use crate::cells::CellMap;
 use crate::ends::Ends;
+use crate::freed::{drop_freed, free_keys, take_back};
 use crate::holders::Holders;
 use crate::parts::{Note, Parts};
 use crate::stamps::{Stamp, stamp_writes, stamps_within};
 use crate::touched::Touched;
-use crate::writes::{put_writes, undo_notes};
+use crate::writes::put_writes;
 use lei_code::Lei;
 use lei_outside::NoMemory;
 use lei_records::{RecCell, Record, RelCell, Seen, View, Writes};
@@ -34,7 +36,7 @@ pub struct Table {
 impl Model for Table {
     ghost use Rattle.std.specs.Prelude.{IfSome, map, option_map};
     ghost use Rattle.register_table.specs.Held.{TableState, state_code};
-    ghost use Rattle.register_table.specs.Parts.{AreParts, CanBeUndone, note_of};
+    ghost use Rattle.register_table.specs.Parts.{AreParts, CanBeUndone, note_of, noted};
     ghost use Rattle.register_table.specs.Stamps.{AreInOrder, AreStamped};
     ghost use Rattle.register_table.specs.Undos.{undone};
 
@@ -48,7 +50,7 @@ impl Model for Table {
     } };
 
     ghost invariant = { λ table. AreParts table.parts
-        × IfSome table.last (λ notes. CanBeUndone notes.items table.parts)
+        × IfSome table.last (λ notes. CanBeUndone (noted table.parts) notes.items table.parts.cells)
         × AreInOrder table.stamps.items × AreStamped table.stamps.items table.parts.cells
         × IfSome table.last (λ notes. AreStamped table.stamps.items (undone (map note_of notes.items) table.parts.cells)) };
 }
@@ -127,6 +129,7 @@ impl Table {
     {
         let mut notes = Vec::with_capacity(self.alloc, writes.len())?;
         self.stamps.reserve(writes.len())?;
+        free_keys(&mut self.parts, notes_of(&self.last));
         match put_writes(
             self.alloc,
             &mut self.parts,
@@ -136,11 +139,12 @@ impl Table {
         ) {
             Ok(()) => {
                 stamp_writes(&mut self.stamps, writes.as_slice(), entry);
+                drop_freed(&mut self.parts, notes_of(&self.last));
                 self.last = Some(notes);
                 Ok(())
             }
             Err(NoMemory) => {
-                undo_notes(&mut self.parts, notes);
+                take_back(&mut self.parts, notes, notes_of(&self.last));
                 Err(NoMemory)
             }
         }
@@ -154,14 +158,15 @@ impl Table {
         ensures before { self.new.before ≡ None }
     {
         if let Some(notes) = self.last.take() {
-            undo_notes(&mut self.parts, notes);
+            take_back(&mut self.parts, notes, &[]);
         }
     }
 
     /// Each key that was touched last by an entry whose number is greater than `after` and at most `upto`, in the order
     /// of kinds and keys, with the item that is held under it, or none after a withdrawal.
     pub fn touched(&self, after: u64, upto: u64) -> Result<Vec<Touched>, NoMemory>
-        ensures { IfOk result (λ list. map shown list.items ≡ touched after upto self.now.held) }
+        ensures told { IfOk result (λ list. map shown list.items ≡ touched after upto self.now.held) }
+        ensures own { IfOk result (λ list. AreOwnItems list.items) }
     {
         let stamps = stamps_within(self.stamps.as_slice(), after, upto);
         self.parts.cells.touched(self.alloc, stamps, after, upto)
@@ -190,5 +195,16 @@ impl Table {
         ensures { option_map (λ row. row.now) result ≡ row_at (rows self.now.held) lei.now }
     {
         self.parts.record(lei)
+    }
+}
+
+// The notes of the last writes, or none.
+fn notes_of(last: &Option<Vec<Note>>) -> &[Note]
+    ensures some { IfSome last.now (λ notes. result.now ≡ notes.items) }
+    ensures none { last.now ≡ None → result.now ≡ [] }
+{
+    match last {
+        Some(notes) => notes.as_slice(),
+        None => &[],
     }
 }

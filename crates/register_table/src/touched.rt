@@ -1,7 +1,7 @@
 // What entries touched.
 ghost use Rattle.std.specs.Prelude.{◌≡◌, ◌++◌, ◌∷◌, [], ◌&&◌, IfOk, if◌then◌else◌, nat_lt, nat_le};
 ghost use Rattle.register_table.specs.Touched.{shown};
-ghost use Rattle.register_table.specs.Cells.{cell_in};
+ghost use Rattle.register_table.specs.Cells.{IsItemOf, IsOwnCell, cell_in};
 ghost use Rattle.register_table.specs.Held.{cell_key};
 ghost use Rattle.register_table.specs.Touched.{is_touched};
 
@@ -27,7 +27,8 @@ pub fn is_within(slot: &Slot, after: u64, upto: u64) -> bool
 
 /// A slot under its key, whose item shares its texts.
 pub fn touched_of(key: &RowKey, slot: &Slot) -> Result<Touched, NoMemory>
-    ensures { IfOk result (λ touched. shown touched ≡ (cell_key key.now, cell_in slot.now)) }
+    ensures shown { IfOk result (λ touched. shown touched ≡ (cell_key key.now, cell_in slot.now)) }
+    ensures own { IsOwnCell key.now slot.now → IfOk result (λ touched. IsItemOf touched.key touched.item) }
 {
     Ok(Touched {
         key: *key,

@@ -1,9 +1,11 @@
 // Writes that are put into the parts of a table, with notes that take them back.
-ghost use Rattle.std.specs.Prelude.{◌≡◌, ◌+◌, ◌<◌, ◌≤◌, [], IfOk, OnOk, length, map, vec_capacity, vec_len};
+ghost use Rattle.std.specs.Prelude.{◌≡◌, ◌+◌, ◌<◌, ◌≤◌, [], IfOk, IsSome, OnOk, length, map, option_map, vec_capacity, vec_len};
+ghost use Rattle.std.specs.FinMap.{get};
 ghost use Rattle.lei_records.specs.Tables;
-ghost use Rattle.register_table.specs.Cells.{IsItemOf, cell_in};
-ghost use Rattle.register_table.specs.Held.{IsKept, rows};
-ghost use Rattle.register_table.specs.Parts.{AreParts, CanBeUndone, Grows, note_of};
+ghost use Rattle.register_table.specs.Cells.{cell_in};
+ghost use Rattle.register_table.specs.Held.{IsKept, cell_key, rows};
+ghost use Rattle.register_table.specs.Parts.{AreParts, CanBeUndone, IsNoteOf, Stays, note_of, noted, taken};
+ghost use Rattle.register_table.specs.Undos;
 ghost use Rattle.register_table.specs.Undos.{AreOwn, IsOwn, StaysKept, cell_of, touch, touch_all, undone};
 
 use crate::cells::{Slot, share};
@@ -29,8 +31,8 @@ pub fn put_writes(
     ensures cells { OnOk result (parts.new.cells ≡ touch_all entry writes.now parts.old.cells) }
     ensures parts { AreParts parts.new }
     ensures back { undone (map note_of notes.new.items) parts.new.cells ≡ parts.old.cells }
-    ensures undoable { CanBeUndone notes.new.items parts.new }
-    ensures grows { Grows parts.old.holders parts.old.ends parts.new.holders parts.new.ends }
+    ensures undoable { CanBeUndone (taken parts.new) notes.new.items parts.new.cells }
+    ensures noted { Stays (noted parts.old) (noted parts.new) }
 {
     for write in writes {
         put_write(alloc, parts, write, entry, notes)?;
@@ -48,14 +50,14 @@ fn put_write(
     requires own { IsOwn write.now }
     requires parts { AreParts parts.old }
     requires kept { IsKept (Tables.put_write (rows parts.old.cells) write.now) }
-    requires undoable { CanBeUndone notes.old.items parts.old }
+    requires undoable { CanBeUndone (taken parts.old) notes.old.items parts.old.cells }
     requires room { vec_len notes.old < vec_capacity notes.old }
     ensures cells { OnOk result (parts.new.cells ≡ touch entry parts.old.cells write.now) }
     ensures parts { AreParts parts.new }
     ensures back { undone (map note_of notes.new.items) parts.new.cells
         ≡ undone (map note_of notes.old.items) parts.old.cells }
-    ensures undoable { CanBeUndone notes.new.items parts.new }
-    ensures grows { Grows parts.old.holders parts.old.ends parts.new.holders parts.new.ends }
+    ensures undoable { CanBeUndone (taken parts.new) notes.new.items parts.new.cells }
+    ensures noted { Stays (noted parts.old) (noted parts.new) }
     ensures capacity { vec_capacity notes.new ≡ vec_capacity notes.old }
     ensures len { vec_len notes.new ≤ vec_len notes.old + 1 }
 {
@@ -78,15 +80,31 @@ fn slot_of(item: &Option<Item>, entry: u64) -> Result<Slot, NoMemory>
     })
 }
 
-/// Puts back what was noted, from the last note to the first. It takes no memory.
-pub fn undo_notes(parts: &mut Parts, mut notes: Vec<Note>)
+/// Puts back what was noted, from the last note to the first, and notes in its stead what was held. It takes no memory.
+pub fn undo_notes(parts: &mut Parts, notes: &mut [Note])
     requires parts { AreParts parts.old }
-    requires undoable { CanBeUndone notes.items parts.old }
-    ensures cells { parts.new.cells ≡ undone (map note_of notes.items) parts.old.cells }
+    requires undoable { CanBeUndone (noted parts.old) notes.old parts.old.cells }
+    ensures cells { parts.new.cells ≡ undone (map note_of notes.old) parts.old.cells }
     ensures parts { AreParts parts.new }
-    ensures grows { Grows parts.old.holders parts.old.ends parts.new.holders parts.new.ends }
+    ensures noted { Stays (noted parts.old) (noted parts.new) }
 {
-    while let Some(note) = notes.pop() {
-        drop(put_back(parts, note.key, note.slot));
+    let mut left = notes.len();
+    while left > 0 {
+        left -= 1;
+        undo_note(parts, &mut notes[left]);
     }
+}
+
+fn undo_note(parts: &mut Parts, note: &mut Note)
+    requires parts { AreParts parts.old }
+    requires note { IsNoteOf (noted parts.old) note.old }
+    requires kept { IsKept (rows (Undos.put_back parts.old.cells (note_of note.old))) }
+    requires here { IsSome (get parts.old.cells (cell_key note.old.key)) }
+    ensures cells { parts.new.cells ≡ Undos.put_back parts.old.cells (note_of note.old) }
+    ensures out { option_map cell_in note.new.slot ≡ get parts.old.cells (cell_key note.old.key) }
+    ensures parts { AreParts parts.new }
+    ensures noted { Stays (noted parts.old) (noted parts.new) }
+{
+    let slot = note.slot.take();
+    note.slot = put_back(parts, note.key, slot);
 }

@@ -4,4 +4,4 @@ use Rattle.register_table.proofs.holders.insert_id.Goals as goal
 
 pub returns-clause-put : goal.returns-clause-put
 returns-clause-put c =
-    text_at-update c.args.ids.now c.insert.new.self (string_bytes c.args.id) (string_bytes c.args.id) (Some c.args.lei) refl c.in_ok-insert.ensures.updates
+    text_at-update c.args.ids.now c.insert.new.self (string_bytes c.args.id) (string_bytes c.args.id) (Some (Some c.args.lei)) refl c.in_ok-insert.ensures.updates

@@ -5,4 +5,4 @@ use Rattle.register_table.proofs.holders.note_id.Goals as goal
 
 pub returns-in-Some-clause-put : goal.returns-in-Some-clause-put
 returns-in-Some-clause-put c =
-    text_at-update c.args.ids.now (c.get_mut.follows.lender c.args.lei) c.args.id.now c.args.id.now (Some c.args.lei) refl ((c.get_mut.follows.holds c.args.lei).3 (search rules))
+    text_at-update c.args.ids.now (c.get_mut.follows.lender (Some c.args.lei)) c.args.id.now c.args.id.now (Some (Some c.args.lei)) refl ((c.get_mut.follows.holds (Some c.args.lei)).3 (search rules))

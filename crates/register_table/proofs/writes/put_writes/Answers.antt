@@ -1,5 +1,5 @@
 use Rattle.std.proofs.Common.{◌+◌, ◌≤◌, drop, sym, ◌∙◌, arith, length, subst}
-use Rattle.register_table.proofs.NoteLemmas.{all_put, grows-more, next_write, others_own, stays_kept}
+use Rattle.register_table.proofs.NoteLemmas.{all_put, next_write, others_own, stays-more, stays_kept}
 use Rattle.register_table.proofs.writes.put_writes.Goals as goal
 
 pub loop-write-preserved : goal.loop-write-preserved
@@ -19,7 +19,7 @@ loop-write-preserved c =
       parts = c.put_write.ensures.parts;
       back = c.put_write.ensures.back ∙ inv.back;
       undoable = c.put_write.ensures.undoable;
-      grows = grows-more _ _ _ _ _ _ inv.grows c.put_write.ensures.grows;
+      noted = stays-more _ _ _ inv.noted c.put_write.ensures.noted;
       room = subst (λ n. length writes ≤ n) (sym c.put_write.ensures.capacity) inv.room;
       len = omega (arith, inv.len, c.put_write.ensures.len);
     }

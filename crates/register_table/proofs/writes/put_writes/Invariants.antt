@@ -1,6 +1,6 @@
 use Rattle.std.proofs.Common.{◌≡◌, ◌≤◌, drop, length, map, vec_capacity, vec_len}
 use Rattle.register_table.specs.Held.{rows}
-use Rattle.register_table.specs.Parts.{AreParts, CanBeUndone, Grows, note_of}
+use Rattle.register_table.specs.Parts.{AreParts, CanBeUndone, Stays, note_of, noted, taken}
 use Rattle.register_table.specs.Undos.{AreOwn, StaysKept, touch_all, undone}
 use Rattle.register_table.proofs.writes.put_writes.Given as goal
 
@@ -14,8 +14,8 @@ invariant-loop-write l =
       kept : StaysKept rest (rows l.parts.cells);
       parts : AreParts l.parts;
       back : undone (map note_of l.notes.items) l.parts.cells ≡ l.fn.parts.cells;
-      undoable : CanBeUndone l.notes.items l.parts;
-      grows : Grows l.fn.parts.holders l.fn.parts.ends l.parts.holders l.parts.ends;
+      undoable : CanBeUndone (taken l.parts) l.notes.items l.parts.cells;
+      noted : Stays (noted l.fn.parts) (noted l.parts);
       room : length l.writes ≤ vec_capacity l.notes;
       len : vec_len l.notes ≤ l.write-index;
     }

@@ -1,28 +1,42 @@
-use Rattle.std.proofs.Common.{◌∙◌}
-use Rattle.register_table.proofs.NoteLemmas.{can-popped, grows-more, last_note, of_note, undone-popped}
+use Rattle.std.proofs.Common.{◌≡◌, ◌-◌, get_or, map, rules, set, subst, sym, take, ap, ◌∙◌}
+use Rattle.std.proofs.lemmas.List.{take-set}
+use Rattle.register_table.specs.Parts.{CanBeUndone, note_of, noted}
+use Rattle.register_table.specs.Undos.{undone}
+use Rattle.register_table.proofs.NoteLemmas.{can-popped, last_left, last_note, stays-more, undone-popped}
 use Rattle.register_table.proofs.writes.undo_notes.Goals as goal
 
-pub put_back-requires-clause-kept : goal.put_back-requires-clause-kept
-put_back-requires-clause-kept c =
-    (last_note c.loop-note.parts c.pop.new.self.items c.loop-note.notes.items c.in-Some.note c.loop-note.invariant.undoable c.in-Some.ensures.items).kept
+pub undo_note-requires-clause-kept : goal.undo_note-requires-clause-kept
+undo_note-requires-clause-kept c =
+    let notes = c.loop-left.notes in
+    let left = c.loop-left.left in
+    let note = c.index-notes-left.result in
+    (last_note c.loop-left.parts (take (left - 1) notes) (take left notes) (get_or notes (left - 1) note) c.loop-left.invariant.undoable
+    (last_left notes left note c.loop-left-test.true c.loop-left.invariant.inside)).kept
 
-pub put_back-requires-clause-here : goal.put_back-requires-clause-here
-put_back-requires-clause-here c =
-    (last_note c.loop-note.parts c.pop.new.self.items c.loop-note.notes.items c.in-Some.note c.loop-note.invariant.undoable c.in-Some.ensures.items).here
+pub undo_note-requires-clause-here : goal.undo_note-requires-clause-here
+undo_note-requires-clause-here c =
+    let notes = c.loop-left.notes in
+    let left = c.loop-left.left in
+    let note = c.index-notes-left.result in
+    (last_note c.loop-left.parts (take (left - 1) notes) (take left notes) (get_or notes (left - 1) note) c.loop-left.invariant.undoable
+    (last_left notes left note c.loop-left-test.true c.loop-left.invariant.inside)).here
 
-pub put_back-requires-clause-noted : goal.put_back-requires-clause-noted
-put_back-requires-clause-noted c =
-    (of_note c.loop-note.parts c.pop.new.self.items c.loop-note.notes.items c.in-Some.note c.loop-note.invariant.undoable c.in-Some.ensures.items).noted
-
-pub loop-note-preserved : goal.loop-note-preserved
-loop-note-preserved c =
-    let left = c.pop.new.self.items in
-    let parts = c.loop-note.parts in
-    let new = c.put_back.new.parts in
-    let undoable = c.loop-note.invariant.undoable in
+pub loop-left-preserved : goal.loop-left-preserved
+loop-left-preserved c =
+    let parts = c.loop-left.parts in
+    let new = c.undo_note.new.parts in
+    let notes = c.loop-left.notes in
+    let left = c.loop-left.left in
+    let note = get_or notes (left - 1) c.index-notes-left.result in
+    let inv = c.loop-left.invariant in
+    let last = last_left notes left c.index-notes-left.result c.loop-left-test.true inv.inside in
+    let front : take (left - 1) (set notes (left - 1) c.undo_note.new.note) ≡ take (left - 1) notes = take-set notes (left - 1) c.undo_note.new.note in
     record {
-      told = undone-popped parts left c.loop-note.notes.items c.in-Some.note undoable c.in-Some.ensures.items new c.put_back.ensures.cells ∙ c.loop-note.invariant.told;
-      parts = c.put_back.ensures.parts;
-      undoable = can-popped parts left c.loop-note.notes.items c.in-Some.note undoable c.in-Some.ensures.items new c.put_back.ensures.grows c.put_back.ensures.cells;
-      grows = grows-more _ _ _ _ _ _ c.loop-note.invariant.grows c.put_back.ensures.grows;
+      inside = search rules;
+      told = ap (λ ns. undone (map note_of ns) new.cells) front
+          ∙ (undone-popped parts (take (left - 1) notes) (take left notes) note inv.undoable last new c.undo_note.ensures.cells ∙ inv.told);
+      parts = c.undo_note.ensures.parts;
+      undoable = subst (λ ns. CanBeUndone (noted new) ns new.cells) (sym front)
+          (can-popped parts (take (left - 1) notes) (take left notes) note inv.undoable last new c.undo_note.ensures.noted c.undo_note.ensures.cells);
+      noted = stays-more _ _ _ inv.noted c.undo_note.ensures.noted;
     }

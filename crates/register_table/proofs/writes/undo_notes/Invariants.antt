@@ -1,16 +1,17 @@
-use Rattle.std.proofs.Common.{◌≡◌, length, map}
-use Rattle.register_table.specs.Parts.{AreParts, CanBeUndone, Grows, note_of}
+use Rattle.std.proofs.Common.{◌≡◌, ◌≤◌, length, map, take}
+use Rattle.register_table.specs.Parts.{AreParts, CanBeUndone, Stays, note_of, noted}
 use Rattle.register_table.specs.Undos.{undone}
 use Rattle.register_table.proofs.writes.undo_notes.Given as goal
 
 -- the notes that are left can be put back, and come to what all come to
-abbrev pub invariant-loop-note : goal.invariant-loop-note
-invariant-loop-note l = record {
-  told : undone (map note_of l.notes.items) l.parts.cells ≡ undone (map note_of l.fn.notes.items) l.fn.parts.cells;
+abbrev pub invariant-loop-left : goal.invariant-loop-left
+invariant-loop-left l = record {
+  inside : l.left ≤ length l.notes;
+  told : undone (map note_of (take l.left l.notes)) l.parts.cells ≡ undone (map note_of l.fn.notes) l.fn.parts.cells;
   parts : AreParts l.parts;
-  undoable : CanBeUndone l.notes.items l.parts;
-  grows : Grows l.fn.parts.holders l.fn.parts.ends l.parts.holders l.parts.ends;
+  undoable : CanBeUndone (noted l.parts) (take l.left l.notes) l.parts.cells;
+  noted : Stays (noted l.fn.parts) (noted l.parts);
 }
 
-abbrev pub decreases-loop-note : goal.decreases-loop-note
-decreases-loop-note l = length l.notes.items
+abbrev pub decreases-loop-left : goal.decreases-loop-left
+decreases-loop-left l = l.left

@@ -6,8 +6,8 @@ use Rattle.register_table.proofs.StampLemmas.{same_touched}
 use Rattle.register_table.proofs.TouchLemmas.{all_told}
 use Rattle.register_table.proofs.cells.CellMap.touched.Goals as goal
 
-pub returns : goal.returns
-returns c =
+pub returns-clause-told : goal.returns-clause-told
+returns-clause-told c =
     let after = c.args.after in
     let upto = c.args.upto in
     let held = c.args.self.now in

@@ -2,7 +2,7 @@ use Rattle.std.proofs.Common.{◌≡◌, true, false, rules, ap, ◌∙◌}
 use Rattle.lei_shapes.specs.Lists.{relation_type_text}
 use Rattle.lei_records.specs.Relations.{is_active, kind_in, start_in}
 use Rattle.register_table.specs.Indexes.{end_in_index}
-use Rattle.register_table.proofs.IndexLemmas.{end_under-insert, idle_same, no_end, own_end}
+use Rattle.register_table.proofs.IndexLemmas.{end_noted, end_stays, idle_same, no_end, own_end}
 use Rattle.register_table.proofs.ends.Ends.put.Goals as goal
 
 pub returns-then-not-is_active-clause-put : goal.returns-then-not-is_active-clause-put
@@ -12,7 +12,13 @@ returns-then-not-is_active-clause-put c =
 pub returns-in-Ok-clause-put : goal.returns-in-Ok-clause-put
 returns-in-Ok-clause-put c =
     let active : is_active c.args.relation.now ≡ true = search rules in
-    end_under-insert c.args.self.now.map c.insert.new.self (c.start.result, c.text.result) c.args.relation.now c.end.result
+    end_noted c.args.self.now.map c.insert.new.self (c.start.result, c.text.result) c.args.relation.now c.end.result
+    c.start.ensures.value (c.text.ensures ∙ ap relation_type_text c.kind.ensures) c.end.ensures active c.in-Ok.ensures.updates
+
+pub returns-in-Ok-clause-stays : goal.returns-in-Ok-clause-stays
+returns-in-Ok-clause-stays c =
+    let active : is_active c.args.relation.now ≡ true = search rules in
+    end_stays c.args.self.now.map c.insert.new.self (c.start.result, c.text.result) c.args.relation.now c.end.result
     c.start.ensures.value (c.text.ensures ∙ ap relation_type_text c.kind.ensures) c.end.ensures active c.in-Ok.ensures.updates
 
 pub returns-in-Err-clause-absent : goal.returns-in-Err-clause-absent

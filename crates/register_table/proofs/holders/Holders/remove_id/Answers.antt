@@ -1,0 +1,14 @@
+use Rattle.std.proofs.Common.{◌≡◌, Some, None, refl, rules}
+use Rattle.std.specs.BTreeMap.{get_by_text}
+use Rattle.register_table.proofs.IndexLemmas.{lei_under-changed, text_at-update}
+use Rattle.register_table.proofs.holders.Holders.remove_id.Goals as goal
+
+pub returns-in-Some-clause-removed : goal.returns-in-Some-clause-removed
+returns-in-Some-clause-removed c =
+    let was : get_by_text c.args.self.now.map c.args.authority.now ≡ Some c.in-Some.ids.now = search rules in
+    let ids = c.remove.new.self in
+    let after = c.get_mut.follows.lender ids in
+    lei_under-changed c.args.self.now.map after c.args.authority.now (Some c.in-Some.ids.now) ids was
+    (text_at-update c.args.self.now.map after c.args.authority.now c.args.authority.now (Some ids) refl ((c.get_mut.follows.holds ids).3 (search rules)))
+    c.args.id.now (λ _. None)
+    (text_at-update c.in-Some.ids.now ids c.args.id.now c.args.id.now None refl c.remove.ensures.updates)

@@ -1,0 +1,255 @@
+// Keys of the indexes that writes freed. They stay until the next writes, so that those that freed them can be taken back
+// without memory, and are dropped then. Keys that writes took are dropped when these are taken back.
+ghost use Rattle.std.specs.Prelude.{◌≡◌, Some, map};
+ghost use Rattle.std.specs.List.{All, AllByRecursion};
+ghost use Rattle.lei_records.specs.declared.item.Item.{Item};
+ghost use Rattle.register_table.specs.Held.{rows};
+ghost use Rattle.register_table.specs.Parts.{AreParts, CanBeUndone, IsMarked, IsNoteOf, IsNoteWithin, IsWithin, Stays, held_by, note_of, noted, taken};
+ghost use Rattle.register_table.specs.Undos.{undone};
+
+use crate::holders::held_key;
+use crate::parts::{Note, Parts};
+use crate::writes::undo_notes;
+use lei_outside::NoMemory;
+use lei_records::{Item, Record, Relation};
+
+/// Takes writes back by their notes, and drops the keys that nobody holds then, but for those that the notes of the
+/// writes before name. It takes no memory.
+pub fn take_back(parts: &mut Parts, mut notes: Vec<Note>, before: &[Note])
+    requires parts { AreParts parts.old }
+    requires undoable { CanBeUndone (noted parts.old) notes.items parts.old.cells }
+    requires before { AllByRecursion (IsNoteOf (noted parts.old)) before.now }
+    ensures cells { parts.new.cells ≡ undone (map note_of notes.items) parts.old.cells }
+    ensures parts { AreParts parts.new }
+    ensures before { AllByRecursion (IsNoteOf (noted parts.new)) before.now }
+{
+    undo_notes(parts, notes.as_mut_slice());
+    free_keys(parts, notes.as_slice());
+    hold_keys(parts, before);
+    drop_freed(parts, notes.as_slice());
+}
+
+/// Leaves no LEI under the keys of the items of these notes, where nobody holds them any more. What stood anywhere still
+/// does, and no LEI comes anywhere.
+pub fn free_keys(parts: &mut Parts, notes: &[Note])
+    requires { AreParts parts.old }
+    ensures cells { parts.new.cells ≡ parts.old.cells }
+    ensures parts { AreParts parts.new }
+    ensures noted { Stays (noted parts.old) (noted parts.new) }
+    ensures fewer { Stays (taken parts.new) (taken parts.old) }
+    ensures left { All (IsNoteWithin (taken parts.new) (held_by (rows parts.old.cells))) notes.now }
+{
+    for note in notes {
+        free_note(parts, note);
+    }
+}
+
+fn free_note(parts: &mut Parts, note: &Note)
+    requires { AreParts parts.old }
+    ensures cells { parts.new.cells ≡ parts.old.cells }
+    ensures parts { AreParts parts.new }
+    ensures noted { Stays (noted parts.old) (noted parts.new) }
+    ensures fewer { Stays (taken parts.new) (taken parts.old) }
+    ensures left { IsNoteWithin (taken parts.new) (held_by (rows parts.old.cells)) note.now }
+{
+    if let Some(slot) = &note.slot {
+        free_item(parts, &slot.item);
+    }
+}
+
+fn free_item(parts: &mut Parts, item: &Option<Item>)
+    requires { AreParts parts.old }
+    ensures cells { parts.new.cells ≡ parts.old.cells }
+    ensures parts { AreParts parts.new }
+    ensures noted { Stays (noted parts.old) (noted parts.new) }
+    ensures fewer { Stays (taken parts.new) (taken parts.old) }
+    ensures left { IsWithin (taken parts.new) (held_by (rows parts.old.cells)) item.now }
+{
+    match item {
+        Some(Item::Record(record)) => free_key(parts, record),
+        Some(Item::Relation(relation)) => free_start(parts, relation),
+        _ => (),
+    }
+}
+
+fn free_key(parts: &mut Parts, record: &Record)
+    requires { AreParts parts.old }
+    ensures cells { parts.new.cells ≡ parts.old.cells }
+    ensures parts { AreParts parts.new }
+    ensures noted { Stays (noted parts.old) (noted parts.new) }
+    ensures fewer { Stays (taken parts.new) (taken parts.old) }
+    ensures left { IsWithin (taken parts.new) (held_by (rows parts.old.cells)) (Some (Item.Record record.now)) }
+{
+    if let Some((authority, id)) = held_key(record) {
+        if parts.holder(authority, id).is_none() {
+            parts.holders.free(authority, id);
+        }
+    }
+}
+
+fn free_start(parts: &mut Parts, relation: &Relation)
+    requires { AreParts parts.old }
+    ensures cells { parts.new.cells ≡ parts.old.cells }
+    ensures parts { AreParts parts.new }
+    ensures noted { Stays (noted parts.old) (noted parts.new) }
+    ensures fewer { Stays (taken parts.new) (taken parts.old) }
+    ensures left { IsWithin (taken parts.new) (held_by (rows parts.old.cells)) (Some (Item.Relation relation.now)) }
+{
+    if relation.is_active() {
+        let (start, kind) = (relation.start(), relation.kind());
+        if parts.active(&start, kind).is_none() {
+            parts.ends.free(&start, kind);
+        }
+    }
+}
+
+/// Puts a LEI under each key of the items of these notes where none stands, so that it isn't dropped. Each LEI stays where
+/// it stood. The keys have their places, so it takes no memory.
+fn hold_keys(parts: &mut Parts, notes: &[Note])
+    requires parts { AreParts parts.old }
+    requires places { AllByRecursion (IsNoteOf (noted parts.old)) notes.now }
+    ensures cells { parts.new.cells ≡ parts.old.cells }
+    ensures parts { AreParts parts.new }
+    ensures held { AllByRecursion (IsNoteOf (taken parts.new)) notes.now }
+{
+    for note in notes {
+        hold_note(parts, note);
+    }
+}
+
+fn hold_note(parts: &mut Parts, note: &Note)
+    requires parts { AreParts parts.old }
+    requires places { IsNoteOf (noted parts.old) note.now }
+    ensures cells { parts.new.cells ≡ parts.old.cells }
+    ensures parts { AreParts parts.new }
+    ensures noted { Stays (noted parts.old) (noted parts.new) }
+    ensures taken { Stays (taken parts.old) (taken parts.new) }
+    ensures held { IsNoteOf (taken parts.new) note.now }
+{
+    if let Some(slot) = &note.slot {
+        hold_item(parts, &slot.item);
+    }
+}
+
+fn hold_item(parts: &mut Parts, item: &Option<Item>)
+    requires parts { AreParts parts.old }
+    requires places { IsMarked (noted parts.old) item.now }
+    ensures cells { parts.new.cells ≡ parts.old.cells }
+    ensures parts { AreParts parts.new }
+    ensures noted { Stays (noted parts.old) (noted parts.new) }
+    ensures taken { Stays (taken parts.old) (taken parts.new) }
+    ensures held { IsMarked (taken parts.new) item.now }
+{
+    match item {
+        Some(Item::Record(record)) => hold_key(parts, record),
+        Some(Item::Relation(relation)) => hold_start(parts, relation),
+        _ => (),
+    }
+}
+
+fn hold_key(parts: &mut Parts, record: &Record)
+    requires parts { AreParts parts.old }
+    requires places { IsMarked (noted parts.old) (Some (Item.Record record.now)) }
+    ensures cells { parts.new.cells ≡ parts.old.cells }
+    ensures parts { AreParts parts.new }
+    ensures noted { Stays (noted parts.old) (noted parts.new) }
+    ensures taken { Stays (taken parts.old) (taken parts.new) }
+    ensures held { IsMarked (taken parts.new) (Some (Item.Record record.now)) }
+{
+    if let Some((authority, id)) = held_key(record) {
+        if parts.holders.get(authority, id).is_none() {
+            match parts.holders.put(record) {
+                Ok(()) => (),
+                Err(NoMemory) => unreachable!(),
+            }
+        }
+    }
+}
+
+fn hold_start(parts: &mut Parts, relation: &Relation)
+    requires parts { AreParts parts.old }
+    requires places { IsMarked (noted parts.old) (Some (Item.Relation relation.now)) }
+    ensures cells { parts.new.cells ≡ parts.old.cells }
+    ensures parts { AreParts parts.new }
+    ensures noted { Stays (noted parts.old) (noted parts.new) }
+    ensures taken { Stays (taken parts.old) (taken parts.new) }
+    ensures held { IsMarked (taken parts.new) (Some (Item.Relation relation.now)) }
+{
+    if relation.is_active() {
+        let (start, kind) = (relation.start(), relation.kind());
+        if parts.ends.get(&start, kind).is_none() {
+            match parts.ends.put(relation) {
+                Ok(()) => (),
+                Err(NoMemory) => unreachable!(),
+            }
+        }
+    }
+}
+
+/// Drops the keys of the items of these notes under which no LEI stands. Each LEI stays where it stood.
+pub fn drop_freed(parts: &mut Parts, notes: &[Note])
+    requires { AreParts parts.old }
+    ensures cells { parts.new.cells ≡ parts.old.cells }
+    ensures parts { AreParts parts.new }
+    ensures taken { Stays (taken parts.old) (taken parts.new) }
+    ensures fewer { Stays (noted parts.new) (noted parts.old) }
+    ensures left { All (IsNoteWithin (noted parts.new) (taken parts.new)) notes.now }
+{
+    for note in notes {
+        drop_note(parts, note);
+    }
+}
+
+fn drop_note(parts: &mut Parts, note: &Note)
+    requires { AreParts parts.old }
+    ensures cells { parts.new.cells ≡ parts.old.cells }
+    ensures parts { AreParts parts.new }
+    ensures taken { Stays (taken parts.old) (taken parts.new) }
+    ensures fewer { Stays (noted parts.new) (noted parts.old) }
+    ensures left { IsNoteWithin (noted parts.new) (taken parts.new) note.now }
+{
+    if let Some(slot) = &note.slot {
+        drop_item(parts, &slot.item);
+    }
+}
+
+fn drop_item(parts: &mut Parts, item: &Option<Item>)
+    requires { AreParts parts.old }
+    ensures cells { parts.new.cells ≡ parts.old.cells }
+    ensures parts { AreParts parts.new }
+    ensures taken { Stays (taken parts.old) (taken parts.new) }
+    ensures fewer { Stays (noted parts.new) (noted parts.old) }
+    ensures left { IsWithin (noted parts.new) (taken parts.new) item.now }
+{
+    match item {
+        Some(Item::Record(record)) => drop_key(parts, record),
+        Some(Item::Relation(relation)) => drop_start(parts, relation),
+        _ => (),
+    }
+}
+
+fn drop_key(parts: &mut Parts, record: &Record)
+    requires { AreParts parts.old }
+    ensures cells { parts.new.cells ≡ parts.old.cells }
+    ensures parts { AreParts parts.new }
+    ensures taken { Stays (taken parts.old) (taken parts.new) }
+    ensures fewer { Stays (noted parts.new) (noted parts.old) }
+    ensures left { IsWithin (noted parts.new) (taken parts.new) (Some (Item.Record record.now)) }
+{
+    if let Some((authority, id)) = held_key(record) {
+        parts.holders.drop_freed(authority, id);
+    }
+}
+
+fn drop_start(parts: &mut Parts, relation: &Relation)
+    requires { AreParts parts.old }
+    ensures cells { parts.new.cells ≡ parts.old.cells }
+    ensures parts { AreParts parts.new }
+    ensures taken { Stays (taken parts.old) (taken parts.new) }
+    ensures fewer { Stays (noted parts.new) (noted parts.old) }
+    ensures left { IsWithin (noted parts.new) (taken parts.new) (Some (Item.Relation relation.now)) }
+{
+    if relation.is_active() {
+        parts.ends.drop_freed(&relation.start(), relation.kind());
+    }
+}
