@@ -1,19 +1,19 @@
 -- What is read of a copy or a delta in JSON.
 use Rattle.std.proofs.Common.{◌≡◌, ℕ, ◌<◌, ◌^◌, false, List, map, length, refl, sym, subst, ◌∙◌}
 use Rattle.std.specs.Prelude.{[], ◌∷◌, ◌++◌, Result, Ok, Err, IfOk, IsErrOf}
-use Rattle.copy_forms.specs.declared.faults.FormFault.{FormFault}
-use Rattle.copy_forms.specs.declared.heads.Head.{Head}
-use Rattle.copy_forms.specs.declared.rows.Change.{Change}
-use Rattle.copy_forms.specs.declared.sheets.Form.{Form}
-use Rattle.copy_forms.specs.declared.sheets.Sheet.{Sheet}
-use Rattle.copy_forms.specs.declared.rows.RowTexts.{RowTexts}
-use Rattle.copy_forms.specs.declared.rows.TextChange.{TextChange}
+use Rattle.copy_csv.specs.declared.faults.FormFault.{FormFault}
+use Rattle.copy_csv.specs.declared.heads.Head.{Head}
+use Rattle.copy_csv.specs.declared.rows.Change.{Change}
+use Rattle.copy_csv.specs.declared.sheets.Form.{Form}
+use Rattle.copy_csv.specs.declared.sheets.Sheet.{Sheet}
+use Rattle.copy_csv.specs.declared.rows.RowTexts.{RowTexts}
+use Rattle.copy_csv.specs.declared.rows.TextChange.{TextChange}
 use Rattle.copy_forms.specs.Files.{IsCopy, IsDelta, rendered, rendered_change}
 use Rattle.copy_forms.specs.Json.{json_copy, json_delta}
 use Rattle.copy_forms.specs.JsonTexts.{before_copy, before_delta, records_text, text_change_record}
 use Rattle.copy_forms.specs.JsonReading.{IsJsonCopy, IsJsonDelta}
-use Rattle.copy_forms.specs.Rows.{AreRising, changed_key}
-use Rattle.copy_forms.specs.Sheets.{SheetRow, key}
+use Rattle.copy_csv.specs.Rows.{AreRising, changed_key}
+use Rattle.copy_csv.specs.Sheets.{SheetRow, key}
 use Rattle.copy_forms.proofs.JsonCopies.{copies-differ}
 use Rattle.copy_forms.proofs.JsonDeltas.{deltas-differ}
 use Rattle.copy_forms.proofs.JsonJoined.{copy-joined, delta-joined}

@@ -7,10 +7,10 @@ use Rattle.std.proofs.lemmas.Option.{none-some}
 use Rattle.json.specs.Print.{quoted}
 use Rattle.serde_json.specs.Written.{comma_if, compact_text, items_text}
 use Rattle.lei_shapes.specs.Clock.{moment_text}
-use Rattle.copy_forms.specs.declared.sheets.Sheet.{Sheet}
-use Rattle.copy_forms.specs.declared.heads.Head.{Head}
-use Rattle.copy_forms.specs.Rows.{IsCopyHead, IsRowOf}
-use Rattle.copy_forms.specs.Sheets.{SheetRow}
+use Rattle.copy_csv.specs.declared.sheets.Sheet.{Sheet}
+use Rattle.copy_csv.specs.declared.heads.Head.{Head}
+use Rattle.copy_csv.specs.Rows.{IsCopyHead, IsRowOf}
+use Rattle.copy_csv.specs.Sheets.{SheetRow}
 use Rattle.copy_forms.specs.Json.{items_of, json_copy, json_names, json_record, record_value}
 use Rattle.copy_forms.specs.JsonTexts.{before_copy, before_records, fields_text, records_text}
 use Rattle.copy_forms.specs.JsonReading.{IsJsonCopy, copy_from, count_from, date_from, items_from, publication_from, record_from}

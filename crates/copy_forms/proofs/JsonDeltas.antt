@@ -8,11 +8,11 @@ use Rattle.json.specs.Print.{escape_byte, quoted}
 use Rattle.serde_json.specs.Written.{comma_if, compact_text, items_text}
 use Rattle.lei_code.specs.Texts.{Text}
 use Rattle.lei_shapes.specs.Clock.{moment_text}
-use Rattle.copy_forms.specs.declared.sheets.Sheet.{Sheet}
-use Rattle.copy_forms.specs.declared.heads.Head.{Head}
-use Rattle.copy_forms.specs.declared.rows.Change.{Change}
-use Rattle.copy_forms.specs.Rows.{IsChangeOf, IsDeltaHead, IsDropOfKey, IsRowOf, changed_row}
-use Rattle.copy_forms.specs.Sheets.{SheetRow, is_key_alone}
+use Rattle.copy_csv.specs.declared.sheets.Sheet.{Sheet}
+use Rattle.copy_csv.specs.declared.heads.Head.{Head}
+use Rattle.copy_csv.specs.declared.rows.Change.{Change}
+use Rattle.copy_csv.specs.Rows.{IsChangeOf, IsDeltaHead, IsDropOfKey, IsRowOf, changed_row}
+use Rattle.copy_csv.specs.Sheets.{SheetRow, is_key_alone}
 use Rattle.copy_forms.specs.Json.{action_of, change_value, items_of, json_delta, json_record}
 use Rattle.copy_forms.specs.JsonTexts.{before_delta, before_record, before_records, records_text}
 use Rattle.copy_forms.specs.JsonReading.{IsJsonDelta, after, change_behind, change_from, change_of, changed_from, count_from, date_from, delta_from, items_from, publication_from, record_from}

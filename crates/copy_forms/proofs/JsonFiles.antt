@@ -20,7 +20,7 @@ use Rattle.lei_code.specs.Texts.{Text}
 use Rattle.lei_shapes.specs.Clock.{moment_text}
 use Rattle.lei_shapes.specs.Moment.{IsMoment, is_moment, moment_of_instant, read_moment, whole_seconds}
 use Rattle.lei_shapes.proofs.MomentLemmas.{IsAscii-moment_text, read_moment-text}
-use Rattle.copy_forms.specs.Rows.{IsNumber}
+use Rattle.copy_csv.specs.Rows.{IsNumber}
 use Rattle.copy_forms.specs.JsonTexts.{before_records}
 use Rattle.copy_forms.specs.JsonReading.{after, count_from, date_begin, date_from, is_publication, moment_from, number_begin, number_behind, number_from, number_of, printed_moment, publication_behind, records_begin, string_from}
 use Rattle.copy_forms.proofs.JsonStrings.{after-again, after-taken, string-again, string-taken}

@@ -1,14 +1,14 @@
 -- What is joined of rendered rows and changes is the text of their file.
 use Rattle.std.proofs.Common.{◌≡◌, List, [], ◌∷◌, ◌++◌, false, refl, sym, ap, ◌∙◌, length, map}
 use Rattle.std.proofs.lemmas.List.{length-map}
-use Rattle.copy_forms.specs.declared.heads.Head.{Head}
-use Rattle.copy_forms.specs.declared.rows.Change.{Change}
-use Rattle.copy_forms.specs.declared.rows.RowTexts.{RowTexts}
-use Rattle.copy_forms.specs.declared.rows.TextChange.{TextChange}
+use Rattle.copy_csv.specs.declared.heads.Head.{Head}
+use Rattle.copy_csv.specs.declared.rows.Change.{Change}
+use Rattle.copy_csv.specs.declared.rows.RowTexts.{RowTexts}
+use Rattle.copy_csv.specs.declared.rows.TextChange.{TextChange}
 use Rattle.copy_forms.specs.Files.{rendered, rendered_change}
 use Rattle.copy_forms.specs.Json.{json_copy, json_delta, json_record}
 use Rattle.copy_forms.specs.JsonTexts.{before_copy, before_delta, records_text, text_change_record}
-use Rattle.copy_forms.specs.Sheets.{SheetRow}
+use Rattle.copy_csv.specs.Sheets.{SheetRow}
 use Rattle.copy_forms.proofs.JsonCopies.{copy-text}
 use Rattle.copy_forms.proofs.JsonDeltas.{delta-text, json_change}
 use Rattle.copy_forms.proofs.JsonItems.{end-is}

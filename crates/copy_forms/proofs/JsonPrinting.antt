@@ -1,24 +1,18 @@
 -- What is written, token by token, is the text of the record.
-use Rattle.std.proofs.Common.{◌≡◌, ℕ, zero, suc, ◌+◌, ◌-◌, ◌<◌, ◌≤◌, Bool, true, false, cond, ◌==◌, ◌&&◌, List, [], ◌∷◌, ◌++◌, inl, inr, refl, sym, ap, ◌∙◌, subst, arith, append_assoc, length, get_or, take, drop, map, codes}
+use Rattle.std.proofs.Common.{◌≡◌, ℕ, zero, suc, ◌+◌, ◌<◌, ◌≤◌, Bool, true, false, ◌&&◌, List, [], ◌∷◌, ◌++◌, refl, sym, ap, ◌∙◌, arith, append_assoc, length, get_or, drop}
 use Rattle.std.specs.Prelude.{nat_le, flat_map}
-use Rattle.std.specs.Borrow.{Bor}
 use Rattle.std.specs.List.{list_all}
 use borrow.Author.Tests.{leb-true}
 use Rattle.std.proofs.Math.ListN.{get_or-map}
 use Rattle.std.proofs.lemmas.Bool.{true≢false}
-use Rattle.std.proofs.lemmas.Bool.Decides.{eqb_tells}
-use Rattle.std.proofs.lemmas.List.{drop_all, drop_more, get_or-take, length-map}
+use Rattle.std.proofs.lemmas.List.{drop_all, drop_more, length-map}
 use Rattle.json.specs.Print.{print, print_from, quoted}
 use Rattle.json.specs.Token.{Token, begin_object, end_object, key, string}
 use Rattle.serde_json.specs.Written.{comma_if, members_text}
-use Rattle.lei_code.specs.Texts.{Text}
-use Rattle.lei_records.specs.declared.fields.Content.{Content}
-use Rattle.lei_records.specs.declared.fields.Need.{Need}
-use Rattle.lei_records.specs.Fields.{Field, exception_fields, fields, fields_of, names_of, relation_fields, row_len}
-use Rattle.lei_records.specs.Rows.{text_at}
+use Rattle.lei_records.specs.Fields.{fields}
 use Rattle.lei_records.specs.Spelled.{is_absent}
-use Rattle.copy_forms.specs.declared.sheets.Sheet.{Sheet}
-use Rattle.copy_forms.specs.Sheets.{SheetRow, kind_of, names, width}
+use Rattle.copy_csv.specs.declared.sheets.Sheet.{Sheet}
+use Rattle.copy_csv.specs.Sheets.{SheetRow, width}
 use Rattle.copy_forms.specs.Json as form
 use Rattle.copy_forms.specs.Json.{field_at, json_fields, json_places, json_record, members_of}
 use Rattle.copy_forms.specs.JsonTexts.{field_tokens}
@@ -76,45 +70,6 @@ rank-within sheet k within =
     parts : (a b : Bool) → a && b ≡ true → (a ≡ true) × (b ≡ true)
     parts true b is = (refl, is)
     parts false b is = absurd (true≢false (sym is))
-
-pub text-at : (texts : List Text) (place : ℕ) → 1 ≤ place → text_at texts place ≡ get_or texts (place - 1) (codes "")
-text-at texts place first =
-    let not_first : (place == 0) ≡ false = elim (eqb_tells place 0) [ inl is ↦ absurd (omega (arith, is.1)) | inr is ↦ is.0 ] in
-    ap (λ b. cond b (codes "") (get_or texts (place - 1) (codes ""))) not_first
-
-length-fields : (sheet : Sheet) → width sheet ≤ length (names_of (kind_of sheet))
-unfolding fields relation_fields exception_fields
-length-fields Sheet.Lei = omega arith
-length-fields Sheet.Rr = omega arith
-length-fields Sheet.Repex = omega arith
-
-row_len-width : (sheet : Sheet) → row_len (kind_of sheet) ≡ width sheet
-row_len-width Sheet.Lei = refl
-row_len-width Sheet.Rr = refl
-row_len-width Sheet.Repex = refl
-
--- a table of fields that is the sheet's
-abbrev pub Lent : Type 0
-Lent = Bor Text × Content × Need
-
-pub name-bound : (sheet : Sheet) (table : List Lent) (place : ℕ) → map (λ field. field.0.now) table ≡ names_of (kind_of sheet) → 1 ≤ place → place ≤ width sheet → place - 1 < length table
-name-bound sheet table place is first last =
-    let long : length table ≡ length (names_of (kind_of sheet)) = sym (length-map table (λ field. field.0.now)) ∙ ap length is in
-    let enough = length-fields sheet in
-    omega arith
-
-pub name-at : (sheet : Sheet) (table : List Lent) (place : ℕ) (none : Lent) → none.0.now ≡ codes "" → map (λ field. field.0.now) table ≡ names_of (kind_of sheet) → 1 ≤ place → place ≤ width sheet
-    → (get_or table (place - 1) none).0.now ≡ text_at (names sheet) place
-name-at sheet table place none empty is first last =
-    let kind = kind_of sheet in
-    let nothing : Field = (codes "", Content.Action, Need.Optional) in
-    let below : place - 1 < row_len kind = subst (λ n. place - 1 < n) (sym (row_len-width sheet)) (omega arith) in
-    sym (get_or-map (λ (field : Lent). field.0.now) table (place - 1) none)
-    ∙ ap (λ l. get_or l (place - 1) none.0.now) is ∙ ap (get_or (names_of kind) (place - 1)) empty
-    ∙ get_or-map (λ (field : Field). field.0) (fields_of kind) (place - 1) nothing
-    ∙ ap (λ (field : Field). field.0) (sym (get_or-take (row_len kind) (fields_of kind) (place - 1) nothing below))
-    ∙ sym (get_or-map (λ (field : Field). field.0) (take (row_len kind) (fields_of kind)) (place - 1) nothing)
-    ∙ sym (text-at (names sheet) place first)
 
 -- ---- tokens
 

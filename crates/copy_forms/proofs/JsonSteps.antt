@@ -8,8 +8,8 @@ use Rattle.json.specs.Print.{print, print_from, quoted}
 use Rattle.json.specs.Token.{Token, key}
 use Rattle.lei_code.specs.Texts.{Text}
 use Rattle.lei_records.specs.Spelled.{is_absent}
-use Rattle.copy_forms.specs.declared.faults.FormFault.{FormFault}
-use Rattle.copy_forms.specs.declared.faults.FormFault.TheVariants as faults
+use Rattle.copy_csv.specs.declared.faults.FormFault.{FormFault}
+use Rattle.copy_csv.specs.declared.faults.FormFault.TheVariants as faults
 use Rattle.copy_forms.specs.JsonTexts.{lead}
 use Rattle.copy_forms.specs.JsonReading.{Added, Fails, Gives, FieldRead, after, field_behind, field_from, fields_from, is_escaped, kept, string_from, text_from}
 use Rattle.copy_forms.proofs.JsonStrings.{string-end, string-plain, with_text-none}

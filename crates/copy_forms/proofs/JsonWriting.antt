@@ -8,7 +8,7 @@ use Rattle.json.specs.Token.{Token, begin_array, begin_object, key, number, stri
 use Rattle.serde_json.specs.Written.{comma_if}
 use Rattle.lei_code.specs.Texts.{Text}
 use Rattle.lei_shapes.specs.Clock.{moment_text}
-use Rattle.copy_forms.specs.declared.heads.Head.{Head}
+use Rattle.copy_csv.specs.declared.heads.Head.{Head}
 use Rattle.copy_forms.specs.JsonTexts.{before_copy, before_delta, records_text}
 
 -- the last members of a file

@@ -10,10 +10,7 @@ pub mod JsonRecords
 pub mod JsonSteps
 pub mod JsonWriting
 pub mod JsonJoined
-pub mod CutLemmas
-pub mod Utf8Lemmas
-pub mod CsvLemmas
-pub mod RowLemmas
-pub mod LineLemmas
 pub mod TrailLemmas
 pub mod CopyLemmas
+pub mod CsvJoined
+pub mod NameOrder

@@ -15,14 +15,14 @@ use Rattle.std.proofs.lemmas.List.Folds.{list_all-append}
 use Rattle.std.proofs.lemmas.Str.{IsUtf8-nil, is_utf8-from_IsUtf8}
 use Rattle.lei_shapes.specs.Moment.{IsMoment}
 use Rattle.lei_records.specs.Tables.{KeyTexts, key_cmp}
-use Rattle.copy_forms.specs.declared.rows.Change.{Change}
-use Rattle.copy_forms.specs.declared.sheets.Sheet.{Sheet}
+use Rattle.copy_csv.specs.declared.rows.Change.{Change}
+use Rattle.copy_csv.specs.declared.sheets.Sheet.{Sheet}
 use Rattle.copy_forms.specs.Files.{copy}
 use Rattle.copy_forms.specs.Patching.{Keyed, all_changed, changed, keyed, patched}
-use Rattle.copy_forms.specs.Rows.{AreChanges, AreRising, AreRows, IsChangeOf, IsRowOf, changed_key}
-use Rattle.copy_forms.specs.Sheets.{SheetRow, key, key_len, width}
+use Rattle.copy_csv.specs.Rows.{AreChanges, AreRising, AreRows, IsChangeOf, IsRowOf, changed_key}
+use Rattle.copy_csv.specs.Sheets.{SheetRow, key, key_len, width}
 use Rattle.copy_forms.specs.Trails.{DeltasLeadOn, FollowOn, IsKeyOf, IsSound, Publication, Trail, change_of, change_to, changes_between, copy_head, delta_head, dropped_row, in_order, is_among, no_rows, row_under, touched_in}
-use Rattle.copy_forms.proofs.RowLemmas.{key_total}
+use Rattle.copy_csv.proofs.RowLemmas.{key_total}
 
 key_same : IsAntisymmetric key_cmp
 key_same = slice_cmp-IsAntisymmetric (slice_cmp-IsAntisymmetric nat_cmp-IsAntisymmetric)

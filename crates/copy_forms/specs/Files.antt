@@ -1,18 +1,18 @@
 -- The texts of copies and of deltas in both forms, and what stands in such a text.
 use Rattle.std.specs.Prelude.{◌≡◌, List, None, Some}
 use Rattle.lei_code.specs.Texts.{Text}
-use Rattle.copy_forms.specs.declared.heads.CopyRead.{CopyRead}
-use Rattle.copy_forms.specs.declared.heads.DeltaRead.{DeltaRead}
-use Rattle.copy_forms.specs.declared.heads.Head.{Head}
-use Rattle.copy_forms.specs.declared.rows.Change.{Change}
-use Rattle.copy_forms.specs.declared.rows.RowTexts.{RowTexts}
-use Rattle.copy_forms.specs.declared.rows.TextChange.{TextChange}
-use Rattle.copy_forms.specs.declared.sheets.Form.{Form}
-use Rattle.copy_forms.specs.declared.sheets.Sheet.{Sheet}
-use Rattle.copy_forms.specs.Csv.{csv_copy, csv_delta, row_line}
+use Rattle.copy_csv.specs.declared.heads.CopyRead.{CopyRead}
+use Rattle.copy_csv.specs.declared.heads.DeltaRead.{DeltaRead}
+use Rattle.copy_csv.specs.declared.heads.Head.{Head}
+use Rattle.copy_csv.specs.declared.rows.Change.{Change}
+use Rattle.copy_csv.specs.declared.rows.RowTexts.{RowTexts}
+use Rattle.copy_csv.specs.declared.rows.TextChange.{TextChange}
+use Rattle.copy_csv.specs.declared.sheets.Form.{Form}
+use Rattle.copy_csv.specs.declared.sheets.Sheet.{Sheet}
+use Rattle.copy_csv.specs.Csv.{csv_copy, csv_delta, row_line}
 use Rattle.copy_forms.specs.Json.{json_copy, json_delta, json_record}
-use Rattle.copy_forms.specs.Rows.{AreChanges, AreRows, IsCopyHead, IsDeltaHead}
-use Rattle.copy_forms.specs.Sheets.{SheetRow}
+use Rattle.copy_csv.specs.Rows.{AreChanges, AreRows, IsCopyHead, IsDeltaHead}
+use Rattle.copy_csv.specs.Sheets.{SheetRow}
 
 -- The texts of a row: its line in CSV and its record in JSON.
 abbrev pub rendered : SheetRow → RowTexts

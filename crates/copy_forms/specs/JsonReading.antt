@@ -13,15 +13,15 @@ use Rattle.lei_code.specs.Texts.{Text}
 use Rattle.lei_records.specs.Rows.{text_at}
 use Rattle.lei_records.specs.Spelled.{is_absent}
 use Rattle.serde_json.specs.Written.{comma_if}
-use Rattle.copy_forms.specs.declared.sheets.Sheet.{Sheet}
-use Rattle.copy_forms.specs.Sheets.{SheetRow, is_key_alone, row_of}
+use Rattle.copy_csv.specs.declared.sheets.Sheet.{Sheet}
+use Rattle.copy_csv.specs.Sheets.{SheetRow, is_key_alone, row_of}
 use Rattle.copy_forms.specs.Json.{json_copy, json_delta, json_names}
-use Rattle.copy_forms.specs.declared.heads.Head.{Head}
-use Rattle.copy_forms.specs.declared.rows.Change.{Change}
+use Rattle.copy_csv.specs.declared.heads.Head.{Head}
+use Rattle.copy_csv.specs.declared.rows.Change.{Change}
 use Rattle.copy_forms.specs.JsonTexts.{before_record, lead}
-use Rattle.copy_forms.specs.Rows.{IsChangeOf, IsCopyHead, IsDeltaHead, IsRowOf}
-use Rattle.copy_forms.specs.declared.faults.FormFault.{FormFault}
-use Rattle.copy_forms.specs.declared.faults.FormFault.TheVariants as faults
+use Rattle.copy_csv.specs.Rows.{IsChangeOf, IsCopyHead, IsDeltaHead, IsRowOf}
+use Rattle.copy_csv.specs.declared.faults.FormFault.{FormFault}
+use Rattle.copy_csv.specs.declared.faults.FormFault.TheVariants as faults
 
 -- The bytes behind a front.
 abbrev pub after : List ℕ → List ℕ → Option (List ℕ)

@@ -6,8 +6,8 @@ use Rattle.serde_json.specs.Written.{comma_if}
 use Rattle.lei_code.specs.Texts.{Text}
 use Rattle.lei_records.specs.Spelled.{is_absent}
 use Rattle.lei_shapes.specs.Clock.{moment_text}
-use Rattle.copy_forms.specs.declared.heads.Head.{Head}
-use Rattle.copy_forms.specs.declared.rows.TextChange.{TextChange}
+use Rattle.copy_csv.specs.declared.heads.Head.{Head}
+use Rattle.copy_csv.specs.declared.rows.TextChange.{TextChange}
 use Rattle.copy_forms.specs.Json.{Field, json_record}
 
 -- What stands before the text of a field: a comma where a field stands before it, its name, a colon and the quote that

@@ -1,13 +1,7 @@
-pub mod Faults
-pub mod Cuts
-pub mod Sheets
-pub mod Rows
 pub mod Json
 pub mod JsonTexts
 pub mod JsonReading
-pub mod Csv
-pub mod CsvReading
-pub mod Taking
 pub mod Files
 pub mod Patching
 pub mod Trails
+pub mod Items

@@ -3,12 +3,12 @@ use Rattle.std.specs.Prelude.{◌≡◌, List, [], ◌∷◌, map}
 use Rattle.std.specs.FinMap.{FinMap, from_entries, insert, remove, values}
 use Rattle.lei_code.specs.Texts.{Text}
 use Rattle.lei_records.specs.Tables.{key_cmp}
-use Rattle.copy_forms.specs.declared.heads.Head.{Head}
-use Rattle.copy_forms.specs.declared.rows.Change.{Change}
-use Rattle.copy_forms.specs.declared.sheets.Form.{Form}
-use Rattle.copy_forms.specs.declared.sheets.Sheet.{Sheet}
+use Rattle.copy_csv.specs.declared.heads.Head.{Head}
+use Rattle.copy_csv.specs.declared.rows.Change.{Change}
+use Rattle.copy_csv.specs.declared.sheets.Form.{Form}
+use Rattle.copy_csv.specs.declared.sheets.Sheet.{Sheet}
 use Rattle.copy_forms.specs.Files.{IsCopy, IsDelta, copy}
-use Rattle.copy_forms.specs.Sheets.{SheetRow, key}
+use Rattle.copy_csv.specs.Sheets.{SheetRow, key}
 
 -- Rows under their keys, in the order of these.
 abbrev pub Keyed : Type 0

@@ -7,14 +7,14 @@ use Rattle.std.specs.Str.{is_utf8}
 use Rattle.lei_code.specs.Texts.{Text}
 use Rattle.lei_shapes.specs.Moment.{IsMoment}
 use Rattle.lei_records.specs.Tables.{KeyTexts, key_cmp}
-use Rattle.copy_forms.specs.declared.heads.Head.{Head}
-use Rattle.copy_forms.specs.declared.rows.Change.{Change}
-use Rattle.copy_forms.specs.declared.sheets.Form.{Form}
-use Rattle.copy_forms.specs.declared.sheets.Sheet.{Sheet}
+use Rattle.copy_csv.specs.declared.heads.Head.{Head}
+use Rattle.copy_csv.specs.declared.rows.Change.{Change}
+use Rattle.copy_csv.specs.declared.sheets.Form.{Form}
+use Rattle.copy_csv.specs.declared.sheets.Sheet.{Sheet}
 use Rattle.copy_forms.specs.Files.{copy, delta}
 use Rattle.copy_forms.specs.Patching.{IsPatched, keyed}
-use Rattle.copy_forms.specs.Rows.{AreRows}
-use Rattle.copy_forms.specs.Sheets.{SheetRow, key_len, row_of, width}
+use Rattle.copy_csv.specs.Rows.{AreRows}
+use Rattle.copy_csv.specs.Sheets.{SheetRow, key_len, row_of, width}
 
 -- A publication: its moment, its rows of each sheet, and the keys that were touched since the one before.
 pub record Publication : Type 0 where

@@ -1,24 +1,22 @@
 //! Copies and deltas in both forms: printed, and read back where they are printed so.
 ghost use Rattle.std.specs.Prelude.{◌≡◌, List as Items, map, IfOk, IsErrOf};
-ghost use Rattle.copy_forms.specs.declared.faults.FormFault.{FormFault};
-ghost use Rattle.copy_forms.specs.declared.heads.Head.{Head as DeclaredHead};
-ghost use Rattle.copy_forms.specs.declared.sheets.Form.{Form};
-ghost use Rattle.copy_forms.specs.declared.rows.Change.{Change};
+ghost use Rattle.copy_csv.specs.declared.faults.FormFault.{FormFault};
+ghost use Rattle.copy_csv.specs.declared.heads.Head.{Head as DeclaredHead};
+ghost use Rattle.copy_csv.specs.declared.sheets.Form.{Form};
+ghost use Rattle.copy_csv.specs.declared.rows.Change.{Change};
 ghost use Rattle.std.specs.List.{All};
-ghost use Rattle.copy_forms.specs.Csv.{csv_copy, csv_delta};
+ghost use Rattle.copy_csv.specs.Csv.{csv_copy, csv_delta};
 ghost use Rattle.copy_forms.specs.Json.{json_copy, json_delta};
 ghost use Rattle.copy_forms.specs.Files.{IsCopy, IsCopyRead, IsDelta, IsDeltaRead, copy, delta, rendered, rendered_change};
-ghost use Rattle.copy_forms.specs.Rows.{IsChangeOf};
-ghost use Rattle.copy_forms.specs.Sheets.{SheetRow};
+ghost use Rattle.copy_csv.specs.Rows.{IsChangeOf};
+ghost use Rattle.copy_csv.specs.Sheets.{SheetRow};
 
-use crate::csv_files::{csv_copy_text, csv_delta_text, read_csv_copy, read_csv_delta};
-use crate::csv_rows::{are_changes_rising, are_rows_rising};
-use crate::faults::FormFault;
-use crate::heads::{CopyRead, DeltaRead, Head};
 use crate::json_files::{read_json_copy, read_json_delta};
 use crate::json_write::{json_copy_text, json_delta_text};
-use crate::rows::{RowTexts, TextChange};
-use crate::sheets::{Form, Sheet};
+use copy_csv::{
+    CopyRead, DeltaRead, Form, FormFault, Head, RowTexts, Sheet, TextChange, are_changes_rising,
+    are_rows_rising, csv_copy_text, csv_delta_text, read_csv_copy, read_csv_delta,
+};
 use lei_outside::{Bytes, List, NoMemory};
 use std::alloc::Global;
 

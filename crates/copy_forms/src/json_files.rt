@@ -4,19 +4,16 @@ ghost use Rattle.serde_json.specs.Written;
 ghost use Rattle.copy_forms.specs.Json.{json_names};
 ghost use Rattle.copy_forms.specs.JsonTexts;
 ghost use Rattle.copy_forms.specs.JsonReading as spec;
-ghost use Rattle.copy_forms.specs.declared.heads.Head.{Head as DeclaredHead};
-ghost use Rattle.copy_forms.specs.declared.faults.FormFault;
-ghost use Rattle.copy_forms.specs.Sheets.{SheetRow};
-ghost use Rattle.copy_forms.specs.declared.rows.Change.{Change as Changed};
+ghost use Rattle.copy_csv.specs.declared.heads.Head.{Head as DeclaredHead};
+ghost use Rattle.copy_csv.specs.declared.faults.FormFault;
+ghost use Rattle.copy_csv.specs.Sheets.{SheetRow};
+ghost use Rattle.copy_csv.specs.declared.rows.Change.{Change as Changed};
 ghost use Rattle.copy_forms.specs.JsonReading.{Gives, IsJsonCopy, IsJsonDelta, items_from};
 
-use crate::faults::FormFault;
-use crate::heads::Head;
 use crate::json_heads::{base_from, count_from, date_from, publication_from};
 use crate::json_read::{leads, record_from};
 use crate::json_strings::after;
-use crate::rows::{Change, Row};
-use crate::sheets::Sheet;
+use copy_csv::{Change, FormFault, Head, Row, Sheet};
 use lei_outside::Bytes;
 use std::alloc::Global;
 

@@ -5,8 +5,8 @@ ghost use Rattle.std.specs.List.{prefix_len};
 ghost use Rattle.copy_forms.specs.JsonReading as spec;
 ghost use Rattle.copy_forms.specs.JsonReading.{Gives, number_of};
 
-use crate::faults::FormFault;
 use crate::json_strings::{after, escaped_from};
+use copy_csv::FormFault;
 use itoa::Buffer;
 use lei_shapes::Moment;
 use std::alloc::Global;

@@ -4,14 +4,11 @@ ghost use Rattle.copy_forms.specs.Json.{json_names};
 ghost use Rattle.copy_forms.specs.JsonTexts;
 ghost use Rattle.copy_forms.specs.JsonReading as spec;
 ghost use Rattle.copy_forms.specs.JsonReading.{Adds, Gives, json_ranks, kept};
-ghost use Rattle.copy_forms.specs.Sheets;
+ghost use Rattle.copy_csv.specs.Sheets;
 
-use crate::faults::FormFault;
 use crate::json_strings::{after, escaped_from, plain_len};
-use crate::json_text::{name_at, places};
-use crate::rows::Row;
-use crate::sheets::Sheet;
-use crate::texts::Texts;
+use crate::json_text::places;
+use copy_csv::{FormFault, Row, Sheet, Texts};
 use json::Writer;
 use lei_outside::{Bytes, NoMemory};
 use std::alloc::Global;
@@ -43,7 +40,7 @@ pub fn leads(alloc: Global, sheet: Sheet) -> Result<Vec<Bytes>, NoMemory>
 {
     let mut leads = Vec::new(alloc);
     for place in places(sheet) {
-        leads.push(lead(alloc, name_at(sheet, usize::from(*place)))?)?;
+        leads.push(lead(alloc, sheet.name_at(usize::from(*place)))?)?;
     }
     Ok(leads)
 }
@@ -158,7 +155,7 @@ fn placed(alloc: Global, sheet: Sheet, texts: &Texts) -> Result<Row, NoMemory>
     requires { length texts.now ≡ Sheets.width sheet }
     ensures { IfOk result (λ row. row ≡ spec.placed sheet texts.now) }
 {
-    let mut row = Texts::with_capacity(alloc, texts.len(), texts.size())?;
+    let mut row = Texts::with_capacity(alloc, texts.len(), texts.joined().len())?;
     for rank in ranks(sheet) {
         row.push(texts.text(usize::from(*rank)))?;
     }

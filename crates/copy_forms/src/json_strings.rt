@@ -4,7 +4,7 @@ ghost use Rattle.json.specs.Print.{escape_byte};
 ghost use Rattle.copy_forms.specs.JsonReading as spec;
 ghost use Rattle.copy_forms.specs.JsonReading.{Gives, escapes, is_escaped, string_from};
 
-use crate::faults::FormFault;
+use copy_csv::FormFault;
 use std::alloc::Global;
 
 /// The bytes behind a front, where they begin with it.

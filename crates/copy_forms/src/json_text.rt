@@ -4,10 +4,9 @@ ghost use Rattle.json.specs.Print.{print};
 ghost use Rattle.lei_records.specs.Rows.{text_at};
 ghost use Rattle.copy_forms.specs.Json.{field_at, json_places, json_record};
 ghost use Rattle.copy_forms.specs.JsonTexts as spec;
-ghost use Rattle.copy_forms.specs.Sheets;
+ghost use Rattle.copy_csv.specs.Sheets;
 
-use crate::rows::Row;
-use crate::sheets::Sheet;
+use copy_csv::{Row, Sheet};
 use json::Writer;
 use lei_outside::{Bytes, NoMemory};
 use std::alloc::Global;
@@ -32,15 +31,6 @@ pub fn places(sheet: Sheet) -> &'static [u8]
     }
 }
 
-/// The name of the field at a place, places counted from 1.
-pub fn name_at(sheet: Sheet, place: usize) -> &'static str
-    requires first { 1 ≤ place }
-    requires last { place ≤ Sheets.width sheet }
-    ensures { result.now ≡ text_at (Sheets.names sheet) place }
-{
-    sheet.kind().fields()[place - 1].0
-}
-
 /// The record of a row: the fields that are present, with names in byte order.
 pub fn record_text(alloc: Global, row: &Row) -> Result<Bytes, NoMemory>
     ensures { IfOk result (λ text. text ≡ json_record row.now) }
@@ -58,10 +48,10 @@ pub fn record_text(alloc: Global, row: &Row) -> Result<Bytes, NoMemory>
 // name and the text, four quotes, a colon and a comma.
 fn record_room(row: &Row) -> usize {
     let sheet = row.sheet();
-    let mut room = row.size().saturating_add(2);
+    let mut room = row.joined().len().saturating_add(2);
     for index in 0..sheet.width() {
         if !row.text_bytes(index + 1).is_empty() {
-            room = room.saturating_add(name_at(sheet, index + 1).len() + 6);
+            room = room.saturating_add(sheet.name_at(index + 1).len() + 6);
         }
     }
     room
@@ -74,7 +64,7 @@ fn put_field(out: &mut Writer, row: &Row, place: usize) -> Result<(), NoMemory>
     ensures before { out.new.before ≡ out.old.before }
     ensures tokens { OnOk result (out.new.tokens ≡ out.old.tokens ++ spec.field_tokens (field_at row.now place)) }
 {
-    let name = name_at(row.sheet(), place);
+    let name = row.sheet().name_at(place);
     let text = row.text(place);
     if text.is_empty() {
         return Ok(());

@@ -5,9 +5,8 @@ ghost use Rattle.lei_shapes.specs.Clock.{moment_text};
 ghost use Rattle.serde_json.specs.Written.{comma_if};
 ghost use Rattle.copy_forms.specs.JsonTexts.{before_copy, before_delta, records_text, text_change_record};
 
-use crate::heads::Head;
 use crate::json_text::record_text;
-use crate::rows::{RowTexts, TextChange};
+use copy_csv::{Head, RowTexts, TextChange};
 use json::Writer;
 use lei_outside::{Bytes, NoMemory};
 use lei_shapes::Moment;

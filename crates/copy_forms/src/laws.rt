@@ -1,14 +1,18 @@
 //! Laws of the definitions, each as the contract of a function that does nothing.
 ghost use Rattle.std.specs.Prelude.{◌≡◌, ◌≤◌, ◌<◌, ◌^◌, List, length};
+ghost use Rattle.std.specs.Cmp.Lexicographic.{slice_cmp};
+ghost use Rattle.std.specs.Ordering.{nat_cmp};
+ghost use Rattle.std.specs.List.Sorted.{IsStrictlySortedBy};
 ghost use Rattle.lei_code.specs.Texts.{Text};
-ghost use Rattle.copy_forms.specs.declared.heads.Head.{Head};
-ghost use Rattle.copy_forms.specs.declared.rows.Change.{Change};
-ghost use Rattle.copy_forms.specs.declared.sheets.Form.{Form};
-ghost use Rattle.copy_forms.specs.declared.sheets.Sheet.{Sheet};
-ghost use Rattle.copy_forms.specs.Csv.{csv_copy, csv_delta};
+ghost use Rattle.copy_csv.specs.declared.heads.Head.{Head};
+ghost use Rattle.copy_csv.specs.declared.rows.Change.{Change};
+ghost use Rattle.copy_csv.specs.declared.sheets.Form.{Form};
+ghost use Rattle.copy_csv.specs.declared.sheets.Sheet.{Sheet};
+ghost use Rattle.copy_forms.specs.Json.{json_names};
+ghost use Rattle.copy_csv.specs.Csv.{csv_copy, csv_delta};
 ghost use Rattle.copy_forms.specs.Files.{IsCopy, IsDelta};
-ghost use Rattle.copy_forms.specs.Rows.{AreChanges, AreRows};
-ghost use Rattle.copy_forms.specs.Sheets.{SheetRow};
+ghost use Rattle.copy_csv.specs.Rows.{AreChanges, AreRows};
+ghost use Rattle.copy_csv.specs.Sheets.{SheetRow};
 ghost use Rattle.copy_forms.specs.Trails.{DeltasLeadOn, IsSound, Trail};
 
 /// In every sound trail of at most 1,000,000 publications, a copy that is patched by the delta to a later one is the copy
@@ -35,4 +39,9 @@ pub fn json_tells_its_heads_and_rows()
     ensures deltas { (sheet : Sheet) (bytes : Text) (head other : Head) (changes others : List Change) → length bytes < 2 ^ 64
         → IsDelta bytes sheet Form.Json head changes → IsDelta bytes sheet Form.Json other others
         → (head ≡ other) × (changes ≡ others) }
+{}
+
+/// In JSON the names of a sheet's fields stand in byte order.
+pub fn json_names_rise()
+    ensures { (sheet : Sheet) → IsStrictlySortedBy (slice_cmp nat_cmp) (json_names sheet) }
 {}

@@ -1,4 +1,4 @@
-use Rattle.copy_forms.proofs.LineLemmas.{copy-joined-ok}
+use Rattle.copy_forms.proofs.CsvJoined.{copy-joined-ok}
 use Rattle.copy_forms.proofs.copies.copy_in_csv.Goals as goal
 
 pub returns : goal.returns

@@ -1,4 +1,4 @@
-use Rattle.copy_forms.proofs.LineLemmas.{delta-joined-ok}
+use Rattle.copy_forms.proofs.CsvJoined.{delta-joined-ok}
 use Rattle.copy_forms.proofs.copies.delta_in_csv.Goals as goal
 
 pub returns : goal.returns

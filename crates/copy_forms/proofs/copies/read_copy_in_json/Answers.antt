@@ -1,10 +1,10 @@
 use Rattle.std.proofs.Common.{◌<◌, ◌^◌, List, length, map, sym, subst, ◌∙◌, rules, refl}
 use Rattle.std.specs.List.{All}
 use Rattle.std.proofs.lemmas.Bool.{false≢true}
-use Rattle.copy_forms.specs.declared.sheets.Form.{Form}
+use Rattle.copy_csv.specs.declared.sheets.Form.{Form}
 use Rattle.copy_forms.specs.Files.{IsCopy}
-use Rattle.copy_forms.specs.Rows.{AreRising, IsRowOf}
-use Rattle.copy_forms.specs.Sheets.{SheetRow, key}
+use Rattle.copy_csv.specs.Rows.{AreRising, IsRowOf}
+use Rattle.copy_csv.specs.Sheets.{SheetRow, key}
 use Rattle.copy_forms.proofs.CopyLemmas.{copy-falls, copy-to, copy-with, same-fault}
 use Rattle.copy_forms.proofs.copies.read_copy_in_json.Goals as goal
 

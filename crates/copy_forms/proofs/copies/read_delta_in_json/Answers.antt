@@ -1,10 +1,10 @@
 use Rattle.std.proofs.Common.{◌<◌, ◌^◌, List, length, map, sym, subst, ◌∙◌, rules, refl}
 use Rattle.std.specs.List.{All}
 use Rattle.std.proofs.lemmas.Bool.{false≢true}
-use Rattle.copy_forms.specs.declared.sheets.Form.{Form}
+use Rattle.copy_csv.specs.declared.sheets.Form.{Form}
 use Rattle.copy_forms.specs.Files.{IsDelta}
-use Rattle.copy_forms.specs.declared.rows.Change.{Change}
-use Rattle.copy_forms.specs.Rows.{AreRising, IsChangeOf, changed_key}
+use Rattle.copy_csv.specs.declared.rows.Change.{Change}
+use Rattle.copy_csv.specs.Rows.{AreRising, IsChangeOf, changed_key}
 use Rattle.copy_forms.proofs.CopyLemmas.{delta-falls, delta-to, delta-with, same-fault}
 use Rattle.copy_forms.proofs.copies.read_delta_in_json.Goals as goal
 

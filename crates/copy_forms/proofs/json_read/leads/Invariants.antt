@@ -1,6 +1,6 @@
 use Rattle.std.proofs.Common.{◌≡◌, true, map, take}
 use Rattle.lei_records.specs.Rows.{text_at}
-use Rattle.copy_forms.specs.Sheets.{names}
+use Rattle.copy_csv.specs.Sheets.{names}
 use Rattle.copy_forms.specs.Json.{json_places}
 use Rattle.copy_forms.specs.JsonTexts.{lead}
 use Rattle.copy_forms.proofs.json_read.leads.Given as goal

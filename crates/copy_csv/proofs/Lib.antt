@@ -1,0 +1,6 @@
+pub mod CutLemmas
+pub mod Utf8Lemmas
+pub mod CsvLemmas
+pub mod RowLemmas
+pub mod LineLemmas
+pub mod SheetLemmas

@@ -1,0 +1,20 @@
+use Rattle.std.proofs.Common.{◌≡◌, ◌++◌, length, map}
+use Rattle.std.specs.Prelude.{flat_map}
+use Rattle.std.specs.List.{All}
+use Rattle.std.specs.Str.{IsUtf8}
+use Rattle.copy_csv.specs.Csv.{row_line}
+use Rattle.copy_csv.specs.Rows.{AreRising, IsRowOf}
+use Rattle.copy_csv.specs.Sheets.{key}
+use Rattle.copy_csv.proofs.csv_rows.read_rows.Given as goal
+
+-- the rows are those of the lines before what is left
+abbrev pub invariant-loop-reader : goal.invariant-loop-reader
+invariant-loop-reader l = record {
+  printed : l.bytes ≡ flat_map row_line l.rows.items ++ l.reader;
+  good : All (IsRowOf l.sheet) l.rows.items;
+  rising : AreRising (map key l.rows.items);
+  utf8 : IsUtf8 l.reader;
+}
+
+abbrev pub decreases-loop-reader : goal.decreases-loop-reader
+decreases-loop-reader l = length l.reader

@@ -1,0 +1,7 @@
+pub mod Faults
+pub mod Cuts
+pub mod Sheets
+pub mod Rows
+pub mod Csv
+pub mod CsvReading
+pub mod Taking

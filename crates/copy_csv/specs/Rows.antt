@@ -1,0 +1,69 @@
+-- The rows of golden copies, and of deltas between them, with their heads.
+use Rattle.std.specs.Prelude.{◌≡◌, ◌≤◌, ℕ, List, map, ⊤, IsTrue}
+use Rattle.std.specs.List.{All}
+use Rattle.std.specs.List.Sorted.{IsStrictlySortedBy}
+use Rattle.lei_shapes.specs.Moment.{IsMoment}
+use Rattle.lei_records.specs.Tables.{KeyTexts, key_cmp}
+use Rattle.copy_csv.specs.declared.sheets.Sheet.{Sheet}
+use Rattle.copy_csv.specs.declared.heads.Head.{Head}
+use Rattle.copy_csv.specs.declared.rows.Change.{Change}
+use Rattle.copy_csv.specs.Sheets.{IsRow, SheetRow, is_key_alone, key}
+
+-- The keys rise strictly in byte order, text by text, so none stands twice.
+abbrev pub AreRising : List KeyTexts → Type 0
+AreRising keys = IsStrictlySortedBy key_cmp keys
+
+-- ---- deltas
+
+-- The row of a change.
+abbrev pub changed_row : Change → SheetRow
+changed_row (Change.Put row) = row
+changed_row (Change.Drop row) = row
+
+-- The key of a change.
+abbrev pub changed_key : Change → KeyTexts
+changed_key change = key (changed_row change)
+
+-- A key that is dropped stands with its texts alone: all others of its row are empty.
+abbrev pub IsDropOfKey : Change → Type 0
+IsDropOfKey (Change.Put row) = ⊤
+IsDropOfKey (Change.Drop row) = IsTrue (is_key_alone row)
+
+-- ---- heads
+
+-- The number of a publication.
+abbrev pub IsNumber : ℕ → Type 0
+IsNumber number = (1 ≤ number) × (number ≤ 1_000_000)
+
+-- The head of a copy: a moment, the publication's number, and no publication that it goes from.
+pub record IsCopyHead (head : Head) : Type 0 where
+  pub moment : IsMoment head.moment
+  pub publication : IsNumber head.publication
+  pub from : head.from ≡ 0
+
+-- The head of a delta: a moment, the publication's number, and that of the publication that it goes from, which may be
+-- the greater one.
+pub record IsDeltaHead (head : Head) : Type 0 where
+  pub moment : IsMoment head.moment
+  pub publication : IsNumber head.publication
+  pub from : IsNumber head.from
+
+-- ---- the rows of a file
+
+-- A row of this sheet.
+abbrev pub IsRowOf : Sheet → SheetRow → Type 0
+IsRowOf sheet row = IsRow row × (row.sheet ≡ sheet)
+
+-- The rows of a copy of a sheet: rows of this sheet, whose keys rise.
+pub record AreRows (sheet : Sheet) (rows : List SheetRow) : Type 0 where
+  pub each : All (IsRowOf sheet) rows
+  pub rising : AreRising (map key rows)
+
+-- A change of a row of this sheet. Of a key that is dropped stands the key alone.
+abbrev pub IsChangeOf : Sheet → Change → Type 0
+IsChangeOf sheet change = IsRowOf sheet (changed_row change) × IsDropOfKey change
+
+-- The changes of a delta of a sheet: changes of rows of this sheet, whose keys rise.
+pub record AreChanges (sheet : Sheet) (changes : List Change) : Type 0 where
+  pub each : All (IsChangeOf sheet) changes
+  pub rising : AreRising (map changed_key changes)

@@ -1,0 +1,66 @@
+-- What calls that read CSV take of what is left to read, and what they make of it.
+use Rattle.std.specs.Prelude.{◌≡◌, ◌≢◌, ℕ, zero, suc, List, [], ◌∷◌, ◌++◌, ◌==◌, Bool, true, false, Option, None, Some, length, map, flat_map, ◌-◌}
+use Rattle.std.specs.List.{All, slice_get}
+use Rattle.std.specs.Option.{option_map}
+use Rattle.std.specs.Ordering.{is_lt}
+use Rattle.lei_records.specs.Tables.{KeyTexts, key_cmp}
+use Rattle.copy_csv.specs.Rows.{AreRising}
+
+-- No byte is a quote.
+abbrev pub HasNoQuote : List ℕ → Type 0
+HasNoQuote bytes = All (λ byte. (byte == 34) ≡ false) bytes
+
+-- What closes a text in a line and opens the next one: a quote, a comma and a quote where more fields follow, and else a quote
+-- and LF.
+abbrev pub closing_of : ℕ → List ℕ
+closing_of zero = 34 ∷ 10 ∷ []
+closing_of (suc more) = 34 ∷ 44 ∷ 34 ∷ []
+
+-- The bytes before the next quote were put behind the others and are no longer to be read, nor is the quote; or there is
+-- none, and nothing was changed.
+abbrev pub TakesPart : List ℕ → List ℕ → Bool → List ℕ → List ℕ → Type 0
+TakesPart old made true new made' =
+    (part : List ℕ) × (old ≡ part ++ 34 ∷ new) × HasNoQuote part × (made' ≡ made ++ part)
+TakesPart old made false new made' = HasNoQuote old × (new ≡ old) × (made' ≡ made)
+
+-- What was made, and what is left, where something was found.
+abbrev pub taken_text : Bool → List ℕ → List ℕ → Option (List ℕ × List ℕ)
+taken_text true made rest = Some (made, rest)
+taken_text false made rest = None
+
+-- What was read, and what is left.
+abbrev pub taken : {X : Type 0} → Option X → List ℕ → Option (X × List ℕ)
+taken read rest = option_map (λ read. (read, rest)) read
+
+-- These bytes stood next and are no longer to be read, or other bytes did.
+abbrev pub SkipsAll : List ℕ → List ℕ → Bool → List ℕ → Type 0
+SkipsAll bytes old true new = old ≡ bytes ++ new
+SkipsAll bytes old false new = (new ≡ old) × ((rest : List ℕ) → old ≢ bytes ++ rest)
+
+-- What printing makes of a good one stood next and is no longer to be read, or no such thing stood next.
+abbrev pub Reads : {X : Type 0} → (X → List ℕ) → (X → Type 0) → List ℕ → Option X → List ℕ → Type 0
+Reads print Good old (Some x) new = (old ≡ print x ++ new) × Good x
+Reads {X} print Good old None new = (x : X) (rest : List ℕ) → Good x → old ≢ print x ++ rest
+
+-- The one stands behind another by its key, or there is no other.
+abbrev pub comes_after : {X : Type 0} → (X → KeyTexts) → Option X → X → Bool
+comes_after key None x = true
+comes_after key (Some other) x = is_lt (key_cmp (key other) (key x))
+
+-- The one stands behind the last of the others by its key, or there are none.
+abbrev pub is_behind : {X : Type 0} → (X → KeyTexts) → List X → X → Bool
+is_behind key xs x = comes_after key (slice_get xs (length xs - 1)) x
+
+-- The bytes are what printing makes of good ones whose keys rise.
+pub record AreRead {X : Type 0} (print : X → List ℕ) (Good : X → Type 0) (key : X → KeyTexts) (bytes : List ℕ) (xs : List X) : Type 0 where
+  pub printed : bytes ≡ flat_map print xs
+  pub good : All Good xs
+  pub rising : AreRising (map key xs)
+
+-- `"PUT",`, which begins the line of a row that is put.
+abbrev pub put_bytes : List ℕ
+put_bytes = 34 ∷ 80 ∷ 85 ∷ 84 ∷ 34 ∷ 44 ∷ []
+
+-- `"DROP",`, which begins the line of a key that is dropped.
+abbrev pub drop_bytes : List ℕ
+drop_bytes = 34 ∷ 68 ∷ 82 ∷ 79 ∷ 80 ∷ 34 ∷ 44 ∷ []

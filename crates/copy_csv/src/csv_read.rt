@@ -1,0 +1,150 @@
+//! Lines of CSV, read.
+ghost use Rattle.std.specs.Prelude.{◌≡◌, ◌<◌, ◌==◌, ◌++◌, ◌∷◌, length, IfOk, IfSome, IfNone, IsTrue, is_some, unwrap_or, false, IsSome};
+ghost use Rattle.std.specs.Str.{IsUtf8};
+ghost use Rattle.copy_csv.specs.CsvReading.{behind, field_from, line_from, separator_of, text_from, with_front};
+ghost use Rattle.copy_csv.specs.Taking.{SkipsAll, TakesPart, taken, taken_text};
+
+use crate::ends::Ends;
+use crate::texts::Texts;
+use lei_outside::NoMemory;
+use memchr::memchr;
+use std::alloc::Global;
+use std::marker::Model;
+
+/// What is left to read of some bytes. Contracts see these as a list.
+#[derive(Drop)]
+pub struct Reader<'a> {
+    bytes: &'a [u8],
+    at: usize,
+}
+
+impl<'a> Model for Reader<'a> {
+    ghost use Rattle.std.specs.Prelude.{ℕ, List, ◌≤◌, drop, length};
+
+    ghost Value = { List ℕ };
+
+    ghost view = { λ r. drop r.at r.bytes.now };
+
+    ghost invariant = { λ r. r.at ≤ length r.bytes.now };
+}
+
+impl<'a> Reader<'a> {
+    /// All of the bytes.
+    pub fn new(bytes: &'a [u8]) -> Self
+        ensures { result ≡ bytes.now }
+    {
+        Reader { bytes, at: 0 }
+    }
+
+    /// Whether none is left.
+    pub fn is_done(&self) -> bool
+        ensures { result ≡ (length self.now == 0) }
+    {
+        self.at == self.bytes.len()
+    }
+
+    /// What is left.
+    pub fn rest(&self) -> &[u8]
+        ensures { result.now ≡ self.now }
+    {
+        &self.bytes[self.at..]
+    }
+
+    /// Whether these bytes stand next, and steps over them.
+    pub fn skip_all(&mut self, bytes: &[u8]) -> bool
+        ensures { SkipsAll bytes.now self.old result self.new }
+    {
+        if self.rest().len() < bytes.len() {
+            return false;
+        }
+        let (front, _) = self.rest().split_at(bytes.len());
+        if front != bytes {
+            return false;
+        }
+        self.at += bytes.len();
+        true
+    }
+
+    // Whether this byte stands next, and steps over it.
+    fn skip(&mut self, byte: u8) -> bool
+        ensures found { result ≡ is_some (behind byte self.old) }
+        ensures rest { self.new ≡ unwrap_or (behind byte self.old) self.old }
+    {
+        let found = self.at < self.bytes.len() && self.bytes[self.at] == byte;
+        if found {
+            self.at += 1;
+        }
+        found
+    }
+
+    /// The bytes before the next quote, which are put behind the others. Steps over the quote.
+    pub fn part(&mut self, out: &mut Vec<u8>) -> Result<bool, NoMemory>
+        ensures { IfOk result (λ found. TakesPart self.old out.old.items found self.new out.new.items) }
+    {
+        let rest = &self.bytes[self.at..];
+        let Some(len) = memchr(b'"', rest) else {
+            return Ok(false);
+        };
+        out.extend_from_slice(&rest[..len])?;
+        self.at += len + 1;
+        Ok(true)
+    }
+
+    // The text before its closing quote, with quotes that stand twice as one.
+    fn text(&mut self, out: &mut Vec<u8>) -> Result<bool, NoMemory>
+        ensures { IfOk result (λ found. taken_text found out.new.items self.new
+            ≡ with_front out.old.items (text_from self.old false)) }
+    {
+        while self.part(out)? {
+            if !self.skip(b'"') {
+                return Ok(true);
+            }
+            out.push(b'"')?;
+        }
+        Ok(false)
+    }
+
+    // The text of a field that this byte follows.
+    fn field(&mut self, byte: u8, out: &mut Vec<u8>) -> Result<bool, NoMemory>
+        ensures { IfOk result (λ found. taken_text found out.new.items self.new
+            ≡ with_front out.old.items (field_from byte self.old)) }
+    {
+        if !self.skip(b'"') || !self.text(out)? {
+            return Ok(false);
+        }
+        Ok(self.skip(byte))
+    }
+
+    // About how many bytes the texts of the next line take: of those up to LF, each field has two quotes and what follows.
+    fn line_room(&self, count: usize) -> usize {
+        match memchr(b'\n', self.rest()) {
+            Some(len) => (len + 1).saturating_sub(count.saturating_mul(3)),
+            None => 0,
+        }
+    }
+
+    /// The texts of a line of so many fields.
+    pub fn line(&mut self, alloc: Global, count: usize) -> Result<Option<Texts>, NoMemory>
+        requires { IsUtf8 self.old }
+        ensures read { IfOk result (λ texts. taken texts self.new ≡ line_from count self.old) }
+        ensures utf8 { IfOk result (λ texts. IsSome texts → IsUtf8 self.new) }
+    {
+        let mut bytes = Vec::with_capacity(alloc, self.line_room(count))?;
+        let mut ends = Ends::with_capacity(alloc, count)?;
+        for index in 0..count {
+            let byte = separator(count - index - 1);
+            if !self.field(byte, &mut bytes)? {
+                return Ok(None);
+            }
+            ends.push(bytes.len())?;
+        }
+        Ok(Some(Texts::of(bytes, ends)))
+    }
+}
+
+/// What follows a field where so many fields follow it in the line.
+pub fn separator(more: usize) -> u8
+    ensures { result ≡ separator_of more }
+{
+    if more == 0 { b'\n' } else { b',' }
+}

@@ -1,0 +1,180 @@
+//! Rows and changes of CSV, read line by line.
+ghost use Rattle.std.specs.Prelude.{◌≡◌, ◌++◌, List as Items, IfOk, IsSome, IsTrue, IsErrOf, map, ◌↔◌};
+ghost use Rattle.std.specs.Str.{IsUtf8};
+ghost use Rattle.std.specs.List.{All};
+ghost use Rattle.copy_csv.specs.declared.rows.Change.{Change as Changed};
+ghost use Rattle.copy_csv.specs.declared.faults.FormFault.{FormFault};
+ghost use Rattle.copy_csv.specs.Csv.{change_line, row_line};
+ghost use Rattle.copy_csv.specs.Rows.{AreRising, IsChangeOf, IsRowOf, changed_key, changed_row};
+ghost use Rattle.copy_csv.specs.Sheets.{SheetRow, key};
+ghost use Rattle.copy_csv.specs.Taking.{AreRead, Reads, drop_bytes, is_behind, put_bytes};
+
+use crate::csv_read::Reader;
+use crate::faults::FormFault;
+use crate::rows::{Change, Row};
+use crate::sheets::Sheet;
+use lei_outside::{List, NoMemory};
+use std::alloc::Global;
+
+// The row of the next line.
+fn read_row(alloc: Global, sheet: Sheet, reader: &mut Reader<'_>) -> Result<Option<Row>, NoMemory>
+    requires { IsUtf8 reader.old }
+    ensures read { IfOk result (λ row. Reads row_line (IsRowOf sheet) reader.old row reader.new) }
+    ensures utf8 { IfOk result (λ row. IsSome row → IsUtf8 reader.new) }
+{
+    match reader.line(alloc, sheet.width())? {
+        Some(texts) => Ok(Some(Row::of(sheet, texts))),
+        None => Ok(None),
+    }
+}
+
+// The change whose row stands behind `PUT`.
+fn read_put(
+    alloc: Global,
+    sheet: Sheet,
+    reader: &mut Reader<'_>,
+) -> Result<Option<Change>, NoMemory>
+    requires { IsUtf8 reader.old }
+    ensures read { IfOk result
+        (λ change. Reads change_line (IsChangeOf sheet) (put_bytes ++ reader.old) change reader.new) }
+    ensures utf8 { IfOk result (λ change. IsSome change → IsUtf8 reader.new) }
+{
+    match read_row(alloc, sheet, reader)? {
+        Some(row) => Ok(Some(Change::Put(row))),
+        None => Ok(None),
+    }
+}
+
+// The change whose row stands behind `DROP`.
+fn read_drop(
+    alloc: Global,
+    sheet: Sheet,
+    reader: &mut Reader<'_>,
+) -> Result<Option<Change>, NoMemory>
+    requires { IsUtf8 reader.old }
+    ensures read { IfOk result
+        (λ change. Reads change_line (IsChangeOf sheet) (drop_bytes ++ reader.old) change reader.new) }
+    ensures utf8 { IfOk result (λ change. IsSome change → IsUtf8 reader.new) }
+{
+    match read_row(alloc, sheet, reader)? {
+        Some(row) => {
+            if row.is_key_alone() {
+                Ok(Some(Change::Drop(row)))
+            } else {
+                Ok(None)
+            }
+        }
+        None => Ok(None),
+    }
+}
+
+// The change of the next line.
+fn read_change(
+    alloc: Global,
+    sheet: Sheet,
+    reader: &mut Reader<'_>,
+) -> Result<Option<Change>, NoMemory>
+    requires { IsUtf8 reader.old }
+    ensures read { IfOk result (λ change. Reads change_line (IsChangeOf sheet) reader.old change reader.new) }
+    ensures utf8 { IfOk result (λ change. IsSome change → IsUtf8 reader.new) }
+{
+    if reader.skip_all(b"\"PUT\",") {
+        return read_put(alloc, sheet, reader);
+    }
+    if reader.skip_all(b"\"DROP\",") {
+        return read_drop(alloc, sheet, reader);
+    }
+    Ok(None)
+}
+
+// Whether a row stands behind the last of the others by its key, or there are none.
+fn is_row_behind(rows: &[Row], row: &Row) -> bool
+    requires sheet { All (λ other. other.sheet ≡ row.now.sheet) rows.now }
+    ensures { result ≡ is_behind key rows.now row.now }
+{
+    match rows.last() {
+        Some(last) => last.precedes(row),
+        None => true,
+    }
+}
+
+/// Whether the keys of these rows of a sheet rise.
+pub fn are_rows_rising(sheet: Sheet, rows: &[Row]) -> bool
+    requires { All (IsRowOf sheet) rows.now }
+    ensures { IsTrue result ↔ AreRising (map key rows.now) }
+{
+    for index in 0..rows.len() {
+        if !is_row_behind(&rows[..index], &rows[index]) {
+            return false;
+        }
+    }
+    true
+}
+
+/// Whether the keys of these changes of a sheet rise.
+pub fn are_changes_rising(sheet: Sheet, changes: &[Change]) -> bool
+    requires { All (IsChangeOf sheet) changes.now }
+    ensures { IsTrue result ↔ AreRising (map changed_key changes.now) }
+{
+    for index in 0..changes.len() {
+        if !is_change_behind(&changes[..index], &changes[index]) {
+            return false;
+        }
+    }
+    true
+}
+
+/// The rows whose lines these are. The bytes are UTF-8.
+pub fn read_rows(alloc: Global, sheet: Sheet, bytes: &[u8]) -> Result<List<Row>, FormFault>
+    requires { IsUtf8 bytes.now }
+    ensures found { IfOk result (λ rows. AreRead row_line (IsRowOf sheet) key bytes.now rows) }
+    ensures only { IsErrOf result FormFault.NotRead
+        → (rows : Items SheetRow) → AreRead row_line (IsRowOf sheet) key bytes.now rows → ⊥ }
+{
+    let mut rows = Vec::new(alloc);
+    let mut reader = Reader::new(bytes);
+    while !reader.is_done() {
+        let row = match read_row(alloc, sheet, &mut reader)? {
+            Some(row) => row,
+            None => return Err(FormFault::NotRead),
+        };
+        if !is_row_behind(rows.as_slice(), &row) {
+            return Err(FormFault::NotRead);
+        }
+        rows.push(row)?;
+    }
+    Ok(List::from(rows))
+}
+
+// Whether a change stands behind the last of the others by its key, or there are none.
+fn is_change_behind(changes: &[Change], change: &Change) -> bool
+    requires sheet { All (λ other. (changed_row other).sheet ≡ (changed_row change.now).sheet) changes.now }
+    ensures { result ≡ is_behind changed_key changes.now change.now }
+{
+    match changes.last() {
+        Some(last) => last.row().precedes(change.row()),
+        None => true,
+    }
+}
+
+/// The changes whose lines these are. The bytes are UTF-8.
+pub fn read_changes(alloc: Global, sheet: Sheet, bytes: &[u8]) -> Result<List<Change>, FormFault>
+    requires { IsUtf8 bytes.now }
+    ensures found { IfOk result (λ changes. AreRead change_line (IsChangeOf sheet) changed_key bytes.now changes) }
+    ensures only { IsErrOf result FormFault.NotRead
+        → (changes : Items Changed) → AreRead change_line (IsChangeOf sheet) changed_key bytes.now changes → ⊥ }
+{
+    let mut changes = Vec::new(alloc);
+    let mut reader = Reader::new(bytes);
+    while !reader.is_done() {
+        let change = match read_change(alloc, sheet, &mut reader)? {
+            Some(change) => change,
+            None => return Err(FormFault::NotRead),
+        };
+        if !is_change_behind(changes.as_slice(), &change) {
+            return Err(FormFault::NotRead);
+        }
+        changes.push(change)?;
+    }
+    Ok(List::from(changes))
+}

@@ -1,0 +1,62 @@
+// Why a text was not read.
+ghost use Rattle.std.specs.Prelude.{◌≡◌};
+
+use lei_outside::NoMemory;
+use std::alloc::{AllocError, AllocFailed};
+use std::error::Error;
+use std::fmt;
+
+/// Why a text was not read.
+#[derive(Clone, Copy, Debug, PartialEq, Eq)]
+pub enum FormFault {
+    /// It is no text of this form and this sheet.
+    NotRead,
+    /// Memory ran out.
+    NoMemory,
+}
+
+impl fmt::Display for FormFault {
+    ghost use Rattle.std.specs.Prelude.{Some};
+    ghost use Rattle.copy_csv.specs.Faults.{fault_words};
+
+    ghost output = { λ fault. Some (fault_words fault) };
+
+    fn fmt<W: fmt::Write>(&self, f: &mut fmt::Formatter<W>) -> fmt::Result {
+        match self {
+            FormFault::NotRead => write!(f, "the text is of another form"),
+            FormFault::NoMemory => write!(f, "out of memory"),
+        }
+    }
+}
+
+impl Error for FormFault {}
+
+impl From<AllocError> for FormFault {
+    ghost use Rattle.copy_csv.specs.declared.faults.FormFault.TheVariants.{NoMemory as OutOfMemory};
+
+    ghost from_gives = { λ _ e. e ≡ OutOfMemory };
+
+    fn from(_: AllocError) -> Self {
+        FormFault::NoMemory
+    }
+}
+
+impl<T: Drop> From<AllocFailed<T>> for FormFault {
+    ghost use Rattle.copy_csv.specs.declared.faults.FormFault.TheVariants.{NoMemory as OutOfMemory};
+
+    ghost from_gives = { λ _ e. e ≡ OutOfMemory };
+
+    fn from(_: AllocFailed<T>) -> Self {
+        FormFault::NoMemory
+    }
+}
+
+impl From<NoMemory> for FormFault {
+    ghost use Rattle.copy_csv.specs.declared.faults.FormFault.TheVariants.{NoMemory as OutOfMemory};
+
+    ghost from_gives = { λ _ e. e ≡ OutOfMemory };
+
+    fn from(_: NoMemory) -> Self {
+        FormFault::NoMemory
+    }
+}

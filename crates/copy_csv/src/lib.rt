@@ -1,0 +1,23 @@
+//! The rows of golden copies and of deltas, and their texts in CSV, printed and read back.
+#![tactic(auto)]
+
+mod csv_files;
+mod csv_read;
+mod csv_rows;
+mod csv_text;
+mod ends;
+mod faults;
+mod heads;
+mod rows;
+mod sheets;
+mod texts;
+
+pub use csv_files::{csv_copy_text, csv_delta_text, read_csv_copy, read_csv_delta};
+pub use csv_rows::{are_changes_rising, are_rows_rising};
+pub use csv_text::line_text;
+pub use ends::Ends;
+pub use faults::FormFault;
+pub use heads::{CopyRead, DeltaRead, Head};
+pub use rows::{Change, Row, RowTexts, TextChange};
+pub use sheets::{Form, Sheet};
+pub use texts::Texts;

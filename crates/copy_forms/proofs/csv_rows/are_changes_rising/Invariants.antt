@@ -1,7 +1,0 @@
-use Rattle.std.proofs.Common.{map, take}
-use Rattle.copy_forms.specs.Rows.{AreRising, changed_key}
-use Rattle.copy_forms.proofs.csv_rows.are_changes_rising.Given as goal
-
--- the keys so far rise
-abbrev pub invariant-loop-index : goal.invariant-loop-index
-invariant-loop-index l = AreRising (map changed_key (take l.index l.changes))

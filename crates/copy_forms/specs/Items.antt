@@ -1,0 +1,16 @@
+-- Items of the register, as the records of their rows.
+use Rattle.lei_code.specs.Texts.{Text}
+use Rattle.lei_records.specs.declared.item.Item.{Item}
+use Rattle.copy_csv.specs.declared.sheets.Sheet.{Sheet}
+use Rattle.copy_forms.specs.Json.{json_record}
+use Rattle.copy_csv.specs.Sheets.{SheetRow, row_of}
+
+-- The row of an item, in the sheet of its kind.
+abbrev pub sheet_row : Item → SheetRow
+sheet_row (Item.Record row) = row_of Sheet.Lei row
+sheet_row (Item.Relation row) = row_of Sheet.Rr row
+sheet_row (Item.Exception item) = row_of Sheet.Repex item.0
+
+-- The row as a JSON object of its present fields.
+abbrev pub item_text : Item → Text
+item_text item = json_record (sheet_row item)

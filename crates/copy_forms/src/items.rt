@@ -1,0 +1,57 @@
+//! Items of the register, as the records of their rows.
+ghost use Rattle.std.specs.Prelude.{◌≡◌, ◌≤◌, ◌++◌, IfOk, OnOk, length};
+ghost use Rattle.copy_forms.specs.Items.{item_text};
+ghost use Rattle.copy_forms.specs.Json.{field_at, json_record};
+ghost use Rattle.copy_forms.specs.JsonTexts as spec;
+ghost use Rattle.copy_csv.specs.Sheets;
+ghost use Rattle.copy_csv.specs.Sheets.{row_of};
+
+use crate::json_text::places;
+use copy_csv::Sheet;
+use json::Writer;
+use lei_outside::{Bytes, NoMemory, Texts};
+use lei_records::Item;
+use std::alloc::Global;
+
+/// The record of an item's row: the fields that are present, with names in byte order.
+pub fn item_text(alloc: Global, item: &Item) -> Result<Bytes, NoMemory>
+    ensures { IfOk result (λ text. text ≡ item_text item.now) }
+{
+    match item {
+        Item::Record(record) => fields_text(alloc, Sheet::Lei, record.texts()),
+        Item::Relation(relation) => fields_text(alloc, Sheet::Rr, relation.texts()),
+        Item::Exception(exception) => fields_text(alloc, Sheet::Repex, exception.texts()),
+    }
+}
+
+/// The record of the row that has these texts in order of place.
+pub fn fields_text(alloc: Global, sheet: Sheet, texts: &Texts) -> Result<Bytes, NoMemory>
+    requires { length texts.now ≡ Sheets.width sheet }
+    ensures { IfOk result (λ text. text ≡ json_record (row_of sheet texts.now)) }
+{
+    let mut out = Writer::new(Vec::with_capacity(alloc, 1024)?);
+    out.begin_object()?;
+    for place in places(sheet) {
+        put_field(&mut out, sheet, texts, usize::from(*place))?;
+    }
+    out.end_object()?;
+    Ok(Bytes::from(out.into_inner()))
+}
+
+// Writes the field at a place, unless it is absent.
+fn put_field(out: &mut Writer, sheet: Sheet, texts: &Texts, place: usize) -> Result<(), NoMemory>
+    requires wide { length texts.now ≡ Sheets.width sheet }
+    requires first { 1 ≤ place }
+    requires last { place ≤ Sheets.width sheet }
+    ensures before { out.new.before ≡ out.old.before }
+    ensures tokens { OnOk result (out.new.tokens ≡ out.old.tokens ++ spec.field_tokens (field_at (row_of sheet texts.now) place)) }
+{
+    let name = sheet.name_at(place);
+    let text = texts.text(place - 1);
+    if text.is_empty() {
+        return Ok(());
+    }
+    out.key(name)?;
+    out.string(text)?;
+    Ok(())
+}
