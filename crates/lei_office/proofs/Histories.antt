@@ -1,21 +1,16 @@
 -- Histories that grow by an entry: the table after them, and that they stay legal.
-use Rattle.std.proofs.Common.{◌≡◌, ℕ, ℤ, List, [], ◌∷◌, ◌++◌, ◌-◌, map, Bool, true, false, cond, ◌||◌, is_some, ltb, int_lt, length, Option, Some, None, Result, Ok, Err, refl, sym, ap, ◌∙◌, subst, append_assoc, append-nil, arith, length-append}
+use Rattle.std.proofs.Common.{◌≡◌, ℕ, ℤ, List, [], ◌∷◌, ◌++◌, ◌-◌, Bool, true, false, cond, ◌||◌, is_some, ltb, int_lt, length, Option, Some, None, option_map, Result, Ok, Err, refl, sym, ap, ◌∙◌, subst, append_assoc, append-nil, arith, length-append, inl, inr}
 use Rattle.std.proofs.Math.Seq.{get_or-append_seam}
 use Rattle.std.proofs.lemmas.Option.{slice_get-get_or}
 use Rattle.std.proofs.lemmas.List.Sums.{fold-append}
 use Rattle.std.specs.Int.{int_max}
-use Rattle.lei_outside.specs.declared.faults.NoMemory.{NoMemory}
 use Rattle.lei_outside.specs.declared.entry.KeptEntry.{KeptEntry}
 use Rattle.upload_format.specs.Bodies.{upload}
 use Rattle.upload_format.specs.declared.fault.Malformed.{Malformed}
 use Rattle.lei_records.specs.Rows.{Row}
-use Rattle.lei_records.specs.Items.{ready}
-use Rattle.lei_records.specs.Tables.{Table, put_all, row_at}
+use Rattle.lei_records.specs.Tables.{Table, row_at}
 use Rattle.lei_records.specs.declared.item.RawItem.{RawItem}
-use Rattle.lei_shapes.specs.Moment.{IsMoment, day_of}
-use Rattle.register_judge.specs.Taking.{take}
-use Rattle.register_judge.specs.declared.outcome.Verdict.{Verdict}
-use Rattle.register_judge.proofs.TakingLemmas.{take-written}
+use Rattle.lei_shapes.specs.Moment.{IsMoment}
 use Rattle.register_table.specs.Held.{no_rows}
 use Rattle.lei_office.specs.declared.limits.Limits.{Limits}
 use Rattle.lei_office.specs.declared.request.Call.{Call}
@@ -25,8 +20,8 @@ use Rattle.lei_office.specs.declared.reply.Refusal.TheVariants.{IssuerUnknown, L
 use Rattle.lei_office.specs.declared.reply.Reply.{Reply}
 use Rattle.lei_office.specs.declared.reply.Reply.TheVariants.{Words}
 use Rattle.upload_ledger.specs.History.{History, accredited, kept, Place, unknown_issuer, repeat_of, number_taken, ahead, fresh, place, last_entry, later, stamp}
-use Rattle.lei_office.specs.Register.{after, after_entry, items_in}
-use Rattle.lei_office.specs.Replies.{stays, adds, outcome, outcome_at, show_outcome, accredit_outcome, answer_outcome, is_full, is_too_much, status_outcome, upload_outcome, place_outcome, body_outcome, accreditation, upload_entry, taken_upload, history_after, next, Comes}
+use Rattle.lei_office.specs.Register.{after, after_entry}
+use Rattle.lei_office.specs.Replies.{stays, adds, outcome, outcome_at, show_outcome, accredit_outcome, answer_outcome, is_full, is_too_much, status_outcome, upload_outcome, place_outcome, body_outcome, accreditation, taken_upload, history_after, next, next_of, StepOf}
 use Rattle.lei_office.specs.Legal.{IsRequest, request_of, IsNext, LegalAfter, Legal}
 use Rattle.lei_office.specs.State.{OfficeState, office_of, opened}
 
@@ -35,16 +30,6 @@ use Rattle.lei_office.specs.State.{OfficeState, office_of, opened}
 pub after-push : (limits : Limits) (history : History) (e : KeptEntry) → after limits (history ++ e ∷ []) ≡ after_entry limits (after limits history) e
 unfolding after
 after-push limits history e = fold-append (after_entry limits) no_rows history (e ∷ [])
-
--- the entry of an upload puts what its items write
-pub after-upload : (limits : Limits) (history : History) (call : Call) (moment : ℤ) (raws : List RawItem) (verdicts : List Verdict) → upload call.body ≡ Ok raws
-    → after limits (history ++ upload_entry history call moment verdicts ∷ [])
-    ≡ put_all (take (after limits history) limits.records (day_of moment) call.office (map ready raws)).writes (after limits history)
-after-upload limits history call moment raws verdicts read =
-    let table = after limits history in
-    after-push limits history (upload_entry history call moment verdicts)
-    ∙ (ap (λ r. (take table limits.records (day_of moment) call.office (items_in r)).table) read
-    ∙ take-written table limits.records (day_of moment) call.office (map ready raws))
 
 -- ---- legality
 
@@ -136,6 +121,14 @@ last-has_moment limits before (e ∷ rest) legal has =
     let P : History → Type 0 = λ h. HasMoment (last_entry h) in
     subst P (append_assoc before (e ∷ []) rest) (last-has_moment limits (before ++ e ∷ []) rest legal.1 (subst M (sym (last_entry-push before e)) legal.0.3))
 
+-- the moment of the last entry, where each moment in the range is found
+pub last_found : (limits : Limits) (history : History) (e : KeptEntry) (found : Option ℤ) → Legal (office_of limits history) → Some e ≡ last_entry history
+    → (IsMoment e.moment → found ≡ Some e.moment) → found ≡ option_map (λ e. e.moment) (last_entry history)
+unfolding Legal
+last_found limits history e found legal is finds =
+    let has : HasMoment (last_entry history) = last-has_moment limits [] history legal tt in
+    finds (subst HasMoment (sym is) has) ∙ ap (option_map (λ e. e.moment)) is
+
 greater-is_moment : (b : Bool) (x y : ℤ) → IsMoment x → IsMoment y → IsMoment (cond b x y)
 greater-is_moment true x y of_x of_y = of_x
 greater-is_moment false x y of_x of_y = of_y
@@ -181,26 +174,13 @@ Legal-next limits history request moment asked is legal =
     ] refl
 
 -- a part of an office is given the stamp
-pub Legal-comes : (limits : Limits) (history : History) (request : Request) (moment at : ℤ) (result : Result Reply NoMemory) (new : History) → IsRequest request → IsMoment moment → at ≡ stamp history moment
-    → Legal (office_of limits history) → Comes request (outcome_at (office_of limits history) request at) history result new → Legal (office_of limits new)
-Legal-comes limits history request moment at (Ok answered) new asked is stamped legal comes =
-    let P : History → Type 0 = λ h. Legal (office_of limits h) in
-    subst P (sym (comes.1 ∙ ap (λ m. history_after history (outcome_at (office_of limits history) request m)) stamped)) (Legal-next limits history request moment asked is legal)
-Legal-comes limits history request moment at (Err wanted) new asked is stamped legal comes =
-    let P : History → Type 0 = λ h. Legal (office_of limits h) in
-    subst P (sym comes.0) legal
+Legal-same : (limits : Limits) (history new : History) → Legal (office_of limits history) → office_of limits new ≡ office_of limits history → Legal (office_of limits new)
+Legal-same limits history new legal same = subst Legal (sym same) legal
 
--- an accreditation leaves the table
-accredit_table : (limits : Limits) (history : History) (issuer : List ℕ) (moment : ℤ) (found : Option (List ℕ))
-    → after limits (history_after history (accredit_outcome (office_of limits history) issuer moment found)) ≡ after limits history
-accredit_table limits history issuer moment None =
-    elim (is_full (office_of limits history)) as (λ b. after limits (history_after history (cond b (stays (Words LedgerFull)) (adds (accreditation history issuer moment)))) ≡ after limits history) [
-      | true ↦ refl
-      | false ↦ after-push limits history (accreditation history issuer moment)
-    ]
-accredit_table limits history issuer moment (Some text) = refl
-
-pub after-accredit : (limits : Limits) (history : History) (issuer : List ℕ) (moment : ℤ) (result : Result Reply NoMemory) (new : History)
-    → Comes (Accredit issuer) (accredit_outcome (office_of limits history) issuer moment (accredited history issuer)) history result new → after limits new ≡ after limits history
-after-accredit limits history issuer moment (Ok answered) new comes = ap (after limits) comes.1 ∙ accredit_table limits history issuer moment (accredited history issuer)
-after-accredit limits history issuer moment (Err wanted) new comes = ap (after limits) comes.0
+pub Legal-step : (limits : Limits) (history : History) (request : Request) (moment at : ℤ) (answered : Reply) (new : History) → IsRequest request → IsMoment moment → at ≡ stamp history moment
+    → Legal (office_of limits history) → StepOf request (outcome_at (office_of limits history) request at) (office_of limits history) answered (office_of limits new) → Legal (office_of limits new)
+Legal-step limits history request moment at answered new asked is stamped legal (inl step) =
+    let office = office_of limits history in
+    subst Legal (sym (step.1 ∙ ap (λ m. next_of office (outcome_at office request m)) stamped)) (Legal-next limits history request moment asked is legal)
+Legal-step limits history request moment at answered new asked is stamped legal (inr (inl wanting)) = Legal-same limits history new legal wanting.1
+Legal-step limits history request moment at answered new asked is stamped legal (inr (inr failing)) = Legal-same limits history new legal failing.1

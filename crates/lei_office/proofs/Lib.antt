@@ -4,7 +4,9 @@ pub mod Answering
 pub mod Histories
 pub mod Orders
 pub mod Sessions
-pub mod Showing
+pub mod PlaceLemmas
 pub mod Telling
 pub mod Opening
 pub mod TableLemmas
+pub mod KeptLemmas
+pub mod Outcomes

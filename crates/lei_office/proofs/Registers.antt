@@ -66,7 +66,7 @@ ready-rows (RawItem.Record pairs ∷ raws) = readied-rows Kind.Record pairs (fai
 ready-rows (RawItem.Relation pairs ∷ raws) = readied-rows Kind.Relation pairs (failed_check Kind.Relation pairs) (map ready raws) refl (ready-rows raws)
 ready-rows (RawItem.Exception pairs ∷ raws) = readied-rows Kind.Exception pairs (failed_check Kind.Exception pairs) (map ready raws) refl (ready-rows raws)
 
-read-rows : (read : Result (List RawItem) Malformed) → HaveRows (items_in read)
+pub read-rows : (read : Result (List RawItem) Malformed) → HaveRows (items_in read)
 read-rows (Ok raws) = ready-rows raws
 read-rows (Err fault) = tt
 
@@ -156,7 +156,7 @@ pub record IsFit (limit : ℕ) (table : Table) : Type 0 where
   pub parents : HasParents table
   pub apart : AreApart table
 
-entry-fit : (limits : Limits) (table : Table) (e : KeptEntry) → IsFit limits.records table → IsFit limits.records (after_entry limits table e)
+pub entry-fit : (limits : Limits) (table : Table) (e : KeptEntry) → IsFit limits.records table → IsFit limits.records (after_entry limits table e)
 entry-fit limits table e fit =
     let rows = read-rows (upload e.body) in
     elim (e.kind == UPLOAD) as (λ b. IsFit limits.records (cond b (take_items limits table e (items_of e)).table table)) [
@@ -201,7 +201,7 @@ none-above : (lei next : List ℕ) → Contains (parents_of no_rows lei) next �
 none-above lei next at =
     nothing next (subst (λ parent. Contains (option_to_list parent) next) (none-active lei RelationType.IsDirectlyConsolidatedBy) at)
 
-none-fit : (limit : ℕ) → IsFit limit no_rows
+pub none-fit : (limit : ℕ) → IsFit limit no_rows
 none-fit limit = record {
   sound = record {
     keyed = λ key row at. absurd (is_some-none row _ (get-empty key_cmp key) at);

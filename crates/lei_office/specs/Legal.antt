@@ -96,7 +96,7 @@ Session old (asked ∷ asks) moments (answered ∷ replies) new =
     (given : List ℤ) × (rest : List ℤ) × (between : OfficeState) × (moments ≡ given ++ rest)
     × AskStep old asked given answered between × Session between asks rest replies new
 
--- The replies where memory is never wanting. Where the moments run out, nothing more is answered.
+-- The replies where memory is never wanting and the keeper never fails. Where the moments run out, nothing more is answered.
 abbrev pub replies_to : OfficeState → List Asked → List ℤ → List Reply
 replies_to office [] moments = []
 replies_to office (Refuse refusal ∷ asks) moments = Words refusal ∷ replies_to office asks moments

@@ -1,4 +1,3 @@
-pub mod Shown
 pub mod Limits
 pub mod State
 pub mod Answers
@@ -8,3 +7,7 @@ pub mod Legal
 pub mod Judging
 pub mod Parties
 pub mod Words
+pub mod Kept
+pub mod Deciding
+pub mod Offices
+pub mod Touching

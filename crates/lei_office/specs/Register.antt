@@ -1,5 +1,6 @@
 -- The register: the table that a history's uploads leave.
 use Rattle.std.specs.Prelude.{◌≡◌, ◌+◌, List, [], length, map, fold, if◌then◌else◌, Result, Ok, Err}
+use Rattle.std.specs.FinMap.{empty}
 use Rattle.lei_outside.specs.declared.entry.KeptEntry.{KeptEntry}
 use Rattle.lei_shapes.specs.Moment.{day_of}
 use Rattle.upload_format.specs.Bodies.{upload}
@@ -9,10 +10,12 @@ use Rattle.lei_records.specs.Tables.{Table}
 use Rattle.lei_records.specs.declared.item.RawItem.{RawItem}
 use Rattle.lei_records.specs.declared.item.Readied.{Readied}
 use Rattle.register_judge.specs.Taking.{Taken, take}
-use Rattle.register_table.specs.Held.{TableState, no_rows, rows}
-use Rattle.register_table.specs.Undos.{IsLater}
+use Rattle.register_table.specs.Held.{Held, TableState, no_rows, rows}
+use Rattle.register_table.specs.Undos.{IsLater, WriteList, touch_all}
 use Rattle.lei_office.specs.declared.limits.Limits.{Limits}
-use Rattle.upload_ledger.specs.History.{History, is_upload}
+use Rattle.lei_outside.specs.Keeping.{number_of}
+use Rattle.upload_ledger.specs.History.{History, is_upload, last_entry}
+use Rattle.lei_office.specs.State.{OfficeState}
 
 -- the items of a body after the checks of their fields, none of a body that is no upload
 abbrev pub items_in : Result (List RawItem) Malformed → List Readied
@@ -36,8 +39,28 @@ after_entry limits table e = if is_upload e then (take_items limits table e (ite
 unfoldable pub after : Limits → History → Table
 after limits history = fold (after_entry limits) no_rows history
 
--- The table that is kept after a history: its rows are those of the table after it, and no cell has a greater number than
--- the last entry.
+-- ---- the cells of the register
+
+-- what an entry writes, judged on a table: the accepted items of an upload, and nothing of any other entry
+abbrev pub entry_writes : Limits → Table → KeptEntry → WriteList
+entry_writes limits table e = if is_upload e then (take_items limits table e (items_of e)).writes else []
+
+-- the cells after an entry: each key that it writes has its number, and the row of the item or none
+abbrev pub held_after_entry : Limits → Held → KeptEntry → Held
+held_after_entry limits held e = touch_all e.seq (entry_writes limits (rows held) e) held
+
+-- the cells after a history, from none
+unfoldable pub held_after : Limits → History → Held
+held_after limits history = fold (held_after_entry limits) empty history
+
+-- The rows of the register's cells are those of the register.
+abbrev pub CellsHaveTheRows : OfficeState → Type 0
+CellsHaveTheRows office = rows (held_after office.limits office.history) ≡ after office.limits office.history
+
+-- The table that is kept after a history: it has the cells after it, their rows are those of the table after it, and no
+-- cell has a greater number than the last entry, whose number is how many there are.
 pub record IsKeptAfter (limits : Limits) (history : History) (table : TableState) : Type 0 where
+  pub held : table.held ≡ held_after limits history
   pub rows : rows table.held ≡ after limits history
   pub numbers : IsLater (length history + 1) table.held
+  pub last : number_of (last_entry history) ≡ length history

@@ -4,13 +4,13 @@ use Rattle.std.specs.FinMap.{len}
 use Rattle.lei_code.specs.Texts as texts
 use Rattle.lei_code.specs.Texts.{Lei}
 use Rattle.lei_outside.specs.declared.entry.KeptEntry.{KeptEntry}
-use Rattle.lei_outside.specs.declared.faults.NoMemory.{NoMemory as NoMemoryError}
 use Rattle.upload_format.specs.Bodies.{upload}
 use Rattle.upload_format.specs.declared.fault.Malformed.{Malformed}
 use Rattle.lei_shapes.specs.Moment.{day_of}
 use Rattle.lei_records.specs.Items.{ready}
 use Rattle.lei_records.specs.Rows.{Row}
 use Rattle.lei_records.specs.Tables.{Table, row_at}
+use Rattle.lei_records.specs.declared.item.Item.{Item}
 use Rattle.lei_records.specs.declared.item.RawItem.{RawItem}
 use Rattle.register_judge.specs.Taking.{take}
 use Rattle.register_judge.specs.declared.outcome.Verdict.{Verdict}
@@ -19,7 +19,7 @@ use Rattle.lei_office.specs.declared.request.Request.{Request}
 use Rattle.lei_office.specs.declared.request.Request.TheVariants as requests
 use Rattle.lei_office.specs.declared.reply.Kind.TheVariants.{Json}
 use Rattle.lei_office.specs.declared.reply.Refusal.{Refusal}
-use Rattle.lei_office.specs.declared.reply.Refusal.TheVariants.{TooLong, NoRoute, Path, IssuerUnknown, NumberTaken, NumberAhead, LedgerFull, NotKept, LeiUnknown, NoMemory}
+use Rattle.lei_office.specs.declared.reply.Refusal.TheVariants.{TooLong, NoRoute, Path, IssuerUnknown, NumberTaken, NumberAhead, LedgerFull, NotKept, LeiUnknown, NoMemory, KeeperFault}
 use Rattle.lei_office.specs.declared.reply.Refusal.TheVariants as refusals
 use Rattle.lei_office.specs.declared.reply.Reply.{Reply}
 use Rattle.lei_office.specs.declared.reply.Reply.TheVariants.{Text, Words}
@@ -27,7 +27,7 @@ use Rattle.upload_ledger.specs.History.{History, accredited, kept, kept_bytes, P
 use Rattle.lei_office.specs.Answers.{accreditation_text, status_text, upload_text}
 use Rattle.lei_office.specs.Register.{after}
 use Rattle.lei_office.specs.State.{OfficeState}
-use Rattle.lei_office.specs.Shown.{record_text}
+use Rattle.copy_forms.specs.Items.{item_text}
 
 -- A request leaves the history, and has this reply; or it adds this entry, and has the entry's reply.
 pub data Outcome : Type 0 where
@@ -134,10 +134,10 @@ kept_outcome history issuer number =
     if is_some (accredited history issuer) then answer_outcome (kept history issuer number)
     else stays (Words IssuerUnknown)
 
--- a record is shown as it is held
+-- a record is shown as it is held: a JSON object of its present fields
 abbrev pub show_outcome : Option Row → Outcome
 show_outcome None = stays (Words LeiUnknown)
-show_outcome (Some row) = stays (json_reply 200 (record_text row))
+show_outcome (Some row) = stays (json_reply 200 (item_text (Item.Record row)))
 
 -- how many records, relationships and exceptions a table has
 abbrev pub held_counts : Table → ℕ × ℕ × ℕ
@@ -184,7 +184,7 @@ reply office request moment = reply_of (outcome office request moment)
 abbrev pub next : OfficeState → Request → ℤ → OfficeState
 next office request moment = next_of office (outcome office request moment)
 
--- ---- one step, which want of memory may stop
+-- ---- one step, which want of memory or the keeper may stop
 
 -- An upload is refused for a full ledger once its body was read, and an accreditation at once.
 abbrev pub full_needs_memory : Request → Bool
@@ -207,24 +207,25 @@ needs_memory request LedgerFull = full_needs_memory request
 needs_memory request NotKept = false
 needs_memory request LeiUnknown = false
 needs_memory request NoMemory = true
+needs_memory request KeeperFault = false
 
 -- a reply to this request whose making takes memory
 abbrev pub takes_memory : Request → Reply → Bool
 takes_memory request (Text code kind text) = true
 takes_memory request (Words refusal) = needs_memory request refusal
 
--- The request's reply, and the office after it. Where the reply takes memory, its want may be answered in its
--- place, and then nothing changes.
+-- an entry would be added
+abbrev pub IsAddition : Outcome → Type 0
+IsAddition (stays reply) = ⊥
+IsAddition (adds e) = Unit {0}
+
+-- The request's reply, and the office after it. Where the reply takes memory, its want may be answered in its place, and
+-- where an entry would be added, that it couldn't be kept; then nothing changes.
 abbrev pub StepOf : Request → Outcome → OfficeState → Reply → OfficeState → Type 0
 StepOf request outcome old answered new = ((answered ≡ reply_of outcome) × (new ≡ next_of old outcome))
     ⊎ ((answered ≡ Words NoMemory) × (new ≡ old) × IsTrue (takes_memory request (reply_of outcome)))
+    ⊎ ((answered ≡ Words KeeperFault) × (new ≡ old) × IsAddition outcome)
 
 -- a request that comes at a moment of the clock makes such a step
 abbrev pub Step : OfficeState → Request → ℤ → Reply → OfficeState → Type 0
 Step old request moment answered new = StepOf request (outcome old request moment) old answered new
-
--- what a part of an office answers to a request: the reply and the history after it, or want of memory where the
--- reply takes it
-abbrev pub Comes : Request → Outcome → History → Result Reply NoMemoryError → History → Type 0
-Comes request outcome old (Ok answered) new = (answered ≡ reply_of outcome) × (new ≡ history_after old outcome)
-Comes request outcome old (Err wanted) new = (new ≡ old) × IsTrue (takes_memory request (reply_of outcome))

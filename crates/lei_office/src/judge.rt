@@ -10,7 +10,7 @@ ghost use Rattle.lei_office.specs.Judging.{ShowsTaken};
 use lei_code::Lei;
 use lei_outside::NoMemory;
 use lei_records::{RawItem, Readied, ready};
-use lei_shapes::Moment;
+use lei_shapes::day_number;
 use register_judge::{JudgeStop, Outcome, judge_all};
 use register_table::Table;
 use std::alloc::Global;
@@ -33,7 +33,14 @@ pub fn judge(
 {
     let items = ready_all(alloc, raws)?;
     let room = records.saturating_sub(table.held());
-    match judge_all(alloc, table, room, issuer, day(moment), items.as_slice()) {
+    match judge_all(
+        alloc,
+        table,
+        room,
+        issuer,
+        day_number(moment),
+        items.as_slice(),
+    ) {
         Ok(outcome) => Ok(outcome),
         Err(JudgeStop::NoMemory) => Err(NoMemory),
         Err(JudgeStop::NeedCell(_)) => unreachable!(),
@@ -49,15 +56,4 @@ fn ready_all(alloc: Global, raws: &[RawItem]) -> Result<Vec<Readied>, NoMemory>
         items.push(ready(alloc, raw)?)?;
     }
     Ok(items)
-}
-
-// The number of the moment's day in UTC, where 1970-01-01 is 0.
-fn day(moment: i64) -> i32
-    requires { IsMoment moment }
-    ensures { result ≡ day_of moment }
-{
-    match Moment::of(moment) {
-        Some(moment) => moment.day(),
-        None => unreachable!(),
-    }
 }

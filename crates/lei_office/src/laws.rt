@@ -8,13 +8,14 @@ ghost use Rattle.register_judge.specs.Taking.{take};
 ghost use Rattle.lei_office.specs.Answers.{IsTold};
 ghost use Rattle.successor_rules.specs.Successors.{HasChains};
 ghost use Rattle.relation_rules.specs.Parents.{AreApart, HasParents};
-ghost use Rattle.lei_office.specs.declared.reply.Refusal.TheVariants.{NoMemory};
+ghost use Rattle.lei_office.specs.declared.reply.Refusal.TheVariants.{KeeperFault, NoMemory};
 ghost use Rattle.lei_office.specs.declared.reply.Reply.{Reply};
 ghost use Rattle.lei_office.specs.declared.reply.Reply.TheVariants.{Words};
 ghost use Rattle.lei_office.specs.declared.request.Asked.{Asked};
 ghost use Rattle.lei_office.specs.Legal.{Legal, MomentsNeverFall, Session, UploadsAreNumbered, replies_to};
 ghost use Rattle.lei_office.specs.Parties.{ChangesArePermitted, ChangesMakeRecords};
-ghost use Rattle.lei_office.specs.Register.{after};
+ghost use Rattle.lei_office.specs.Kept.{TablesAreOne};
+ghost use Rattle.lei_office.specs.Register.{CellsHaveTheRows, after};
 ghost use Rattle.lei_office.specs.State.{OfficeState};
 
 /// In a history that can come about no entry's moment is later than that of the next one.
@@ -65,9 +66,19 @@ pub fn verdicts_are_told()
         All IsTold (take table limit today issuer (map ready raws)).verdicts }
 {}
 
-/// Where want of memory is never answered, the replies are those that the requests and their moments determine.
+/// The rows of the cells that are kept of a register are those of the register.
+pub fn cells_have_the_rows()
+    ensures { (office : OfficeState) → CellsHaveTheRows office }
+{}
+
+/// No two tables are those that are kept of one office.
+pub fn kept_tables_are_one()
+    ensures { (office : OfficeState) → TablesAreOne office }
+{}
+
+/// Where neither want of memory nor a fault of the keeper is answered, the replies are those that the requests and their moments determine.
 pub fn sessions_are_exact()
     ensures { (old new : OfficeState) (asks : List Asked) (moments : List ℤ) (replies : List Reply) →
         Session old asks moments replies new → ¬ (Contains replies (Words NoMemory))
-        → replies ≡ replies_to old asks moments }
+        → ¬ (Contains replies (Words KeeperFault)) → replies ≡ replies_to old asks moments }
 {}

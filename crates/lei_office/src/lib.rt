@@ -1,21 +1,22 @@
 //! The office of the register: what it answers to requests, and what it keeps of them.
 #![tactic(auto)]
 
+mod deciding;
 mod entries;
 mod judge;
+mod keeping;
 mod laws;
 mod limits;
 mod office;
 mod reply;
 mod request;
-mod show;
 mod texts;
 
 pub use entries::RULES;
 pub use laws::{
-    changes_are_permitted, changes_make_records, exceptions_stand_apart, moments_never_fall,
-    parents_are_chained, registers_are_sound, sessions_are_exact, successors_are_chained,
-    uploads_are_numbered, verdicts_are_told,
+    cells_have_the_rows, changes_are_permitted, changes_make_records, exceptions_stand_apart,
+    kept_tables_are_one, moments_never_fall, parents_are_chained, registers_are_sound,
+    sessions_are_exact, successors_are_chained, uploads_are_numbered, verdicts_are_told,
 };
 pub use limits::Limits;
 pub use office::Office;

@@ -33,6 +33,8 @@ pub enum Refusal {
     /// No record of this LEI is held.
     LeiUnknown,
     NoMemory,
+    /// The entry couldn't be kept.
+    KeeperFault,
 }
 
 impl Refusal {
@@ -49,6 +51,7 @@ impl Refusal {
             Refusal::NumberTaken | Refusal::NumberAhead(_) => 409,
             Refusal::TooLong => 413,
             Refusal::NoMemory => 500,
+            Refusal::KeeperFault => 503,
             Refusal::LedgerFull => 507,
         }
     }
@@ -72,6 +75,7 @@ impl Refusal {
             Refusal::NotKept => "NOT_KEPT",
             Refusal::LeiUnknown => "LEI_UNKNOWN",
             Refusal::NoMemory => "NO_MEMORY",
+            Refusal::KeeperFault => "KEEPER_FAULT",
         }
     }
 

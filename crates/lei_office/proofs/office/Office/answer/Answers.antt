@@ -2,7 +2,7 @@ use Rattle.std.proofs.Common.{◌≡◌, ℤ, sym, ap, ◌∙◌, subst, of_z, t
 use Rattle.lei_shapes.specs.Moment.{IsMoment}
 use Rattle.upload_ledger.specs.History.{stamp}
 use Rattle.lei_office.specs.State.{office_of}
-use Rattle.lei_office.proofs.Histories.{Legal-comes, stamp-is_moment}
+use Rattle.lei_office.proofs.Histories.{Legal-step, stamp-is_moment}
 use Rattle.lei_office.proofs.Orders.{never_fall, numbered}
 use Rattle.lei_office.proofs.Passing.{all_permitted}
 use Rattle.lei_office.proofs.Registers.{after-fit}
@@ -22,7 +22,7 @@ invariant_of-self g c =
     let answered = c.reply_to in
     let same : to_z w64 (of_z w64 c.stamp-moment.result) ≡ c.stamp-moment.result = search rules in
     let stamped = same ∙ (c.stamp-moment.ensures.stamp ∙ ap (λ h. stamp h c.args.moment) c.entries.ensures) in
-    (c.self.invariant.0, Legal-comes inside.limits inside.ledger.entries c.args.request.now c.args.moment _ answered.result answered.new.ledger.entries answered.ensures.request c.stamp-moment.ensures.moment stamped c.self.invariant.1 answered.ensures.step, answered.ensures.table)
+    (c.self.invariant.0, Legal-step inside.limits inside.ledger.entries c.args.request.now c.args.moment _ answered.result answered.new.ledger.entries answered.ensures.request c.stamp-moment.ensures.moment stamped c.self.invariant.1 answered.ensures.step, answered.ensures.table, answered.ensures.kept)
 
 pub returns-clause-legal : goal.returns-clause-legal
 returns-clause-legal g c =
@@ -30,7 +30,7 @@ returns-clause-legal g c =
     let answered = c.reply_to in
     let same : to_z w64 (of_z w64 c.stamp-moment.result) ≡ c.stamp-moment.result = search rules in
     let stamped = same ∙ (c.stamp-moment.ensures.stamp ∙ ap (λ h. stamp h c.args.moment) c.entries.ensures) in
-    Legal-comes inside.limits inside.ledger.entries c.args.request.now c.args.moment _ answered.result answered.new.ledger.entries answered.ensures.request c.stamp-moment.ensures.moment stamped c.self.invariant.1 answered.ensures.step
+    Legal-step inside.limits inside.ledger.entries c.args.request.now c.args.moment _ answered.result answered.new.ledger.entries answered.ensures.request c.stamp-moment.ensures.moment stamped c.self.invariant.1 answered.ensures.step
 
 pub returns-clause-sound : goal.returns-clause-sound
 returns-clause-sound g c = (after-fit c.self.inside.limits c.reply_to.new.ledger.entries).sound

@@ -1,0 +1,11 @@
+use Rattle.std.proofs.Common.{◌∙◌, ◌-◌, ap, length, option_map, slice_get}
+use Rattle.upload_ledger.specs.History.{last_entry}
+use Rattle.lei_office.proofs.Histories.{last_found}
+use Rattle.lei_office.proofs.office.Office.last_moment.Goals as goal
+
+pub returns : goal.returns
+returns g c =
+    let inside = c.self.inside in
+    last_found inside.limits inside.ledger.entries c.in_ok-entry.entry.now c.moment_of.result c.self.invariant.1
+    (c.in_ok-entry.ensures.value ∙ ap (λ l. slice_get l (length l - 1)) c.entries.ensures) c.moment_of.ensures
+    ∙ ap (λ o. option_map (λ e. e.moment) (last_entry o.office.history)) c.self.view_is
