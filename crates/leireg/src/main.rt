@@ -9,6 +9,7 @@ mod streams;
 
 use clock::SystemClock;
 use help::help_text;
+use lei_outside::SureKeeper;
 use leireg_run::run;
 use leireg_run::status::{NO_MEMORY, OK, USAGE, status_text};
 use std::process::ExitCode;
@@ -21,7 +22,17 @@ fn main(rt: HostRuntime) -> io::Result<ExitCode> {
             let mut input = StdSource::new(rt.stdin());
             let mut out = StdSink::new(rt.stdout());
             let mut clock = SystemClock::new(&rt);
-            run(&rt, rt.alloc(), &words, &mut input, &mut out, &mut clock)
+            let keeper = SureKeeper::new(rt.alloc());
+            let (status, _) = run(
+                &rt,
+                rt.alloc(),
+                &words,
+                &mut input,
+                &mut out,
+                keeper,
+                &mut clock,
+            );
+            status
         }
         Err(status) => status,
     };

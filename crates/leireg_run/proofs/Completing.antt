@@ -1,17 +1,24 @@
 -- Where nothing fails and no memory is wanting, all is done.
-use Rattle.std.proofs.Common.{◌≡◌, ◌≢◌, ◌<◌, ◌≤◌, ℕ, List, ◌++◌, length, Option, Some, None, unwrap_or, inl, inr, ap, sym, subst, ◌∙◌, arith, length-append}
+use Rattle.std.proofs.Common.{◌≡◌, ◌≢◌, ◌<◌, ◌≤◌, ℕ, List, ◌++◌, length, Option, Some, None, Contains, unwrap_or, inl, inr, ap, sym, subst, ◌∙◌, arith, length-append}
 use Rattle.std.proofs.lemmas.List.{append-nil}
 use Rattle.std.specs.Str.Lines.{lines}
 use Rattle.lei_code.specs.Fault.{fault_of}
 use Rattle.lei_code.specs.declared.fault.LeiFault.{LeiFault}
+use Rattle.lei_outside.specs.Count.{Rose}
 use Rattle.lei_outside.specs.Told.{Grows, Loses, IsAtEnd}
+use Rattle.lei_office.specs.declared.reply.Refusal.TheVariants.{NoMemory}
+use Rattle.lei_office.specs.declared.reply.Reply.TheVariants.{Words}
+use Rattle.lei_office.specs.Legal.{Session, replies_to}
+use Rattle.lei_office.specs.State.{OfficeState}
 use Rattle.lei_office.proofs.Sessions.{exact}
 use Rattle.leireg_run.specs.Codes.{check_line, digits_fault, digits_line, told_status, TellsLine}
 use Rattle.leireg_run.specs.Ends.{AnswersLines, EndsWith, IsComplete, Does, Completes}
+use Rattle.leireg_run.specs.Faults.{RoseBy, keeper_faults}
 use Rattle.leireg_run.specs.Limits.{input_limit}
 use Rattle.leireg_run.specs.Outside.{Course, Leads, Outside}
 use Rattle.leireg_run.specs.Runs.{asks_of, first_office}
 use Rattle.leireg_run.specs.Words.{Meant, to_answer_lines, to_check, to_make_digits}
+use Rattle.leireg_run.proofs.Counting.{none_told}
 
 -- what was read of told bytes, to their end
 told_read : (bytes read : List ℕ) (left : Option (List ℕ)) → Loses (Some bytes) left read → IsAtEnd left → read ≡ bytes
@@ -23,38 +30,51 @@ told_length bytes read None loses = absurd loses
 told_length bytes read (Some left) loses = let whole : length bytes ≡ length (read ++ left) = ap length loses in omega
     (arith, whole, length-append read left)
 
+-- where the keeper's count didn't rise, and memory was never wanting
+exactly : (bytes : List ℕ) (course : Course) (before now : ℕ) → course.first ≡ first_office
+    → AnswersLines (lines bytes) course → RoseBy (keeper_faults course.replies) before now → ¬ (Rose before now)
+    → ¬ (Contains course.replies (Words NoMemory))
+    → course.replies ≡ replies_to first_office (asks_of (lines bytes)) course.moments
+exactly bytes course before now first answered rose still lacks =
+    let asks = asks_of (lines bytes) in
+    let E : OfficeState → Type 0 = λ office. course.replies ≡ replies_to office asks course.moments in
+    subst E first (exact asks course.first course.last course.moments course.replies answered.session lacks
+    (none_told course.replies before now rose still))
+
 complete_of : (bytes : List ℕ) (before after : Outside) (course : Course) (status : ℕ) → status ≡ 0
-    → IsAtEnd after.left → Leads before course after
+    → IsAtEnd after.left → course.first ≡ first_office → Leads before course after
     → AnswersLines (lines bytes) course → IsComplete bytes before after status
-complete_of bytes before after course status is ended leads answered =
-    let run = answered.1 in
+complete_of bytes before after course status is ended first leads answered =
     let G : List ℕ → Type 0 = λ texts. Grows before.written after.written texts in
+    let S : OfficeState → Type 0 = λ office. Session office (asks_of (lines bytes)) course.moments course.replies
+    course.last in
     record {
       ok = is;
       ended = ended;
       moments = course.moments;
       gives = leads.gives;
-      replies = run.replies;
-      office = answered.0;
-      session = run.session;
-      writes = subst G run.texts leads.writes;
-      exact = exact (asks_of (lines bytes)) first_office answered.0 course.moments run.replies run.session;
+      replies = course.replies;
+      office = course.last;
+      session = subst S first answered.session;
+      writes = subst G answered.texts leads.writes;
+      keeps = leads.keeps;
+      exact = exactly bytes course before.faults after.faults first answered leads.refuses;
     }
 
 ends_done : (bytes : List ℕ) (before after : Outside) (course : Course) (status : ℕ) → status ≢ 3 → status ≢ 4
     → status ≢ 6 → length bytes < input_limit
-    → before.left ≡ Some bytes → Leads before course after → EndsWith status course after
+    → before.left ≡ Some bytes → course.first ≡ first_office → Leads before course after → EndsWith status course after
     → IsComplete bytes before after status
-ends_done bytes before after course status n3 n4 n6 short told leads (inl (is, (below, ended, answered))) =
+ends_done bytes before after course status n3 n4 n6 short told first leads (inl (is, (below, ended, answered))) =
     let L : Option (List ℕ) → Type 0 = λ all. Loses all after.left course.read in
     let A : List ℕ → Type 0 = λ xs. AnswersLines (lines xs) course in
-    complete_of bytes before after course status is ended leads
+    complete_of bytes before after course status is ended first leads
     (subst A (told_read bytes course.read after.left (subst L told leads.reads) ended) answered)
-ends_done bytes before after course status n3 n4 n6 short told leads (inr (inl (is, stops))) = absurd (n3 is)
-ends_done bytes before after course status n3 n4 n6 short told leads (inr (inr (inl (is, stops)))) = absurd (n4 is)
-ends_done bytes before after course status n3 n4 n6 short told leads (inr (inr (inr (inl (is, stops))))) = absurd
+ends_done bytes before after course status n3 n4 n6 short told first leads (inr (inl (is, stops))) = absurd (n3 is)
+ends_done bytes before after course status n3 n4 n6 short told first leads (inr (inr (inl (is, stops)))) = absurd (n4 is)
+ends_done bytes before after course status n3 n4 n6 short told first leads (inr (inr (inr (inl (is, stops))))) = absurd
     (n6 is)
-ends_done bytes before after course status n3 n4 n6 short told leads (inr (inr (inr (inr (is, stops))))) =
+ends_done bytes before after course status n3 n4 n6 short told first leads (inr (inr (inr (inr (is, stops))))) =
     let L : Option (List ℕ) → Type 0 = λ all. Loses all after.left course.read in
     let within = told_length bytes course.read after.left (subst L told leads.reads) in
     absurd (omega (arith, stops.3, within, short))
@@ -70,20 +90,21 @@ pub completes : (what : Meant) (before after : Outside) (status : ℕ) → statu
     → Does what before after status
     → Completes what before after status
 completes to_answer_lines before after status n3 n4 n6 runs =
-    λ bytes told short. ends_done bytes before after runs.course status n3 n4 n6 short told runs.leads runs.ends
+    λ bytes told short. ends_done bytes before after runs.course status n3 n4 n6 short told runs.first runs.leads runs.ends
 completes (to_check text) before after status n3 n4 n6 tells =
     tells_done (fault_of text) (check_line text) before.written after.written status n4 n6 tells
 completes (to_make_digits text) before after status n3 n4 n6 tells =
     tells_done (digits_fault text) (digits_line text) before.written after.written status n4 n6 tells
 
 -- nothing stopped what the words mean
-pub completes_meant : (command what : Meant) (meant : Option Meant) (before after : Outside) → Some command ≡ meant
-    → meant ≡ Some what
-    → Does command before after 0 → Completes what before after 0
-completes_meant command what meant before after is means does =
+pub completes_meant : (command what : Meant) (meant : Option Meant) (before after : Outside) (status : ℕ) → status ≡ 0
+    → Some command ≡ meant → meant ≡ Some what
+    → Does command before after status → Completes what before after 0
+completes_meant command what meant before after status ok is means does =
     let same : command ≡ what = ap (λ o. unwrap_or o command) (is ∙ means) in
     let D : Meant → Type 0 = λ m. Does m before after 0 in
+    let N : ℕ → Type 0 = λ n. Does command before after n in
     let n3 : 0 ≢ 3 = λ is. absurd (omega (arith, is)) in
     let n4 : 0 ≢ 4 = λ is. absurd (omega (arith, is)) in
     let n6 : 0 ≢ 6 = λ is. absurd (omega (arith, is)) in
-    completes what before after 0 n3 n4 n6 (subst D same does)
+    completes what before after 0 n3 n4 n6 (subst D same (subst N ok does))

@@ -5,26 +5,27 @@ use Rattle.std.proofs.Math.Seq.{take-length}
 use Rattle.std.specs.Str.Lines.{lines}
 use Rattle.lei_outside.specs.Told.{Grows, Loses, IsAtEnd, WritesFront}
 use Rattle.lei_outside.specs.declared.faults.SinkFault.{SinkFault}
-use Rattle.lei_outside.proofs.Told.{Grows-none, Grows-join, Loses-none, Loses-join}
+use Rattle.lei_outside.proofs.Told.{Grows-none, Loses-none, Loses-join}
+use Rattle.lei_outside.specs.Keeping.{KeptTables, nothing_kept}
 use Rattle.lei_office.specs.declared.request.Asked.{Asked}
+use Rattle.lei_office.specs.Kept.{Keeps}
+use Rattle.lei_office.specs.Limits.{standard}
+use Rattle.lei_office.proofs.TableLemmas.{keeps-none}
+use Rattle.std.specs.Prelude.{IfSome}
 use Rattle.lei_office.specs.State.{OfficeState}
-use Rattle.lei_office.specs.Legal.{Session}
-use Rattle.leireg_run.specs.Ends.{EndsWith, RunsLines, StopsWriting}
+use Rattle.leireg_run.specs.Ends.{AnswersLines, AnswersSome, EndsWith, RunsLines, StopsWriting}
 use Rattle.leireg_run.specs.Limits.{input_limit, line_limit, read_limit}
 use Rattle.leireg_run.specs.Lines.{HasNoEnd, IsClosed, Line, whole_part, last_part}
-use Rattle.leireg_run.specs.Moments.{Gives}
-use Rattle.leireg_run.specs.Outbox.{Sends}
-use Rattle.leireg_run.specs.Outside.{Course, Outside, outside}
+use Rattle.leireg_run.specs.Outside.{Course, Leads, Outside, outside}
 use Rattle.leireg_run.specs.Reading.{Holds, TakesIn}
 use Rattle.leireg_run.specs.Requests.{asked}
-use Rattle.leireg_run.specs.Replies.{reply_texts}
-use Rattle.leireg_run.specs.Runs.{asks_of, first_office, Answers, AnswersFront, AnswersAndPuts, Progress, progress}
+use Rattle.leireg_run.specs.Runs.{asks_of, first_office, Answers, AnswersInPart, ComesTo, GoesOn, Progress, Ran, Stopped, progress}
 use Rattle.leireg_run.specs.Window.{Fills, StaysUnread}
+use Rattle.leireg_run.proofs.Counting.{RoseBy-none}
 use Rattle.leireg_run.proofs.Giving.{Gives-none}
+use Rattle.leireg_run.proofs.Going.{Ran-nothing, all_answers, all_written, now_so, ran_flushed, ran_stops}
+use Rattle.leireg_run.proofs.Joining.{asks_of-append, lines_for}
 use Rattle.leireg_run.proofs.LineLemmas.{IsClosed-append, IsClosed-whole_part, HasNoEnd-last_part, HasNoEnd-nil, parts_of, whole_part-is, lines-end, lines-closed}
-use Rattle.leireg_run.proofs.Reading.{goes_on}
-use Rattle.leireg_run.proofs.Running.{Answered, Answered-nothing, AnswersFront-of, answers_more}
-use Rattle.leireg_run.proofs.Sending.{Grows-front}
 
 -- ---- what a reader holds
 
@@ -47,23 +48,11 @@ asks_of-last : (part : List ℕ) (test : Bool) → eqb (length part) 0 ≡ test
 asks_of-last part true is = ap (λ b. cond b [] (asked part ∷ [])) is
 asks_of-last part false is = refl
 
-Answers-last : (old new : OfficeState) (part : List ℕ) (moments : List ℤ) (texts : List ℕ)
-    → Answers old (part ∷ []) moments texts new
-    → Answers old (cond (eqb (length part) 0) [] (part ∷ [])) moments texts new
-Answers-last old new part moments texts run =
-    let S : List Asked → Type 0 = λ asks. Session old asks moments run.replies new in
-    let T : List Asked → Type 0 = λ asks. texts ≡ reply_texts asks run.replies in
-    record {
-      replies = run.replies;
-      session = subst S (asks_of-last part (eqb (length part) 0) refl) run.session;
-      texts = subst T (asks_of-last part (eqb (length part) 0) refl) run.texts;
-    }
-
 -- ---- between two reads
 
 -- a run that begins with this outside, before its first read
 abbrev at_first : Outside → Progress
-at_first begin = progress first_office [] begin.given begin.written
+at_first begin = progress first_office begin.faults [] begin.given begin.written
 
 -- So many bytes were read, of which those in front are whole lines and were answered, and the rest is held.
 pub record Midway (begin : Outside) (left : Option (List ℕ)) (count : ℕ) (now : Progress) (skips : Bool)
@@ -75,16 +64,17 @@ pub record Midway (begin : Outside) (left : Option (List ℕ)) (count : ℕ) (no
   pub below : count < input_limit
   pub loses : Loses begin.left left read
   pub parts : read ≡ front ++ part
-  pub answered : Answered (at_first begin) front now
+  pub closed : IsClosed front
+  pub ran : Ran (at_first begin) (asks_of (lines front)) now
   pub holds : Holds skips held part
 
 pub begins : (begin : Outside) (office : OfficeState) (waits : List ℕ) (skips : Bool) (held : List ℕ)
     → office ≡ first_office → waits ≡ [] → Holds skips held []
-    → Midway begin begin.left 0 (progress office waits begin.given begin.written) skips held
+    → Midway begin begin.left 0 (progress office begin.faults waits begin.given begin.written) skips held
 begins begin office waits skips held first empty holds =
     let at = at_first begin in
-    let A : OfficeState → Type 0 = λ o. Answered at [] (record at { office = o; waits = waits }) in
-    let B : List ℕ → Type 0 = λ xs. Answered at [] (record at { waits = xs }) in
+    let A : OfficeState → Type 0 = λ o. Ran at [] (record at { office = o; waits = waits }) in
+    let B : List ℕ → Type 0 = λ xs. Ran at [] (record at { waits = xs }) in
     record {
       read = [];
       front = [];
@@ -93,22 +83,17 @@ begins begin office waits skips held first empty holds =
       below = omega arith;
       loses = Loses-none begin.left;
       parts = refl;
-      answered = subst A (sym first) (subst B (sym empty) (Answered-nothing at));
+      closed = inl refl;
+      ran = subst A (sym first) (subst B (sym empty) (Ran-nothing at refl));
       holds = holds;
     }
 
 -- what waited was written
-Sends-all : (a b c : Option (List ℕ)) (all waits : List ℕ) → Sends a b all waits → Grows b c waits → Sends a c all []
-Sends-all a b c all waits sent more =
-    (sent.0 ++ waits, Grows-join a b c sent.0 waits sent.1 more, sent.2 ∙ sym (append-nil (sent.0 ++ waits)))
-
 pub flushed : (begin : Outside) (left : Option (List ℕ)) (count : ℕ) (now : Progress) (waits : List ℕ)
     (written : Option (List ℕ)) (skips : Bool) (held : List ℕ)
     → waits ≡ [] → Midway begin left count now skips held → Grows now.written written now.waits
-    → Midway begin left count (record now { waits = waits; written = written }) skips held
+    → Midway begin left count (now_so now waits written) skips held
 flushed begin left count now waits written skips held empty at more =
-    let done = at.answered.done in
-    let S : List ℕ → Type 0 = λ xs. Sends begin.written written done.texts xs in
     record {
       read = at.read;
       front = at.front;
@@ -117,16 +102,8 @@ flushed begin left count now waits written skips held empty at more =
       below = at.below;
       loses = at.loses;
       parts = at.parts;
-      answered = record {
-        closed = at.answered.closed;
-        done = record {
-          moments = done.moments;
-          texts = done.texts;
-          gives = done.gives;
-          answers = done.answers;
-          puts = subst S (sym empty) (Sends-all begin.written now.written written done.texts now.waits done.puts more);
-        };
-      };
+      closed = at.closed;
+      ran = ran_flushed (at_first begin) now (asks_of (lines at.front)) waits written at.ran empty more;
       holds = at.holds;
     }
 
@@ -182,13 +159,22 @@ record Further {E : Type 0} (begin : Outside) (left : Option (List ℕ)) (count 
   loses : Loses begin.left left read
   parts : read ≡ front ++ rest
   closed : IsClosed front
-  done : AnswersAndPuts (at_first begin) (lines front) result now
+  done : ComesTo (at_first begin) (asks_of (lines front)) result now
+
+-- and what it makes of what was answered
+comes_to : {T E : Type 0} (start now then : Progress) (front part : List ℕ) (result : Result T E) → IsClosed front
+    → Ran start (asks_of (lines front)) now → GoesOn now (asks_of (lines part)) result then
+    → ComesTo start (asks_of (lines (front ++ part))) result then
+comes_to start now then front part result closed ran goes =
+    let C : List Asked → Type 0 = λ asks. ComesTo start asks result then in
+    subst C (sym (ap asks_of (lines-closed front part closed) ∙ asks_of-append (lines front) (lines part)))
+    (goes start (asks_of (lines front)) ran)
 
 further : {E : Type 0} (begin : Outside) (mid left : Option (List ℕ)) (count n most seen : ℕ) (now then : Progress)
     (skips : Bool) (held window : List ℕ)
     (result : Result (Unit {0}) E) (part rest : List ℕ) → seen ≡ length held
     → (at : Midway begin mid count now skips held) → Fills mid left held window n most
-    → at.part ++ drop seen window ≡ part ++ rest → IsClosed part → AnswersAndPuts now (lines part) result then
+    → at.part ++ drop seen window ≡ part ++ rest → IsClosed part → GoesOn now (asks_of (lines part)) result then
     → Further begin left (count + n) rest result then
 further {E} begin mid left count n most seen now then skips held window result part rest same at fills parts closed
     done =
@@ -201,8 +187,8 @@ further {E} begin mid left count n most seen now then skips held window result p
       loses = Loses-join begin.left mid left at.read more at.loses fills.3;
       parts = whole_parts at.read at.front at.part more part rest at.parts
           (ap (λ xs. at.part ++ xs) (sym block.back) ∙ parts);
-      closed = IsClosed-append at.front part at.answered.closed closed;
-      done = goes_on {T = Unit {0}} {E = E} (at_first begin) now then at.front part result at.answered done;
+      closed = IsClosed-append at.front part at.closed closed;
+      done = comes_to (at_first begin) now then at.front part result at.closed at.ran done;
     }
 
 goes_so : {E : Type 0} (begin : Outside) (mid left : Option (List ℕ)) (count n most seen : ℕ) (now then : Progress)
@@ -222,9 +208,9 @@ pub takes_in : (begin : Outside) (mid left : Option (List ℕ)) (count n most se
     → Goes {E = SinkFault} seen skips window now (Ok (tt {0})) then skips_now held_now
     → Midway begin left (count + n) then skips_now held_now
 takes_in begin mid left count n most seen now then skips skips_now held window held_now same at fills below goes =
-    let went = goes_so begin mid left count n most seen now then skips skips_now held window held_now (Ok (tt {0}))
+    let went = goes_so {E = SinkFault} begin mid left count n most seen now then skips skips_now held window held_now (Ok (tt {0}))
     same at fills goes in
-    let all = further begin mid left count n most seen now then skips held window (Ok (tt {0})) went.0 went.1 same at
+    let all = further {E = SinkFault} begin mid left count n most seen now then skips held window (Ok (tt {0})) went.0 went.1 same at
     fills went.2 went.3 went.4 in
     record {
       read = all.read;
@@ -234,7 +220,8 @@ takes_in begin mid left count n most seen now then skips skips_now held window h
       below = below;
       loses = all.loses;
       parts = all.parts;
-      answered = record { closed = all.closed; done = all.done };
+      closed = all.closed;
+      ran = all.done;
       holds = went.5;
     }
 
@@ -260,8 +247,8 @@ lines-whole read front part parts closed none = ap (λ xs. lines (whole_part xs)
 -- ---- a run that stops
 
 -- the outside as a run leaves it
-abbrev pub left_so : Option (List ℕ) → Progress → Option (List ℕ) → Outside
-left_so left now written = outside left now.given written
+abbrev pub left_so : Option (List ℕ) → Option KeptTables → Progress → Option (List ℕ) → Outside
+left_so left kept now written = outside left now.given written kept now.faults
 
 abbrev pub IsCause : ℕ → Type 0
 IsCause status = (status ≡ 4) ⊎ (status ≡ 6)
@@ -271,151 +258,201 @@ stops_so : (status : ℕ) (course : Course) (after : Outside) → IsCause status
 stops_so status course after (inl is) stops = inr (inr (inl (is, stops)))
 stops_so status course after (inr is) stops = inr (inr (inr (inl (is, stops))))
 
--- an output that stopped has a front of the texts, of lines that are some of all
-record Stopped (before after : Option (List ℕ)) (moments : List ℤ) (all : List Line) : Type 0 where
-  written : List ℕ
-  grows : Grows before after written
-  answers : AnswersFront all moments written
+-- what a run did that the output stopped
+abbrev stopped_course : (begin : Outside) (read : List ℕ) (asks : List Asked) (now : Progress)
+    → Stopped (at_first begin) asks now → Course
+stopped_course begin read asks now stop = record {
+  first = first_office;
+  read = read;
+  moments = stop.moments;
+  replies = stop.replies;
+  written = stop.texts;
+  last = now.office;
+}
 
-stopped_at : (before after : Option (List ℕ)) (answered left : List Line) (moments : List ℤ) (texts : List ℕ)
-    (new : OfficeState)
-    → Answers first_office answered moments texts new → WritesFront before after texts
-    → Stopped before after moments (answered ++ left)
-stopped_at before after answered left moments texts new run front =
-    record {
-      written = take front.0 texts;
-      grows = front.2;
-      answers = AnswersFront-of answered left moments texts new
-          front.0 run;
-    }
+stopped_leads : (begin : Outside) (left : Option (List ℕ)) (kept : Option KeptTables) (read : List ℕ) (asks : List Asked)
+    (now : Progress) → (stop : Stopped (at_first begin) asks now) → Loses begin.left left read → Keeps kept now.office
+    → Leads begin (stopped_course begin read asks now stop) (left_so left kept now now.written)
+stopped_leads begin left kept read asks now stop loses keeps = record {
+  reads = loses;
+  gives = stop.gives;
+  writes = stop.grows;
+  keeps = keeps;
+  refuses = stop.refuses;
+}
+
+-- it has answered some of all lines
+stopped_some : (begin : Outside) (read : List ℕ) (all : List Line) (asks rest : List Asked) (now : Progress)
+    → asks_of all ≡ asks ++ rest → (stop : Stopped (at_first begin) asks now)
+    → AnswersSome all (stopped_course begin read asks now stop)
+stopped_some begin read all asks rest now is stop =
+    let some = lines_for all stop.told (stop.left ++ rest)
+    (is ∙ (ap (λ xs. xs ++ rest) stop.parts ∙ append_assoc stop.told stop.left rest)) in
+    let A : List Asked → Type 0 = λ asks. AnswersInPart first_office asks stop.moments stop.replies stop.texts now.office in
+    (some.front, some.rest, some.parts, subst A (sym some.asks) stop.answers)
 
 -- what a run that the output stopped has read, and which of the lines that ended were answered
-stops_within : (begin : Outside) (left : Option (List ℕ)) (now : Progress) (written : Option (List ℕ)) (status : ℕ)
-    (read front rest : List ℕ) (moments : List ℤ) (texts : List ℕ)
+stops_within : (begin : Outside) (left : Option (List ℕ)) (kept : Option KeptTables) (now : Progress) (status : ℕ)
+    (read front rest : List ℕ)
     → IsCause status → length read < input_limit → Loses begin.left left read → read ≡ front ++ rest → IsClosed front
-    → Gives begin.given now.given moments
-    → Answers first_office (lines front) moments texts now.office → WritesFront begin.written written texts
-    → RunsLines begin (left_so left now written) status
-stops_within begin left now written status read front rest moments texts cause below loses parts closed gives answers
-    took =
-    let S : List Line → Type 0 = λ ls. Stopped begin.written written moments ls in
-    let stopped = subst S (sym (lines-behind read front rest parts closed))
-    (stopped_at begin.written written (lines front) (lines (whole_part rest)) moments texts now.office answers
-    took) in
-    let course : Course = record { read = read; moments = moments; written = stopped.written } in
+    → Stopped (at_first begin) (asks_of (lines front)) now → Keeps kept now.office
+    → RunsLines begin (left_so left kept now now.written) status
+stops_within begin left kept now status read front rest cause below loses parts closed stop keeps =
+    let all = lines (whole_part read) in
+    let asks = asks_of (lines front) in
+    let is : asks_of all ≡ asks ++ asks_of (lines (whole_part rest)) =
+    ap asks_of (lines-behind read front rest parts closed)
+    ∙ asks_of-append (lines front) (lines (whole_part rest)) in
+    let course = stopped_course begin read asks now stop in
+    let some = stopped_some begin read all asks (asks_of (lines (whole_part rest))) now is stop in
     record {
       course = course;
-      leads = record { reads = loses; gives = gives; writes = stopped.grows };
-      ends = stops_so status course (left_so left now written) cause (below, inl stopped.answers);
+      first = refl;
+      leads = stopped_leads begin left kept read asks now stop loses keeps;
+      ends = stops_so status course (left_so left kept now now.written) cause (below, inl some);
     }
 
 -- memory was wanted before anything was read
-pub ends_at_once : (begin : Outside) (status : ℕ) → IsCause status → RunsLines begin begin status
-ends_at_once begin status cause =
-    let course : Course = record { read = []; moments = []; written = [] } in
+pub ends_at_once : (begin : Outside) (status : ℕ) → IsCause status → Keeps begin.kept first_office
+    → RunsLines begin begin status
+ends_at_once begin status cause keeps =
+    let course : Course = record {
+      first = first_office;
+      read = [];
+      moments = [];
+      replies = [];
+      written = [];
+      last = first_office;
+    } in
     record {
       course = course;
+      first = refl;
       leads = record {
         reads = Loses-none begin.left;
         gives = Gives-none begin.given;
         writes = Grows-none begin.written;
+        keeps = keeps;
+        refuses = RoseBy-none begin.faults begin.faults refl;
       };
       ends = stops_so status course begin cause (
         omega arith,
-        inl (record {
-          answered = [];
-          left = [];
-          parts = ap lines (whole_part-is [] [] (inl refl) HasNoEnd-nil);
-          replies = [];
-          office = first_office;
-          session = (refl, refl);
-          front = 0;
-          texts = refl;
-        }),
+        inl (
+          [],
+          [],
+          ap lines (whole_part-is [] [] (inl refl) HasNoEnd-nil),
+          record { session = (refl, refl); texts = refl },
+        ),
       );
     }
 
+-- memory was wanted, and the keeper came back as it was
+pub keeps_nothing_yet : {K : Type 0} (tables : K → Option KeptTables) (faults : K → ℕ) (left : Option (List ℕ))
+    (given : Option (List ℤ)) (written : Option (List ℕ)) (old new : K) → new ≡ old
+    → IfSome (tables old) (λ told. told ≡ nothing_kept)
+    → RunsLines (outside left given written (tables old) (faults old))
+    (outside left given written (tables new) (faults new)) 6
+keeps_nothing_yet {K} tables faults left given written old new same empty =
+    let begin = outside left given written (tables old) (faults old) in
+    let R : K → Type 0 = λ k. RunsLines begin (outside left given written (tables k) (faults k)) 6 in
+    subst R (sym same) (ends_at_once begin 6 (inr refl) (keeps-none standard (tables old) empty))
+
 -- the output refused what waited
-pub stops_waiting : (begin : Outside) (left : Option (List ℕ)) (count : ℕ) (now : Progress) (written : Option (List ℕ))
-    (skips : Bool) (held : List ℕ) (status : ℕ) → IsCause status
-    → Midway begin left count now skips held → WritesFront now.written written now.waits
-    → RunsLines begin (left_so left now written) status
-stops_waiting begin left count now written skips held status cause at front =
-    let done = at.answered.done in
-    let T : List ℕ → Type 0 = λ xs. WritesFront begin.written written xs in
-    let took = subst T (sym done.puts.2)
-    (Grows-front begin.written now.written written done.puts.0 now.waits done.puts.1 front) in
+pub stops_waiting : (begin : Outside) (left : Option (List ℕ)) (kept : Option KeptTables) (count : ℕ) (now : Progress)
+    (written : Option (List ℕ)) (skips : Bool) (held : List ℕ) (status : ℕ) → IsCause status
+    → Midway begin left count now skips held → WritesFront now.written written now.waits → Keeps kept now.office
+    → RunsLines begin (left_so left kept now written) status
+stops_waiting begin left kept count now written skips held status cause at front keeps =
     let below : length at.read < input_limit = omega (arith, at.long, at.below) in
-    stops_within begin left now written status at.read at.front at.part done.moments done.texts cause below at.loses
-    at.parts at.answered.closed done.gives done.answers took
+    stops_within begin left kept (now_so now [] written) status at.read at.front at.part cause below at.loses at.parts
+    at.closed (ran_stops (at_first begin) now (asks_of (lines at.front)) [] written at.ran front) keeps
 
 -- the output refused in a block
-pub stops_in : (begin : Outside) (mid left : Option (List ℕ)) (count n most seen : ℕ) (now then : Progress)
-    (skips skips_now : Bool) (held window held_now : List ℕ)
+pub stops_in : (begin : Outside) (mid left : Option (List ℕ)) (kept : Option KeptTables) (count n most seen : ℕ)
+    (now then : Progress) (skips skips_now : Bool) (held window held_now : List ℕ)
     (fault : SinkFault) (status : ℕ) → IsCause status → seen ≡ length held → Midway begin mid count now skips held
     → Fills mid left held window n most → count + n < input_limit
-    → Goes seen skips window now (Err fault) then skips_now held_now
-    → RunsLines begin (left_so left then then.written) status
-stops_in begin mid left count n most seen now then skips skips_now held window held_now fault status cause same at
-    fills below goes =
+    → Goes seen skips window now (Err fault) then skips_now held_now → Keeps kept then.office
+    → RunsLines begin (left_so left kept then then.written) status
+stops_in begin mid left kept count n most seen now then skips skips_now held window held_now fault status cause same at
+    fills below goes keeps =
     let went = goes_so begin mid left count n most seen now then skips skips_now held window held_now (Err fault) same
     at fills goes in
     let all = further begin mid left count n most seen now then skips held window (Err fault) went.0 went.1 same at
     fills went.2 went.3 went.4 in
     let short : length all.read < input_limit = omega (arith, all.long) in
-    stops_within begin left then then.written status all.read all.front went.1 all.done.moments all.done.texts cause
-    short all.loses all.parts all.closed all.done.gives all.done.answers all.done.puts
+    stops_within begin left kept then status all.read all.front went.1 cause short all.loses all.parts all.closed
+    all.done keeps
 
--- all replies to the lines in front were written
-all_sent : (before after : Option (List ℕ)) (texts waits : List ℕ) → waits ≡ [] → Sends before after texts waits
-    → Grows before after texts
-all_sent before after texts waits empty sent =
-    let G : List ℕ → Type 0 = λ xs. Grows before after xs in
-    subst G (sym (sent.2 ∙ (ap (λ xs. sent.0 ++ xs) empty ∙ append-nil sent.0))) sent.1
+-- ---- a run after which nothing waits
+
+-- what it did
+abbrev ran_course : (begin : Outside) (read : List ℕ) (asks : List Asked) (now : Progress) → Ran (at_first begin) asks now → Course
+ran_course begin read asks now ran = record {
+  first = first_office;
+  read = read;
+  moments = ran.moments;
+  replies = ran.replies ++ ran.late_replies;
+  written = ran.texts ++ ran.late_texts;
+  last = now.office;
+}
+
+ran_leads : (begin : Outside) (left : Option (List ℕ)) (kept : Option KeptTables) (read : List ℕ) (asks : List Asked)
+    (now : Progress) → (ran : Ran (at_first begin) asks now) → now.waits ≡ [] → Loses begin.left left read
+    → Keeps kept now.office → Leads begin (ran_course begin read asks now ran) (left_so left kept now now.written)
+ran_leads begin left kept read asks now ran none loses keeps = record {
+  reads = loses;
+  gives = ran.gives;
+  writes = all_written (at_first begin) now asks ran none;
+  keeps = keeps;
+  refuses = ran.refuses;
+}
+
+-- it has answered all lines
+answered_so : (begin : Outside) (now : Progress) (read : List ℕ) (all : List Line) (asks : List Asked)
+    → asks_of all ≡ asks → (ran : Ran (at_first begin) asks now) → AnswersLines all (ran_course begin read asks now ran)
+answered_so begin now read all asks is ran =
+    let A : List Asked → Type 0 = λ asks. Answers first_office asks ran.moments (ran.replies ++ ran.late_replies)
+    (ran.texts ++ ran.late_texts) now.office in
+    subst A (sym is) (all_answers (at_first begin) now asks ran)
 
 -- the input failed
-pub fails_reading : (begin : Outside) (mid left : Option (List ℕ)) (count : ℕ) (now : Progress) (skips : Bool)
-    (held held_now : List ℕ) → now.waits ≡ []
-    → Midway begin mid count now skips held → StaysUnread mid left held held_now
-    → RunsLines begin (left_so left now now.written) 3
-fails_reading begin mid left count now skips held held_now empty at unread =
-    let done = at.answered.done in
+pub fails_reading : (begin : Outside) (mid left : Option (List ℕ)) (kept : Option KeptTables) (count : ℕ) (now : Progress)
+    (skips : Bool) (held held_now : List ℕ) → now.waits ≡ []
+    → Midway begin mid count now skips held → StaysUnread mid left held held_now → Keeps kept now.office
+    → RunsLines begin (left_so left kept now now.written) 3
+fails_reading begin mid left kept count now skips held held_now empty at unread keeps =
+    let asks = asks_of (lines at.front) in
     let L : List ℕ → Type 0 = λ xs. Loses begin.left left xs in
-    let A : List Line → Type 0 = λ ls. Answers first_office ls done.moments done.texts now.office in
     let below : length at.read < input_limit = omega (arith, at.long, at.below) in
-    let whole = lines-whole at.read at.front at.part at.parts at.answered.closed
-    (holds-none skips held at.part at.holds) in
+    let whole = lines-whole at.read at.front at.part at.parts at.closed (holds-none skips held at.part at.holds) in
+    let loses = subst L (append-nil at.read) (Loses-join begin.left mid left at.read [] at.loses unread.0) in
     record {
-      course = record { read = at.read; moments = done.moments; written = done.texts };
-      leads = record {
-        reads = subst L (append-nil at.read) (Loses-join begin.left mid left at.read [] at.loses unread.0);
-        gives = done.gives;
-        writes = all_sent begin.written now.written done.texts now.waits empty done.puts;
-      };
-      ends = inr (inl (refl, (below, (now.office, subst A (sym whole) done.answers))));
+      course = ran_course begin at.read asks now at.ran;
+      first = refl;
+      leads = ran_leads begin left kept at.read asks now at.ran empty loses keeps;
+      ends = inr (inl (
+        refl,
+        (below, answered_so begin now at.read (lines (whole_part at.read)) asks (ap asks_of whole) at.ran),
+      ));
     }
 
 -- so many bytes were read that the run ends
-pub ends_too_long : (begin : Outside) (mid left : Option (List ℕ)) (count n most : ℕ) (now : Progress) (skips : Bool)
-    (held held_now : List ℕ) → now.waits ≡ []
+pub ends_too_long : (begin : Outside) (mid left : Option (List ℕ)) (kept : Option KeptTables) (count n most : ℕ)
+    (now : Progress) (skips : Bool) (held held_now : List ℕ) → now.waits ≡ []
     → Midway begin mid count now skips held → Fills mid left held held_now n most → n ≤ read_limit → 0 < n
-    → count + n ≡ input_limit
-    → RunsLines begin (left_so left now now.written) 8
-ends_too_long begin mid left count n most now skips held held_now empty at fills within some is =
+    → count + n ≡ input_limit → Keeps kept now.office
+    → RunsLines begin (left_so left kept now now.written) 8
+ends_too_long begin mid left kept count n most now skips held held_now empty at fills within some is keeps =
     let more = fills.0 in
-    let done = at.answered.done in
-    let A : List Line → Type 0 = λ ls. Answers first_office ls done.moments done.texts now.office in
-    let whole = lines-whole at.read at.front at.part at.parts at.answered.closed
-    (holds-none skips held at.part at.holds) in
+    let asks = asks_of (lines at.front) in
+    let whole = lines-whole at.read at.front at.part at.parts at.closed (holds-none skips held at.part at.holds) in
     let long : length (at.read ++ more) ≡ input_limit = length-append at.read more
     ∙ omega (arith, at.long, fills.1, is) in
+    let loses = Loses-join begin.left mid left at.read more at.loses fills.3 in
     record {
-      course = record { read = at.read ++ more; moments = done.moments; written = done.texts };
-      leads = record {
-        reads = Loses-join begin.left mid left at.read more at.loses fills.3;
-        gives = done.gives;
-        writes = all_sent begin.written now.written done.texts now.waits empty done.puts;
-      };
+      course = ran_course begin (at.read ++ more) asks now at.ran;
+      first = refl;
+      leads = ran_leads begin left kept (at.read ++ more) asks now at.ran empty loses keeps;
       ends = inr (inr (inr (inr (
         refl,
         (
@@ -425,7 +462,7 @@ ends_too_long begin mid left count n most now skips held held_now empty at fills
           long,
           omega (arith, fills.1),
           omega (arith, fills.1),
-          (now.office, subst A (sym whole) done.answers),
+          answered_so begin now (at.read ++ more) (lines (whole_part at.read)) asks (ap asks_of whole) at.ran,
         ),
       ))));
     }
@@ -458,7 +495,8 @@ reaches_end begin mid left count n most now skips held held_now none_read at fil
         loses = subst L (ap (λ xs. at.read ++ xs) none ∙ append-nil at.read)
             (Loses-join begin.left mid left at.read fills.0 at.loses fills.3);
         parts = at.parts;
-        answered = at.answered;
+        closed = at.closed;
+        ran = at.ran;
         holds = subst H (sym same) at.holds;
       };
       ended = fills.5 none_read;
@@ -467,89 +505,78 @@ reaches_end begin mid left count n most now skips held held_now none_read at fil
 -- the last line is answered, whatever the output does
 abbrev pub AnswersLast : {E : Type 0} → Bool → List ℕ → Progress → Result (Unit {0}) E → Progress → Type 0
 AnswersLast skips held now result then = (part : List ℕ) → Holds skips held part
-    → AnswersAndPuts {T = Unit {0}} now (part ∷ []) result then
+    → GoesOn {T = Unit {0}} now (asks_of (part ∷ [])) result then
 
 -- and with it all lines
 all_answered : {E : Type 0} (begin : Outside) (left : Option (List ℕ)) (now then : Progress) (skips : Bool)
     (held : List ℕ) (result : Result (Unit {0}) E)
     (end : AtEnd begin left now skips held) → AnswersLast skips held now result then
-    → AnswersAndPuts (at_first begin) (lines end.midway.read) result then
+    → ComesTo (at_first begin) (asks_of (lines end.midway.read)) result then
 all_answered begin left now then skips held result end goes =
     let at = end.midway in
-    let step = goes at.part at.holds in
     let last = cond (eqb (length at.part) 0) [] (at.part ∷ []) in
     let whole : lines at.read ≡ lines at.front ++ last = ap lines at.parts
-    ∙ lines-end at.front at.part at.answered.closed (holds-none skips held at.part at.holds) in
-    answers_more (at_first begin) now then at.front last (lines at.read) result whole at.answered
-    (record {
-      moments = step.moments;
-      texts = step.texts;
-      gives = step.gives;
-      answers = Answers-last now.office
-          then.office at.part step.moments step.texts step.answers;
-      puts = step.puts;
-    })
+    ∙ lines-end at.front at.part at.closed (holds-none skips held at.part at.holds) in
+    let asks : asks_of (lines at.read) ≡ asks_of (lines at.front) ++ asks_of (at.part ∷ []) = ap asks_of whole
+    ∙ (asks_of-append (lines at.front) last
+    ∙ ap (λ xs. asks_of (lines at.front) ++ xs) (sym (asks_of-last at.part (eqb (length at.part) 0) refl))) in
+    let C : List Asked → Type 0 = λ xs. ComesTo (at_first begin) xs result then in
+    subst C (sym asks) (goes at.part at.holds (at_first begin) (asks_of (lines at.front)) at.ran)
 
-stops_at_end : (begin : Outside) (left : Option (List ℕ)) (now then : Progress) (written : Option (List ℕ))
-    (skips : Bool) (held : List ℕ) (status : ℕ) (moments : List ℤ) (texts : List ℕ)
-    → IsCause status → (end : AtEnd begin left now skips held) → Gives begin.given then.given moments
-    → Answers first_office (lines end.midway.read) moments texts then.office → WritesFront begin.written written texts
-    → RunsLines begin (left_so left then written) status
-stops_at_end begin left now then written skips held status moments texts cause end gives answers took =
+stops_at_end : (begin : Outside) (left : Option (List ℕ)) (kept : Option KeptTables) (now then : Progress)
+    (skips : Bool) (held : List ℕ) (status : ℕ) → IsCause status → (end : AtEnd begin left now skips held)
+    → Stopped (at_first begin) (asks_of (lines end.midway.read)) then → Keeps kept then.office
+    → RunsLines begin (left_so left kept then then.written) status
+stops_at_end begin left kept now then skips held status cause end stop keeps =
     let at = end.midway in
-    let S : List Line → Type 0 = λ ls. Stopped begin.written written moments ls in
-    let stopped = subst S (append-nil (lines at.read))
-    (stopped_at begin.written written (lines at.read) [] moments texts then.office answers took) in
+    let all = lines at.read in
+    let asks = asks_of all in
     let below : length at.read < input_limit = omega (arith, at.long, at.below) in
-    let course : Course = record { read = at.read; moments = moments; written = stopped.written } in
+    let course = stopped_course begin at.read asks then stop in
+    let some = stopped_some begin at.read all asks [] then (sym (append-nil asks)) stop in
     record {
       course = course;
-      leads = record { reads = at.loses; gives = gives; writes = stopped.grows };
-      ends = stops_so status course (left_so left then written) cause (below, inr (end.ended, stopped.answers));
+      first = refl;
+      leads = stopped_leads begin left kept at.read asks then stop at.loses keeps;
+      ends = stops_so status course (left_so left kept then then.written) cause (below, inr (end.ended, some));
     }
 
 -- the output refused the last reply
-pub stops_last : (begin : Outside) (left : Option (List ℕ)) (now then : Progress) (skips : Bool) (held : List ℕ)
-    (fault : SinkFault) (status : ℕ) → IsCause status
-    → AtEnd begin left now skips held → AnswersLast skips held now (Err fault) then
-    → RunsLines begin (left_so left then then.written) status
-stops_last begin left now then skips held fault status cause end goes =
-    let all = all_answered begin left now then skips held (Err fault) end goes in
-    stops_at_end begin left now then then.written skips held status all.moments all.texts cause end all.gives
-    all.answers all.puts
+pub stops_last : (begin : Outside) (left : Option (List ℕ)) (kept : Option KeptTables) (now then : Progress)
+    (skips : Bool) (held : List ℕ) (fault : SinkFault) (status : ℕ) → IsCause status
+    → AtEnd begin left now skips held → AnswersLast skips held now (Err fault) then → Keeps kept then.office
+    → RunsLines begin (left_so left kept then then.written) status
+stops_last begin left kept now then skips held fault status cause end goes keeps =
+    stops_at_end begin left kept now then skips held status cause end
+    (all_answered begin left now then skips held (Err fault) end goes) keeps
 
 -- the output refused what waited at the end
-pub stops_sending : (begin : Outside) (left : Option (List ℕ)) (now then : Progress) (written : Option (List ℕ))
-    (skips : Bool) (held : List ℕ) (status : ℕ) → IsCause status
+pub stops_sending : (begin : Outside) (left : Option (List ℕ)) (kept : Option KeptTables) (now then : Progress)
+    (written : Option (List ℕ)) (skips : Bool) (held : List ℕ) (status : ℕ) → IsCause status
     → AtEnd begin left now skips held → AnswersLast {E = SinkFault} skips held now (Ok (tt {0})) then
-    → WritesFront then.written written then.waits
-    → RunsLines begin (left_so left then written) status
-stops_sending begin left now then written skips held status cause end goes front =
+    → WritesFront then.written written then.waits → Keeps kept then.office
+    → RunsLines begin (left_so left kept then written) status
+stops_sending begin left kept now then written skips held status cause end goes front keeps =
     let all = all_answered {E = SinkFault} begin left now then skips held (Ok (tt {0})) end goes in
-    let T : List ℕ → Type 0 = λ xs. WritesFront begin.written written xs in
-    let took = subst T (sym all.puts.2)
-    (Grows-front begin.written then.written written all.puts.0 then.waits all.puts.1 front) in
-    stops_at_end begin left now then written skips held status all.moments all.texts cause end all.gives all.answers
-    took
+    stops_at_end begin left kept now (now_so then [] written) skips held status cause end
+    (ran_stops (at_first begin) then (asks_of (lines end.midway.read)) [] written all front) keeps
 
 -- all was written
-pub ends_well : (begin : Outside) (left : Option (List ℕ)) (now then : Progress) (written : Option (List ℕ))
-    (skips : Bool) (held : List ℕ)
+pub ends_well : (begin : Outside) (left : Option (List ℕ)) (kept : Option KeptTables) (now then : Progress)
+    (written : Option (List ℕ)) (skips : Bool) (held : List ℕ)
     → AtEnd begin left now skips held → AnswersLast {E = SinkFault} skips held now (Ok (tt {0})) then
-    → Grows then.written written then.waits
-    → RunsLines begin (left_so left then written) 0
-ends_well begin left now then written skips held end goes more =
+    → Grows then.written written then.waits → Keeps kept then.office
+    → RunsLines begin (left_so left kept then written) 0
+ends_well begin left kept now then written skips held end goes more keeps =
     let at = end.midway in
+    let asks = asks_of (lines at.read) in
     let all = all_answered {E = SinkFault} begin left now then skips held (Ok (tt {0})) end goes in
-    let G : List ℕ → Type 0 = λ xs. Grows begin.written written xs in
+    let done = now_so then [] written in
+    let ran = ran_flushed (at_first begin) then asks [] written all refl more in
     let below : length at.read < input_limit = omega (arith, at.long, at.below) in
     record {
-      course = record { read = at.read; moments = all.moments; written = all.texts };
-      leads = record {
-        reads = at.loses;
-        gives = all.gives;
-        writes = subst G (sym all.puts.2)
-            (Grows-join begin.written then.written written all.puts.0 then.waits all.puts.1 more);
-      };
-      ends = inl (refl, (below, end.ended, (then.office, all.answers)));
+      course = ran_course begin at.read asks done ran;
+      first = refl;
+      leads = ran_leads begin left kept at.read asks done ran refl at.loses keeps;
+      ends = inl (refl, (below, end.ended, answered_so begin done at.read (lines at.read) asks refl ran));
     }

@@ -1,8 +1,11 @@
 pub mod Numbers
 pub mod Sending
 pub mod Giving
-pub mod Running
+pub mod Counting
 pub mod Fronts
+pub mod Joining
+pub mod Going
+pub mod Running
 pub mod Filling
 pub mod Asking
 pub mod LineLemmas

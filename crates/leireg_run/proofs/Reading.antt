@@ -7,19 +7,16 @@ use Rattle.lei_office.specs.declared.request.Asked.{Asked}
 use Rattle.lei_office.specs.declared.request.Asked.TheVariants.{Refuse}
 use Rattle.lei_office.specs.declared.reply.Refusal.TheVariants.{TooLong}
 use Rattle.lei_office.specs.declared.reply.Reply.TheVariants.{Words}
-use Rattle.lei_office.specs.State.{OfficeState}
-use Rattle.lei_office.specs.Legal.{AskStep}
 use Rattle.leireg_run.specs.Limits.{line_limit}
 use Rattle.leireg_run.specs.Lines.{HasNoEnd, IsClosed, Ends, Line, line_of}
 use Rattle.leireg_run.specs.Outbox.{Sends, Puts}
 use Rattle.leireg_run.specs.Reading.{Holds, TakesIn}
 use Rattle.leireg_run.specs.Replies.{reply_text}
 use Rattle.leireg_run.specs.Requests.{asked, asked_in, cut}
-use Rattle.leireg_run.specs.Runs.{Answers, AnswersAndPuts, Progress}
-use Rattle.leireg_run.proofs.Asking.{Answers-one}
+use Rattle.leireg_run.specs.Runs.{asks_of, GoesOn, Progress}
+use Rattle.leireg_run.proofs.Going.{Keeps, goes_on, keeps_nothing, late_goes, now_so}
+use Rattle.leireg_run.proofs.Joining.{Answers-one, asks_of-append, asks_of-one}
 use Rattle.leireg_run.proofs.LineLemmas.{HasNoEnd-append, IsClosed-append, length-line_of, lines-closed, lines-one}
-use Rattle.leireg_run.proofs.Giving.{Gives-none}
-use Rattle.leireg_run.proofs.Running.{Answered, Answered-nothing, answers_more}
 
 -- ---- lines that are too long
 
@@ -29,42 +26,31 @@ too_long line long =
     let is : ltb line_limit (length line) ≡ true = grind (arith, nat_tests) in
     ap (λ b. cond b (Refuse TooLong) (asked_in line (cut line))) is
 
-Answers-long : (old : OfficeState) (line : Line) → line_limit < length line
-    → Answers old (line ∷ []) [] (reply_text (Refuse TooLong) (Words TooLong)) old
-Answers-long old line long =
+asks_long : (line : Line) → line_limit < length line → asks_of (line ∷ []) ≡ Refuse TooLong ∷ []
+asks_long line long =
     let stands : eqb (length line) 0 ≡ false = grind (arith, nat_tests) in
-    let S : Asked → Type 0 = λ what. AskStep old what [] (Words TooLong) old in
-    let A : Asked → Type 0 = λ what. Answers old (line ∷ []) [] (reply_text what (Words TooLong)) old in
-    subst A (too_long line long) (Answers-one old old line [] (Words TooLong) stands (subst S (sym (too_long line long)) (refl, refl, refl)))
+    asks_of-one line stands ∙ ap (λ ask. ask ∷ []) (too_long line long)
 
--- a reply to such a line was put, which takes no moment and leaves the office
-abbrev put_so : Progress → List ℕ → Option (List ℕ) → Progress
-put_so at waits written = record at { waits = waits; written = written }
-
-puts_long : {T E : Type 0} (at : Progress) (asked_lines : List Line) (waits : List ℕ) (written : Option (List ℕ))
-    (result : Result T E)
-    → Answers at.office asked_lines [] (reply_text (Refuse TooLong) (Words TooLong)) at.office
+-- the refusal was put, which takes no moment and leaves the office
+long_goes_on : {T E : Type 0} (at : Progress) (asks : List Asked) (waits : List ℕ) (written : Option (List ℕ))
+    (result : Result T E) → asks ≡ Refuse TooLong ∷ []
     → Puts at.written written (at.waits ++ reply_text (Refuse TooLong) (Words TooLong)) result waits
-    → AnswersAndPuts at asked_lines result (put_so at waits written)
-puts_long at asked_lines waits written result answers puts =
-    record {
-      moments = [];
-      texts = reply_text (Refuse TooLong) (Words TooLong);
-      gives = Gives-none at.given;
-      answers = answers;
-      puts =
-          puts;
-    }
+    → GoesOn at asks result (now_so at waits written)
+long_goes_on at asks waits written result is puts =
+    let G : List Asked → Type 0 = λ asks. GoesOn at asks result (now_so at waits written) in
+    subst G (sym is) (late_goes at (Refuse TooLong) (Words TooLong) (reply_text (Refuse TooLong) (Words TooLong)) waits written result
+    refl (Answers-one at.office at.office (Refuse TooLong) [] (Words TooLong) (refl, refl, refl)) puts)
 
 -- ---- lines after lines
 
 -- more lines were answered after those in front
-pub goes_on : {T E : Type 0} (before mid after : Progress) (front more : List ℕ) (result : Result T E)
-    → Answered before front mid
-    → AnswersAndPuts mid (lines more) result after → AnswersAndPuts before (lines (front ++ more)) result after
-goes_on before mid after front more result answered then =
-    answers_more before mid after front (lines more) (lines (front ++ more)) result
-    (lines-closed front more answered.closed) answered then
+pub lines_on : {T E : Type 0} (before mid after : Progress) (front more : List ℕ) (result : Result T E)
+    → IsClosed front → Keeps before (asks_of (lines front)) mid
+    → GoesOn mid (asks_of (lines more)) result after → GoesOn before (asks_of (lines (front ++ more))) result after
+lines_on before mid after front more result closed first then =
+    let G : List Asked → Type 0 = λ asks. GoesOn before asks result after in
+    subst G (sym (ap asks_of (lines-closed front more closed) ∙ asks_of-append (lines front) (lines more)))
+    (goes_on before mid after (asks_of (lines front)) (asks_of (lines more)) result first then)
 
 -- ---- a block behind the begin of a line that is skipped
 
@@ -78,19 +64,12 @@ pub skips_all : (E : Type 0) (skips : Bool) (window held : List ℕ) (seen : ℕ
     → TakesIn {T = Unit {0}} {E = E} part (drop seen window) at (Ok (tt {0})) at skips held
 skips_all E true window held seen at part is none empty holds =
     let N : List ℕ → Type 0 = λ xs. HasNoEnd xs in
-    let more = drop seen window in
-    let nothing = (Answered-nothing at).done in (
+    let more = drop seen window in (
       [],
       part ++ more,
       refl,
       inl refl,
-      record {
-        moments = nothing.moments;
-        texts = nothing.texts;
-        gives = nothing.gives;
-        answers = nothing.answers;
-        puts = nothing.puts;
-      },
+      keeps_nothing at,
       (
         HasNoEnd-append part more holds.0 (subst N (sym (behind seen window holds.1)) none),
         empty,
@@ -108,14 +87,13 @@ long_parts seen window part before after none ends =
     ∙ (sym (append_assoc part (before ++ 10 ∷ []) after)
     ∙ ap (λ xs. xs ++ after) (sym (append_assoc part before (10 ∷ []))))
 
-long_line : (old : OfficeState) (part before : List ℕ) → HasNoEnd part → HasNoEnd before → line_limit + 1 < length part
-    → Answers old (lines ((part ++ before) ++ 10 ∷ [])) [] (reply_text (Refuse TooLong) (Words TooLong)) old
-long_line old part before none none' long =
-    let A : List Line → Type 0 = λ ls. Answers old ls [] (reply_text (Refuse TooLong) (Words TooLong)) old in
+asks_long_line : (part before : List ℕ) → HasNoEnd part → HasNoEnd before → line_limit + 1 < length part
+    → asks_of (lines ((part ++ before) ++ 10 ∷ [])) ≡ Refuse TooLong ∷ []
+asks_long_line part before none none' long =
     let line = line_of (part ++ before) in
     let is_long : line_limit < length line = omega
     (arith, length-line_of (part ++ before), length-append part before, long) in
-    subst A (sym (lines-one (part ++ before) (HasNoEnd-append part before none none'))) (Answers-long old line is_long)
+    ap asks_of (lines-one (part ++ before) (HasNoEnd-append part before none none')) ∙ asks_long line is_long
 
 -- nothing is asked of what was refused
 pub never : (P : Type 0) (result : Result (Unit {0}) SinkFault) → IsErr result → IfOk result (λ _. P)
@@ -128,11 +106,11 @@ pub long_stops : (skips : Bool) (window : List ℕ) (seen : ℕ) (at : Progress)
     → Puts {T = Unit {0}} at.written written (at.waits ++ reply_text (Refuse TooLong) (Words TooLong)) (Err fault) waits
     → Holds skips (take seen window) part
     → (part ++ drop seen window ≡ ((part ++ before) ++ 10 ∷ []) ++ after)
-    × AnswersAndPuts at (lines ((part ++ before) ++ 10 ∷ [])) result (put_so at waits written)
+    × GoesOn at (asks_of (lines ((part ++ before) ++ 10 ∷ []))) result (now_so at waits written)
 long_stops true window seen at waits written part before after fault (Err other) is failed ends puts holds = (
   long_parts seen window part before after holds.1 ends,
-  puts_long at (lines ((part ++ before) ++ 10 ∷ [])) waits written (Err other)
-      (long_line at.office part before holds.0 ends.none holds.2) puts,
+  long_goes_on {T = Unit {0}} at (asks_of (lines ((part ++ before) ++ 10 ∷ []))) waits written (Err other)
+      (asks_long_line part before holds.0 ends.none holds.2) puts,
 )
 long_stops skips window seen at waits written part before after fault (Ok done) is failed ends puts holds = cc
 long_stops false window seen at waits written part before after fault (Err other) is failed ends puts holds = cc
@@ -140,22 +118,19 @@ long_stops false window seen at waits written part before after fault (Err other
 pub long_goes : (skips : Bool) (window held : List ℕ) (skips_now : Bool) (seen : ℕ) (at : Progress) (waits : List ℕ)
     (written : Option (List ℕ)) (now : Progress) (part before after : List ℕ) (result : Result (Unit {0}) SinkFault)
     → skips ≡ true → Ends window before after → Sends at.written written (at.waits ++ reply_text (Refuse TooLong) (Words TooLong)) waits
-    → TakesIn [] after (put_so at waits written) result now skips_now held
+    → TakesIn [] after (now_so at waits written) result now skips_now held
     → Holds skips (take seen window) part → TakesIn part (drop seen window) at result now skips_now held
 long_goes true window held skips_now seen at waits written now part before after result is ends sent then holds =
     let long = (part ++ before) ++ 10 ∷ [] in
     let closed : IsClosed long = inr (part ++ before, refl) in
-    let answered : Answered at long (put_so at waits written) = record {
-      closed = closed;
-      done = puts_long at (lines long) waits written (Ok (tt {0}))
-          (long_line at.office part before holds.0 ends.none holds.2) sent;
-    } in (
+    let answered = long_goes_on {T = Unit {0}} {E = SinkFault} at (asks_of (lines long)) waits written (Ok (tt {0}))
+    (asks_long_line part before holds.0 ends.none holds.2) sent in (
       long ++ then.0,
       then.1,
       long_parts seen window part before after holds.1 ends
           ∙ (ap (λ xs. long ++ xs) then.2 ∙ sym (append_assoc long then.0 then.1)),
       IsClosed-append long then.0 closed then.3,
-      goes_on at (put_so at waits written) now long then.0 result answered then.4,
+      lines_on at (now_so at waits written) now long then.0 result closed answered then.4,
       then.5,
     )
 long_goes false window held skips_now seen at waits written now part before after result is ends sent then holds = cc
@@ -176,16 +151,16 @@ held_goes true window held skips_now seen at now part result is then holds = cc
 
 pub last_held : (skips : Bool) (held part : List ℕ) (at now : Progress) (result : Result (Unit {0}) SinkFault)
     → skips ≡ false
-    → AnswersAndPuts at (held ∷ []) result now → Holds skips held part → AnswersAndPuts at (part ∷ []) result now
+    → GoesOn at (asks_of (held ∷ [])) result now → Holds skips held part → GoesOn at (asks_of (part ∷ [])) result now
 last_held false held part at now result is then holds =
-    let A : List ℕ → Type 0 = λ line. AnswersAndPuts at (line ∷ []) result now in
-    subst A holds.1 then
+    let G : List ℕ → Type 0 = λ line. GoesOn at (asks_of (line ∷ [])) result now in
+    subst G holds.1 then
 last_held true held part at now result is then holds = cc
 
 pub last_long : (skips : Bool) (held part : List ℕ) (at : Progress) (waits : List ℕ) (written : Option (List ℕ))
     (result : Result (Unit {0}) SinkFault) → skips ≡ true
     → Puts at.written written (at.waits ++ reply_text (Refuse TooLong) (Words TooLong)) result waits → Holds skips held part
-    → AnswersAndPuts at (part ∷ []) result (put_so at waits written)
+    → GoesOn at (asks_of (part ∷ [])) result (now_so at waits written)
 last_long true held part at waits written result is puts holds =
-    puts_long at (part ∷ []) waits written result (Answers-long at.office part (omega (arith, holds.2))) puts
+    long_goes_on at (asks_of (part ∷ [])) waits written result (asks_long part (omega (arith, holds.2))) puts
 last_long false held part at waits written result is puts holds = cc

@@ -1,11 +1,12 @@
 -- What a sink took, piece after piece.
-use Rattle.std.proofs.Common.{◌≡◌, ℕ, ◌+◌, ◌<◌, List, [], ◌∷◌, ◌++◌, length, take, drop, get_or, flat_map, Bor, Option, Result, Ok, Err, refl, sym, ap, ◌∙◌, append_assoc, arith, length-append, subst}
+use Rattle.std.proofs.Common.{◌≡◌, ℕ, ◌+◌, ◌<◌, List, [], ◌∷◌, ◌++◌, length, take, drop, get_or, flat_map, Bor, Option, Result, Ok, Err, OnOk, OnErr, refl, sym, ap, ◌∙◌, append_assoc, arith, length-append, subst}
 use Rattle.std.proofs.lemmas.List.{append-nil, take-append-le, take-append-drop, take_more}
 use Rattle.std.proofs.lemmas.List.Concat.{flat_map-append}
 use Rattle.std.proofs.Math.Seq.{take-append-add}
 use Rattle.lei_outside.proofs.Told.{Grows-none, Grows-join}
 use Rattle.lei_outside.specs.Told.{Grows, WritesFront}
-use Rattle.leireg_run.specs.Outbox.{Sends, Puts}
+use Rattle.leireg_run.specs.Codes.{IsWritten}
+use Rattle.leireg_run.specs.Outbox.{Sends}
 
 pub Grows-front : (a b c : Option (List ℕ)) (xs ys : List ℕ) → Grows a b xs → WritesFront b c ys
     → WritesFront a c (xs ++ ys)
@@ -45,10 +46,16 @@ Sends-front a b c all waits piece first front =
     subst P (sym (append_assoc first.0 waits piece) ∙ ap (λ xs. xs ++ piece) (sym first.2))
     (Grows-front a b c first.0 (waits ++ piece) first.1 front)
 
-pub Puts-then : {T E : Type 0} (a b c : Option (List ℕ)) (all waits piece more : List ℕ) (result : Result T E)
-    → Sends a b all waits → Puts b c (waits ++ piece) result more → Puts a c (all ++ piece) result more
-Puts-then a b c all waits piece more (Ok x) first second = Sends-then a b c all waits piece more first second
-Puts-then a b c all waits piece more (Err e) first second = Sends-front a b c all waits piece first second
+-- what waits was sent, or refused
+pub sends_rest : {E : Type 0} (a b c : Option (List ℕ)) (all waits : List ℕ) (result : Result (Unit {0}) E)
+    → Sends a b all waits → OnOk result (Grows b c waits) → OnErr result (WritesFront b c waits)
+    → IsWritten a c all result
+sends_rest a b c all waits (Ok done) first grown front =
+    let G : List ℕ → Type 0 = λ xs. Grows a c xs in
+    subst G (sym first.2) (Grows-join a b c first.0 waits first.1 grown)
+sends_rest a b c all waits (Err fault) first grown front =
+    let W : List ℕ → Type 0 = λ xs. WritesFront a c xs in
+    subst W (sym first.2) (Grows-front a b c first.0 waits first.1 front)
 
 pub Sends-nothing : (a : Option (List ℕ)) (waits : List ℕ) → Sends a a waits waits
 Sends-nothing a waits = ([], Grows-none a, refl)

@@ -1,11 +1,13 @@
 -- How a run ends, by its command and its status.
 use Rattle.std.specs.Prelude.{◌≡◌, ◌<◌, ◌≤◌, ℕ, ℤ, List, ◌++◌, ◌⊎◌, length, Contains, Some}
 use Rattle.std.specs.Str.Lines.{lines}
+use Rattle.lei_outside.specs.Count.{Rose}
 use Rattle.lei_outside.specs.Told.{Grows, IsAtEnd}
 use Rattle.lei_code.specs.Fault.{fault_of}
 use Rattle.lei_office.specs.declared.reply.Refusal.TheVariants.{NoMemory}
 use Rattle.lei_office.specs.declared.reply.Reply.{Reply}
 use Rattle.lei_office.specs.declared.reply.Reply.TheVariants.{Words}
+use Rattle.lei_office.specs.Kept.{Keeps}
 use Rattle.lei_office.specs.State.{OfficeState}
 use Rattle.lei_office.specs.Legal.{Session, replies_to}
 use Rattle.leireg_run.specs.Codes.{check_line, digits_fault, digits_line, told_status, TellsLine}
@@ -14,20 +16,23 @@ use Rattle.leireg_run.specs.Lines.{Line, whole_part}
 use Rattle.leireg_run.specs.Moments.{Gives}
 use Rattle.leireg_run.specs.Outside.{Course, Leads, Outside}
 use Rattle.leireg_run.specs.Replies.{reply_texts}
-use Rattle.leireg_run.specs.Runs.{asks_of, first_office, Answers, AnswersFront}
+use Rattle.leireg_run.specs.Runs.{asks_of, first_office, Answers, AnswersInPart}
 use Rattle.leireg_run.specs.Words.{Meant, to_answer_lines, to_check, to_make_digits}
 
 -- ---- a run over lines, status by status
 
--- The lines were answered at the moments of the run, from an office without entries, and what was written are the
+-- The lines were answered at the moments of the run, from its first office to its last, and what was written are the
 -- texts of the replies in order.
 abbrev pub AnswersLines : List Line → Course → Type 0
 AnswersLines asked_lines course =
-    (office : OfficeState) × Answers first_office asked_lines course.moments course.written office
+    Answers course.first (asks_of asked_lines) course.moments course.replies course.written course.last
 
--- A front of the lines was answered so, and what was written is a front of the texts of the replies.
+-- A front of the lines was answered so, and no line behind it: of the last reply's text perhaps a front alone is
+-- written.
 abbrev pub AnswersSome : List Line → Course → Type 0
-AnswersSome some_lines course = AnswersFront some_lines course.moments course.written
+AnswersSome all_lines course =
+    (front : List Line) × (rest : List Line) × (all_lines ≡ front ++ rest)
+    × AnswersInPart course.first (asks_of front) course.moments course.replies course.written course.last
 
 -- Fewer bytes were read than end a run.
 abbrev pub IsShort : Course → Type 0
@@ -41,8 +46,9 @@ ReadsAll course after = IsShort course × IsAtEnd after.left × AnswersLines (li
 abbrev pub StopsReading : Course → Type 0
 StopsReading course = IsShort course × AnswersLines (lines (whole_part course.read)) course
 
--- Status 4, a write failed, and status 6, memory was wanted: a front of the lines that had ended was answered, and a
--- front of the texts of the replies is written. Where the input was read to its end, its last line had ended too.
+-- Status 4, a write failed, and status 6, memory was wanted: a front of the lines that had ended was answered, the
+-- replies are written, and of the last one's text perhaps a front alone. Where the input was read to its end, its
+-- last line had ended too.
 abbrev pub StopsWriting : Course → Outside → Type 0
 StopsWriting course after =
     IsShort course × (AnswersSome (lines (whole_part course.read)) course
@@ -64,9 +70,10 @@ EndsWith status course after =
     ⊎ ((status ≡ 6) × StopsWriting course after)
     ⊎ ((status ≡ 8) × StopsAtLimit course)
 
--- What a run over lines does to the outside, and how it ends.
+-- What a run over lines does to the outside, and how it ends. Its first office is one without entries.
 pub record RunsLines (before after : Outside) (status : ℕ) : Type 0 where
   pub course : Course
+  pub first : course.first ≡ first_office
   pub leads : Leads before course after
   pub ends : EndsWith status course after
 
@@ -82,7 +89,8 @@ Does (to_make_digits text) before after status =
     TellsLine (digits_fault text) (digits_line text) before.written after.written status
 
 -- All of these bytes were read, their lines answered at moments of the clock, and the replies written, with status
--- 0. Where memory is never wanting, the replies are those that the lines and the moments determine.
+-- 0. Where the keeper doesn't fail and memory is never wanting, the replies are those that the lines and the moments
+-- determine.
 pub record IsComplete (bytes : List ℕ) (before after : Outside) (status : ℕ) : Type 0 where
   pub ok : status ≡ 0
   pub ended : IsAtEnd after.left
@@ -92,7 +100,9 @@ pub record IsComplete (bytes : List ℕ) (before after : Outside) (status : ℕ)
   pub office : OfficeState
   pub session : Session first_office (asks_of (lines bytes)) moments replies office
   pub writes : Grows before.written after.written (reply_texts (asks_of (lines bytes)) replies)
-  pub exact : ¬ (Contains replies (Words NoMemory)) → replies ≡ replies_to first_office (asks_of (lines bytes)) moments
+  pub keeps : Keeps after.kept office
+  pub exact : ¬ (Rose before.faults after.faults) → ¬ (Contains replies (Words NoMemory))
+      → replies ≡ replies_to first_office (asks_of (lines bytes)) moments
 
 -- Where nothing fails and no memory is wanting, all is done: an input that is told and short enough is answered
 -- whole, and a text is told, with status 0 or 2.

@@ -2,6 +2,7 @@ pub mod Limits
 pub mod Requests
 pub mod Replies
 pub mod Outside
+pub mod Faults
 pub mod Outbox
 pub mod Runs
 pub mod Window

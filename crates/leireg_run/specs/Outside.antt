@@ -1,29 +1,49 @@
 -- The outside of a run, as its devices tell it, and what a run does there.
 use Rattle.std.specs.Prelude.{ℕ, ℤ, List, Option}
+use Rattle.lei_outside.specs.Keeping.{KeptTables}
 use Rattle.lei_outside.specs.Told.{Grows, Loses}
+use Rattle.lei_office.specs.declared.reply.Reply.{Reply}
+use Rattle.lei_office.specs.Kept.{Keeps}
+use Rattle.lei_office.specs.State.{OfficeState}
+use Rattle.leireg_run.specs.Faults.{RoseBy, keeper_faults}
 use Rattle.leireg_run.specs.Moments.{Gives}
 
 -- What the devices of a run tell at one time: the bytes that the input has left, the moments that the clock has
--- given, and the bytes that were written to the output. For a device that doesn't tell it, `None` stands.
+-- given, the bytes that were written to the output, what the keeper has kept, and how many calls of the keeper have
+-- failed. For a device that doesn't tell it, `None` stands.
 pub record Outside : Type 0 where
   pub left : Option (List ℕ)
   pub given : Option (List ℤ)
   pub written : Option (List ℕ)
+  pub kept : Option KeptTables
+  pub faults : ℕ
 
--- The outside of these three devices.
-abbrev pub outside : Option (List ℕ) → Option (List ℤ) → Option (List ℕ) → Outside
-outside left given written = record { left = left; given = given; written = written }
+-- The outside of these four devices.
+abbrev pub outside : Option (List ℕ) → Option (List ℤ) → Option (List ℕ) → Option KeptTables → ℕ → Outside
+outside left given written kept faults = record {
+  left = left;
+  given = given;
+  written = written;
+  kept = kept;
+  faults = faults;
+}
 
--- What a run does to the outside: the bytes that it reads, the moments that it is given, and the bytes that it
--- writes, each in their order.
+-- What a run does to the outside: the office that it begins with, the bytes that it reads, the moments that it is given,
+-- the replies that it gives, the bytes that it writes, each in their order, and the office that it ends with.
 pub record Course : Type 0 where
+  pub first : OfficeState
   pub read : List ℕ
   pub moments : List ℤ
+  pub replies : List Reply
   pub written : List ℕ
+  pub last : OfficeState
 
--- Between these two times a run did this and no more: the input lost what was read, the clock gave the moments, and
--- the output took what was written. A device that tells nothing says nothing of it.
+-- Between these two times a run did this and no more: the input lost what was read, the clock gave the moments, the
+-- output took what was written, the keeper has what the last office has taken, and it refused at least as often as is
+-- told in the replies. A device that tells nothing says nothing of it.
 pub record Leads (before : Outside) (course : Course) (after : Outside) : Type 0 where
   pub reads : Loses before.left after.left course.read
   pub gives : Gives before.given after.given course.moments
   pub writes : Grows before.written after.written course.written
+  pub keeps : Keeps after.kept course.last
+  pub refuses : RoseBy (keeper_faults course.replies) before.faults after.faults

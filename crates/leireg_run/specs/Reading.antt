@@ -3,7 +3,7 @@ use Rattle.std.specs.Prelude.{◌≡◌, ◌≤◌, ◌<◌, ◌+◌, ℕ, List,
 use Rattle.std.specs.Str.Lines.{lines}
 use Rattle.leireg_run.specs.Limits.{line_limit}
 use Rattle.leireg_run.specs.Lines.{HasNoEnd, IsClosed}
-use Rattle.leireg_run.specs.Runs.{AnswersAndPuts, Progress}
+use Rattle.leireg_run.specs.Runs.{asks_of, GoesOn, Progress}
 
 -- These are the bytes of a line that has no end yet. A reader holds them; or they are more than a line and a CR may
 -- have, and it holds none of them and skips the rest.
@@ -16,5 +16,5 @@ Holds true held part = HasNoEnd part × (held ≡ []) × (line_limit + 1 < lengt
 abbrev pub TakesIn : {T E : Type 0} → List ℕ → List ℕ → Progress → Result T E → Progress → Bool → List ℕ → Type 0
 TakesIn part more before result after skips held =
     (front : List ℕ) × (rest : List ℕ) × (part ++ more ≡ front ++ rest) × IsClosed front
-    × AnswersAndPuts before (lines front) result after
+    × GoesOn before (asks_of (lines front)) result after
     × IfOk result (λ _. Holds skips held rest)

@@ -2,14 +2,16 @@
 ghost use Rattle.std.specs.Prelude.{◌≡◌, ◌≤◌, ◌<◌, ◌+◌, [], ◌∷◌, length, take, drop, IfSome, IfNone, IsErrOf};
 ghost use Rattle.lei_outside.specs.Faults.{FailsLast};
 ghost use Rattle.lei_outside.specs.Clock.{Gave, IsClockMoment};
+ghost use Rattle.lei_office.specs.Legal.{IsNumbered};
+ghost use Rattle.lei_office.specs.declared.request.Asked.TheVariants.{Ask};
 ghost use Rattle.leireg_run.specs.Lines.{HasNoEnd, Ends, line_of};
-ghost use Rattle.leireg_run.specs.Runs.{progress, AnswersLine, AnswersAndPuts, AnswersWhole};
+ghost use Rattle.leireg_run.specs.Runs.{asks_of, progress, AnswersWhole, GoesOn};
 
 use crate::outbox::Outbox;
 use crate::requests::line_request;
-use crate::writing::put_reply;
-use lei_office::{Asked, Office, Refusal, Reply};
-use lei_outside::{Clock, NoMemory, Sink, SinkFault};
+use crate::writing::{put_refusal, send_reply};
+use lei_office::{Asked, Office, Refusal, Request};
+use lei_outside::{Clock, Keeper, NoMemory, Sink, SinkFault};
 use lei_shapes::Moment;
 use memchr::memchr;
 use std::alloc::Global;
@@ -26,44 +28,53 @@ fn moment_of<C: Clock>(clock: &mut C) -> Moment
     }
 }
 
-// The reply to a line that isn't empty. The clock is asked after the line was read, and only where it asks something.
-fn reply_to<R: Threads + Sync, C: Clock>(
+// Puts a request to the office, at the clock's moment. All earlier replies are written before, and its own is written
+// before anything else happens.
+fn answer_request<R: Threads + Sync, W: Sink, K: Keeper, C: Clock>(
     rt: &R,
-    alloc: Global,
-    office: &mut Office,
-    line: &[u8],
+    office: &mut Office<K>,
+    request: &Request,
     clock: &mut C,
-) -> Reply
-    ensures { AnswersLine office.old line.now (C.given clock.old) (C.given clock.new) result office.new }
+    outbox: &mut Outbox,
+    out: &mut W,
+) -> Result<(), SinkFault>
+    requires { IsNumbered request.now }
+    ensures answered { GoesOn
+        (progress office.old.office (K.faults office.old.keeper) outbox.old (C.given clock.old) (W.written out.old)) (Ask request.now ∷ []) result
+        (progress office.new.office (K.faults office.new.keeper) outbox.new (C.given clock.new) (W.written out.new)) }
+    ensures kept { ¬ (IsErrOf result SinkFault.Failed) → W.faults out.new ≡ W.faults out.old }
+    ensures failed { IsErrOf result SinkFault.Failed → FailsLast W.written W.faults out.old out.new }
 {
-    match line_request(alloc, line) {
-        Ok(Asked::Ask(request)) => office.answer(rt, &request, moment_of(clock)),
-        Ok(Asked::Refuse(refusal)) => Reply::Words(refusal),
-        Err(NoMemory) => Reply::Words(Refusal::NoMemory),
-    }
+    outbox.flush(out)?;
+    let reply = office.answer(rt, request, moment_of(clock));
+    send_reply(outbox, out, &reply)
 }
 
-/// Answers a line, and puts its reply. An empty line asks nothing.
-pub fn answer_line<R: Threads + Sync, W: Sink, C: Clock>(
+/// Answers a line. An empty line asks nothing. The clock is asked after the line was read, and only where the line
+/// asks something. The reader's own refusals may wait to be written.
+pub fn answer_line<R: Threads + Sync, W: Sink, K: Keeper, C: Clock>(
     rt: &R,
     alloc: Global,
-    office: &mut Office,
+    office: &mut Office<K>,
     line: &[u8],
     clock: &mut C,
     outbox: &mut Outbox,
     out: &mut W,
 ) -> Result<(), SinkFault>
-    ensures answered { AnswersAndPuts
-        (progress office.old outbox.old (C.given clock.old) (W.written out.old)) (line.now ∷ []) result
-        (progress office.new outbox.new (C.given clock.new) (W.written out.new)) }
+    ensures answered { GoesOn
+        (progress office.old.office (K.faults office.old.keeper) outbox.old (C.given clock.old) (W.written out.old)) (asks_of (line.now ∷ [])) result
+        (progress office.new.office (K.faults office.new.keeper) outbox.new (C.given clock.new) (W.written out.new)) }
     ensures kept { ¬ (IsErrOf result SinkFault.Failed) → W.faults out.new ≡ W.faults out.old }
     ensures failed { IsErrOf result SinkFault.Failed → FailsLast W.written W.faults out.old out.new }
 {
     if line.is_empty() {
         return Ok(());
     }
-    let reply = reply_to(rt, alloc, office, line, clock);
-    put_reply(outbox, out, &reply)
+    match line_request(alloc, line) {
+        Ok(Asked::Ask(request)) => answer_request(rt, office, &request, clock, outbox, out),
+        Ok(Asked::Refuse(refusal)) => put_refusal(outbox, out, refusal),
+        Err(NoMemory) => put_refusal(outbox, out, Refusal::NoMemory),
+    }
 }
 
 // The line that has these bytes before its LF: one CR at their end belongs to the end of the line.
@@ -93,10 +104,10 @@ pub fn next_end(rest: &[u8], seen: usize) -> Option<usize>
 
 /// Answers each whole line of a block, of which the first `seen` bytes have no line's end, and says how many bytes
 /// these lines take.
-pub fn answer_lines<R: Threads + Sync, W: Sink, C: Clock>(
+pub fn answer_lines<R: Threads + Sync, W: Sink, K: Keeper, C: Clock>(
     rt: &R,
     alloc: Global,
-    office: &mut Office,
+    office: &mut Office<K>,
     block: &[u8],
     mut seen: usize,
     clock: &mut C,
@@ -106,8 +117,8 @@ pub fn answer_lines<R: Threads + Sync, W: Sink, C: Clock>(
     requires within { seen ≤ length block.now }
     requires seen { HasNoEnd (take seen block.now) }
     ensures answered { AnswersWhole
-        (progress office.old outbox.old (C.given clock.old) (W.written out.old)) block.now result
-        (progress office.new outbox.new (C.given clock.new) (W.written out.new)) }
+        (progress office.old.office (K.faults office.old.keeper) outbox.old (C.given clock.old) (W.written out.old)) block.now result
+        (progress office.new.office (K.faults office.new.keeper) outbox.new (C.given clock.new) (W.written out.new)) }
     ensures kept { ¬ (IsErrOf result SinkFault.Failed) → W.faults out.new ≡ W.faults out.old }
     ensures failed { IsErrOf result SinkFault.Failed → FailsLast W.written W.faults out.old out.new }
 {

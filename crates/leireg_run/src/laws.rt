@@ -1,15 +1,7 @@
 //! Laws of the definitions. Each is the contract of a function that does nothing.
-ghost use Rattle.std.specs.Prelude.{◌≡◌, [], ◌∷◌, ◌++◌, codes, ℕ, ℤ, List};
+ghost use Rattle.std.specs.Prelude.{◌≡◌, [], ◌∷◌, ◌++◌, codes};
 ghost use Rattle.std.specs.Str.Lines.{lines};
 ghost use Rattle.leireg_run.specs.Lines.{carriage_return, line_feed};
-ghost use Rattle.leireg_run.specs.Runs.{AnswersFront, IsWrittenFront};
-
-/// What is written of a run that the output stopped belongs to a front of the lines: their replies are written whole,
-/// but for the last, of which perhaps only a front is.
-pub fn stopped_runs_are_runs()
-    ensures { (all : List (List ℕ)) (moments : List ℤ) (written : List ℕ) →
-        AnswersFront all moments written → IsWrittenFront all moments written }
-{}
 
 /// What std's `lines` makes of the ends of lines, by worked inputs: LF ends a line, and one CR before it belongs to the
 /// end. Behind the last LF a line stands only where there is a byte, and a CR there stays in it.

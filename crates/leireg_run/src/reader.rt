@@ -1,48 +1,62 @@
 //! The reader of lines: it answers those that are whole, and holds the one that has no end yet.
-ghost use Rattle.std.specs.Prelude.{◌≤◌, [], ◌∷◌, ◌++◌, ◌≡◌, List, ℕ, length, take, drop, IfOk, IsErrOf};
+ghost use Rattle.std.specs.Prelude.{◌≤◌, [], ◌∷◌, ◌++◌, ◌≡◌, List, ℕ, length, take, drop, IfErr, IfOk, IfSome, IsErrOf};
 ghost use Rattle.lei_outside.specs.Faults.{FailsLast};
-ghost use Rattle.lei_office.specs.declared.request.Asked.TheVariants.{Refuse};
+ghost use Rattle.lei_outside.specs.Keeping.{nothing_kept};
+ghost use Rattle.lei_office.specs.Kept.{Keeps};
 ghost use Rattle.leireg_run.specs.Lines.{HasNoEnd};
-ghost use Rattle.leireg_run.specs.Outbox.{Puts};
 ghost use Rattle.leireg_run.specs.Reading.{Holds, TakesIn};
-ghost use Rattle.leireg_run.specs.Replies.{reply_text};
-ghost use Rattle.leireg_run.specs.Runs.{first_office, progress, AnswersAndPuts};
+ghost use Rattle.leireg_run.specs.Runs.{asks_of, first_office, progress, GoesOn};
 
 use crate::answering::{answer_line, answer_lines};
 use crate::outbox::Outbox;
 use crate::requests::MAX_LINE;
 use crate::window::Window;
-use crate::writing::put_reply;
-use lei_office::{Limits, Office, Refusal, Reply};
-use lei_outside::{Clock, NoMemory, Sink, SinkFault};
+use crate::writing::put_refusal;
+use lei_office::{Limits, Office, Refusal};
+use lei_outside::{Clock, Keeper, NoMemory, Sink, SinkFault};
 use std::alloc::Global;
 use std::thread::Threads;
 
 /// The office, the bytes of the input that no line has used up, and the replies that wait to be written.
 #[derive(Drop)]
-pub struct Reader {
+pub struct Reader<K: Keeper> {
     pub alloc: Global,
-    pub office: Office,
+    pub office: Office<K>,
     pub window: Window,
     pub outbox: Outbox,
     /// Whether the line that has no end yet is too long, and its bytes are skipped.
     pub skips: bool,
 }
 
-impl Reader {
-    /// A reader that has read nothing, over an office without entries.
-    pub fn new(alloc: Global) -> Result<Self, NoMemory>
-        ensures office { IfOk result (λ reader. reader.office ≡ first_office) }
+impl<K: Keeper> Reader<K> {
+    /// A reader that has read nothing, over an office without entries. Where memory is wanting the keeper comes back.
+    pub fn new(alloc: Global, keeper: K) -> Result<Self, K>
+        requires { IfSome (K.tables keeper) (λ told. told ≡ nothing_kept) }
+        ensures office { IfOk result (λ reader. reader.office.office ≡ first_office) }
+        ensures keeper { IfOk result (λ reader. reader.office.keeper ≡ keeper) }
         ensures held { IfOk result (λ reader. Holds reader.skips reader.window []) }
         ensures waits { IfOk result (λ reader. reader.outbox ≡ []) }
+        ensures err { IfErr result (λ back. back ≡ keeper) }
     {
+        let Ok((window, outbox)) = parts(alloc) else {
+            return Err(keeper);
+        };
+        let office = Office::new(alloc, keeper, Limits::standard())?;
         Ok(Reader {
             alloc,
-            office: Office::new(alloc, Limits::standard())?,
-            window: Window::new(alloc)?,
-            outbox: Outbox::new(alloc)?,
+            office,
+            window,
+            outbox,
             skips: false,
         })
+    }
+
+    /// The keeper, which comes back with all that was taken.
+    pub fn close(self) -> K
+        ensures keeper { result ≡ self.office.keeper }
+        ensures kept { Keeps (K.tables result) self.office.office }
+    {
+        self.office.close()
     }
 
     /// Answers the lines that end in the window, of which the first `seen` bytes were held before, and holds what
@@ -58,8 +72,10 @@ impl Reader {
         requires seen { HasNoEnd (take seen self.old.window) }
         ensures answered { (part : List ℕ) → Holds self.old.skips (take seen self.old.window) part
             → TakesIn part (drop seen self.old.window)
-            (progress self.old.office self.old.outbox (C.given clock.old) (W.written out.old)) result
-            (progress self.new.office self.new.outbox (C.given clock.new) (W.written out.new))
+            (progress self.old.office.office (K.faults self.old.office.keeper) self.old.outbox
+            (C.given clock.old) (W.written out.old)) result
+            (progress self.new.office.office (K.faults self.new.office.keeper) self.new.outbox
+            (C.given clock.new) (W.written out.new))
             self.new.skips self.new.window }
         ensures kept { ¬ (IsErrOf result SinkFault.Failed) → W.faults out.new ≡ W.faults out.old }
         ensures failed { IsErrOf result SinkFault.Failed → FailsLast W.written W.faults out.old out.new }
@@ -69,7 +85,7 @@ impl Reader {
                 return Ok(());
             }
             self.skips = false;
-            put_too_long(&mut self.outbox, out)?;
+            put_refusal(&mut self.outbox, out, Refusal::TooLong)?;
             return self.answer_whole(rt, 0, clock, out);
         }
         self.answer_whole(rt, seen, clock, out)
@@ -85,8 +101,10 @@ impl Reader {
         requires within { seen ≤ length self.old.window }
         requires seen { HasNoEnd (take seen self.old.window) }
         ensures answered { TakesIn [] self.old.window
-            (progress self.old.office self.old.outbox (C.given clock.old) (W.written out.old)) result
-            (progress self.new.office self.new.outbox (C.given clock.new) (W.written out.new))
+            (progress self.old.office.office (K.faults self.old.office.keeper) self.old.outbox
+            (C.given clock.old) (W.written out.old)) result
+            (progress self.new.office.office (K.faults self.new.office.keeper) self.new.outbox
+            (C.given clock.new) (W.written out.new))
             self.new.skips self.new.window }
         ensures kept { ¬ (IsErrOf result SinkFault.Failed) → W.faults out.new ≡ W.faults out.old }
         ensures failed { IsErrOf result SinkFault.Failed → FailsLast W.written W.faults out.old out.new }
@@ -117,14 +135,17 @@ impl Reader {
         clock: &mut C,
         out: &mut W,
     ) -> Result<(), SinkFault>
-        ensures answered { (part : List ℕ) → Holds self.old.skips self.old.window part → AnswersAndPuts
-            (progress self.old.office self.old.outbox (C.given clock.old) (W.written out.old)) (part ∷ []) result
-            (progress self.new.office self.new.outbox (C.given clock.new) (W.written out.new)) }
+        ensures answered { (part : List ℕ) → Holds self.old.skips self.old.window part → GoesOn
+            (progress self.old.office.office (K.faults self.old.office.keeper) self.old.outbox
+            (C.given clock.old) (W.written out.old))
+            (asks_of (part ∷ [])) result
+            (progress self.new.office.office (K.faults self.new.office.keeper) self.new.outbox
+            (C.given clock.new) (W.written out.new)) }
         ensures kept { ¬ (IsErrOf result SinkFault.Failed) → W.faults out.new ≡ W.faults out.old }
         ensures failed { IsErrOf result SinkFault.Failed → FailsLast W.written W.faults out.old out.new }
     {
         if self.skips {
-            return put_too_long(&mut self.outbox, out);
+            return put_refusal(&mut self.outbox, out, Refusal::TooLong);
         }
         let line = self.window.bytes();
         answer_line(
@@ -139,12 +160,9 @@ impl Reader {
     }
 }
 
-// Puts the reply to a line that is too long.
-fn put_too_long<W: Sink>(outbox: &mut Outbox, out: &mut W) -> Result<(), SinkFault>
-    ensures puts { Puts (W.written out.old) (W.written out.new)
-        (outbox.old ++ reply_text (Refuse Refusal.TooLong) (Reply.Words Refusal.TooLong)) result outbox.new }
-    ensures kept { ¬ (IsErrOf result SinkFault.Failed) → W.faults out.new ≡ W.faults out.old }
-    ensures failed { IsErrOf result SinkFault.Failed → FailsLast W.written W.faults out.old out.new }
+// The bytes that wait to be answered, and those that wait to be written: none.
+fn parts(alloc: Global) -> Result<(Window, Outbox), NoMemory>
+    ensures { IfOk result (λ made. (made.0 ≡ []) × (made.1 ≡ [])) }
 {
-    put_reply(outbox, out, &Reply::Words(Refusal::TooLong))
+    Ok((Window::new(alloc)?, Outbox::new(alloc)?))
 }

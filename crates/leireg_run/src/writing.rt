@@ -1,13 +1,41 @@
 //! Replies as they are written.
-ghost use Rattle.std.specs.Prelude.{◌≡◌, ◌++◌, flat_map, IsErrOf};
+ghost use Rattle.std.specs.Prelude.{◌≡◌, [], ◌++◌, flat_map, IsErrOf, OnOk};
 ghost use Rattle.lei_outside.specs.Faults.{FailsLast};
+ghost use Rattle.lei_office.specs.declared.reply.Reply.{Reply};
 ghost use Rattle.lei_office.specs.declared.request.Asked.{Asked};
+ghost use Rattle.leireg_run.specs.Codes.{IsWritten};
 ghost use Rattle.leireg_run.specs.Outbox.{Puts};
 ghost use Rattle.leireg_run.specs.Replies.{reply_text};
 
 use crate::outbox::Outbox;
-use lei_office::Reply;
+use lei_office::{Refusal, Reply};
 use lei_outside::{Sink, SinkFault};
+
+/// Puts the reply that is a refusal.
+pub fn put_refusal<W: Sink>(
+    outbox: &mut Outbox,
+    out: &mut W,
+    refusal: Refusal,
+) -> Result<(), SinkFault>
+    ensures puts { (asked : Asked) → Puts (W.written out.old) (W.written out.new)
+        (outbox.old ++ reply_text asked (Reply.Words refusal)) result outbox.new }
+    ensures kept { ¬ (IsErrOf result SinkFault.Failed) → W.faults out.new ≡ W.faults out.old }
+    ensures failed { IsErrOf result SinkFault.Failed → FailsLast W.written W.faults out.old out.new }
+{
+    put_reply(outbox, out, &Reply::Words(refusal))
+}
+
+/// Sends what waits and a reply behind it.
+pub fn send_reply<W: Sink>(outbox: &mut Outbox, out: &mut W, reply: &Reply) -> Result<(), SinkFault>
+    ensures sent { (asked : Asked) → IsWritten (W.written out.old) (W.written out.new)
+        (outbox.old ++ reply_text asked reply.now) result }
+    ensures empty { OnOk result (outbox.new ≡ []) }
+    ensures kept { ¬ (IsErrOf result SinkFault.Failed) → W.faults out.new ≡ W.faults out.old }
+    ensures failed { IsErrOf result SinkFault.Failed → FailsLast W.written W.faults out.old out.new }
+{
+    put_reply(outbox, out, reply)?;
+    outbox.flush(out)
+}
 
 /// Puts a reply, whatever was asked: its status code, a space, its text and the end of the line.
 #[tactic(auto, unfolding(crate::specs::Replies::reply_text))]

@@ -10,13 +10,17 @@ use lei_shapes::Moment;
 use std::alloc::Global;
 use std::test::Fail;
 
-// A text, the sheet and the form that it is asked to be of, and whether it is a text of these.
-type Case = (&'static str, Sheet, Form, bool);
+// Cases stand one behind the other in one text, which is checked far sooner than a table of as many. Each begins with § and a
+// line that says what is asked: whether the text behind it is a copy or a delta, of this sheet and in this form, and whether
+// it is.
 
 // Texts in CSV of each sheet: the line of the names, which begins so, and these lines.
 macro_rules! records {
-    ($begin:literal $(, $line:literal)*) => {
-        concat!(
+    ($($case:literal, $begin:literal $(, $line:literal)*;)*) => {
+        concat!($(
+            "§",
+            $case,
+            "\n",
             $begin,
             r#""Entity.LegalName","Entity.LegalName.xmllang","Entity.LegalAddress.FirstAddressLine""#,
             r#","Entity.LegalAddress.City","Entity.LegalAddress.Region","Entity.LegalAddress.Country""#,
@@ -30,604 +34,332 @@ macro_rules! records {
             r#","Registration.InitialRegistrationDate","Registration.LastUpdateDate""#,
             r#","Registration.RegistrationStatus","Registration.NextRenewalDate","Registration.ManagingLOU""#,
             r#","Registration.ValidationSources","Register.TransferTo""#,
-            "\n" $(, $line, "\n")*
-        )
+                        "\n",
+            $($line, "\n",)*
+        )*)
     };
 }
 
 macro_rules! relations {
-    ($begin:literal $(, $line:literal)*) => {
-        concat!(
+    ($($case:literal, $begin:literal $(, $line:literal)*;)*) => {
+        concat!($(
+            "§",
+            $case,
+            "\n",
             $begin,
             r#""Relationship.RelationshipType","Relationship.EndNode","Relationship.RelationshipStatus""#,
             r#","Relationship.StartDate","Relationship.EndDate","Registration.InitialRegistrationDate""#,
             r#","Registration.LastUpdateDate","Registration.RegistrationStatus","Registration.ManagingLOU""#,
             r#","Registration.ValidationSources""#,
-            "\n" $(, $line, "\n")*
-        )
+                        "\n",
+            $($line, "\n",)*
+        )*)
     };
 }
 
 macro_rules! exceptions {
-    ($begin:literal $(, $line:literal)*) => {
-        concat!(
+    ($($case:literal, $begin:literal $(, $line:literal)*;)*) => {
+        concat!($(
+            "§",
+            $case,
+            "\n",
             $begin,
             r#""ExceptionCategory","ExceptionReason","ExceptionReference""#,
-            "\n" $(, $line, "\n")*
-        )
+                        "\n",
+            $($line, "\n",)*
+        )*)
     };
 }
 
-// A copy in JSON with so many records, and these.
-macro_rules! copy {
-    ($count:literal $(, $record:literal)*) => {
-        concat!(
+// Copies in JSON with so many records, and these.
+macro_rules! copies {
+    ($($case:literal, $count:literal $(, $record:literal)*;)*) => {
+        concat!($(
+            "§",
+            $case,
+            "\n",
             r#"{"contentDate":"2025-01-11T00:00:00Z","publication":1,"recordCount":"#,
             $count,
-            r#","records":["#
-            $(, $record)*,
-            "]}"
-        )
+            r#","records":["#,
+            $($record,)*
+            "]}",
+        )*)
     };
 }
 
-// A delta in JSON with so many changes, and these.
-macro_rules! delta {
-    ($count:literal $(, $change:literal)*) => {
-        concat!(
+// Deltas in JSON with so many changes, and these.
+macro_rules! deltas {
+    ($($case:literal, $count:literal $(, $record:literal)*;)*) => {
+        concat!($(
+            "§",
+            $case,
+            "\n",
             r#"{"contentDate":"2025-01-12T00:00:00Z","fromPublication":1,"publication":2,"recordCount":"#,
             $count,
-            r#","records":["#
-            $(, $change)*,
-            "]}"
-        )
+            r#","records":["#,
+            $($record,)*
+            "]}",
+        )*)
     };
 }
 
-const COPIES: [Case; 53] = [
-    // Of the worked examples.
-    (
-        records!(
-            r#""LEI","#,
-            r#""00000000000000000195","Société ""Bleue"", S.A.","fr","3 rue de l'Arbre","Lyon","FR-ARA","FR","69001","3 rue de l'Arbre","Lyon","","FR","69001","RA000001","400000001","FR","GENERAL","AB12","ACTIVE","1998-03-01T23:00:00Z","","2025-01-10T09:00:00Z","2025-01-10T09:00:00Z","ISSUED","2026-01-10T09:00:00Z","506700GE1G29325QX363","FULLY_CORROBORATED","""#
-        ),
-        Sheet::Lei,
-        Form::Csv,
-        true,
-    ),
-    (
-        copy!(
-            "1",
-            r#"{"Entity.EntityCategory":"GENERAL","Entity.EntityCreationDate":"1998-03-01T23:00:00Z","Entity.EntityStatus":"ACTIVE","Entity.HeadquartersAddress.City":"Lyon","Entity.HeadquartersAddress.Country":"FR","Entity.HeadquartersAddress.FirstAddressLine":"3 rue de l'Arbre","Entity.HeadquartersAddress.PostalCode":"69001","Entity.LegalAddress.City":"Lyon","Entity.LegalAddress.Country":"FR","Entity.LegalAddress.FirstAddressLine":"3 rue de l'Arbre","Entity.LegalAddress.PostalCode":"69001","Entity.LegalAddress.Region":"FR-ARA","Entity.LegalForm.EntityLegalFormCode":"AB12","Entity.LegalJurisdiction":"FR","Entity.LegalName":"Société \"Bleue\", S.A.","Entity.LegalName.xmllang":"fr","Entity.RegistrationAuthority.RegistrationAuthorityEntityID":"400000001","Entity.RegistrationAuthority.RegistrationAuthorityID":"RA000001","LEI":"00000000000000000195","Registration.InitialRegistrationDate":"2025-01-10T09:00:00Z","Registration.LastUpdateDate":"2025-01-10T09:00:00Z","Registration.ManagingLOU":"506700GE1G29325QX363","Registration.NextRenewalDate":"2026-01-10T09:00:00Z","Registration.RegistrationStatus":"ISSUED","Registration.ValidationSources":"FULLY_CORROBORATED"}"#
-        ),
-        Sheet::Lei,
-        Form::Json,
-        true,
-    ),
-    (
-        exceptions!(
-            r#""LEI","#,
-            r#""00000000000000000195","DIRECT_ACCOUNTING_CONSOLIDATION_PARENT","NON_CONSOLIDATING","""#
-        ),
-        Sheet::Repex,
-        Form::Csv,
-        true,
-    ),
-    (
-        copy!(
-            "1",
-            r#"{"ExceptionCategory":"DIRECT_ACCOUNTING_CONSOLIDATION_PARENT","ExceptionReason":"NON_CONSOLIDATING","LEI":"00000000000000000195"}"#
-        ),
-        Sheet::Repex,
-        Form::Json,
-        true,
-    ),
-    (
-        r#"{"contentDate":"2025-01-12T00:00:00Z","publication":2,"recordCount":0,"records":[]}"#,
-        Sheet::Repex,
-        Form::Json,
-        true,
-    ),
-    (exceptions!(r#""LEI","#), Sheet::Repex, Form::Csv, true),
-    (copy!("0"), Sheet::Repex, Form::Json, true),
-    // Keys that differ in their last text, a text of a quote and a line feed, and rows of empty texts.
-    (
-        relations!(
-            r#""Relationship.StartNode","#,
-            r#""A","B","C","","","","","","","","""#,
-            r#""A","B","D","","","","","","","","""#
-        ),
-        Sheet::Rr,
-        Form::Csv,
-        true,
-    ),
-    (
-        copy!(
-            "2",
-            r#"{"Relationship.EndNode":"C","Relationship.RelationshipType":"B","Relationship.StartNode":"A"}"#,
-            r#",{"Relationship.EndNode":"D","Relationship.RelationshipType":"B","Relationship.StartNode":"A"}"#
-        ),
-        Sheet::Rr,
-        Form::Json,
-        true,
-    ),
-    (
-        concat!(
-            r#""LEI","ExceptionCategory","ExceptionReason","ExceptionReference""#,
-            "\n\"A\",\"\"\"\n\",\"C\",\"\"\n"
-        ),
-        Sheet::Repex,
-        Form::Csv,
-        true,
-    ),
-    (
-        copy!("1", r#"{"ExceptionCategory":"\"\n","LEI":"A"}"#),
-        Sheet::Repex,
-        Form::Json,
-        true,
-    ),
-    (
-        exceptions!(r#""LEI","#, r#""","","","""#),
-        Sheet::Repex,
-        Form::Csv,
-        true,
-    ),
-    (copy!("1", r#"{}"#), Sheet::Repex, Form::Json, true),
-    // A quote taken off or put in.
-    (
-        concat!(
-            r#"LEI","ExceptionCategory","ExceptionReason","ExceptionReference""#,
-            "\n"
-        ),
-        Sheet::Repex,
-        Form::Csv,
-        false,
-    ),
-    (
-        exceptions!(r#""LEI","#, r#""A","B",C,"""#),
-        Sheet::Repex,
-        Form::Csv,
-        false,
-    ),
-    (
-        exceptions!(r#""LEI","#, r#""A","B"C","D","""#),
-        Sheet::Repex,
-        Form::Csv,
-        false,
-    ),
-    // Another line end, none, and a byte behind the last.
-    (
-        concat!(
-            r#""LEI","ExceptionCategory","ExceptionReason","ExceptionReference""#,
-            "\r\n"
-        ),
-        Sheet::Repex,
-        Form::Csv,
-        false,
-    ),
-    (
-        concat!(
-            r#""LEI","ExceptionCategory","ExceptionReason","ExceptionReference""#,
-            "\n\"A\",\"B\",\"C\",\"\"\r\n"
-        ),
-        Sheet::Repex,
-        Form::Csv,
-        false,
-    ),
-    (
-        concat!(
-            r#""LEI","ExceptionCategory","ExceptionReason","ExceptionReference""#,
-            "\n\"A\",\"B\",\"C\",\"\""
-        ),
-        Sheet::Repex,
-        Form::Csv,
-        false,
-    ),
-    (
-        r#""LEI","ExceptionCategory","ExceptionReason","ExceptionReference""#,
-        Sheet::Repex,
-        Form::Csv,
-        false,
-    ),
-    (
-        concat!(
-            r#""LEI","ExceptionCategory","ExceptionReason","ExceptionReference""#,
-            "\n\n"
-        ),
-        Sheet::Repex,
-        Form::Csv,
-        false,
-    ),
-    ("", Sheet::Lei, Form::Csv, false),
-    // A field too many, one too few, a space, names in another order, and those of another sheet.
-    (
-        exceptions!(r#""LEI","#, r#""A","B","C","","""#),
-        Sheet::Repex,
-        Form::Csv,
-        false,
-    ),
-    (
-        exceptions!(r#""LEI","#, r#""A","B","C""#),
-        Sheet::Repex,
-        Form::Csv,
-        false,
-    ),
-    (
-        exceptions!(r#""LEI","#, r#""A", "B","C","""#),
-        Sheet::Repex,
-        Form::Csv,
-        false,
-    ),
-    (
-        concat!(
-            r#""ExceptionCategory","LEI","ExceptionReason","ExceptionReference""#,
-            "\n"
-        ),
-        Sheet::Repex,
-        Form::Csv,
-        false,
-    ),
-    (exceptions!(r#""LEI","#), Sheet::Rr, Form::Csv, false),
-    (records!(r#""LEI","#), Sheet::Rr, Form::Csv, false),
-    // A key twice, and keys that fall.
-    (
-        exceptions!(r#""LEI","#, r#""A","B","C","""#, r#""A","B","D","""#),
-        Sheet::Repex,
-        Form::Csv,
-        false,
-    ),
-    (
-        exceptions!(r#""LEI","#, r#""B","B","C","""#, r#""A","B","C","""#),
-        Sheet::Repex,
-        Form::Csv,
-        false,
-    ),
-    (
-        relations!(
-            r#""Relationship.StartNode","#,
-            r#""A","B","D","","","","","","","","""#,
-            r#""A","B","C","","","","","","","","""#
-        ),
-        Sheet::Rr,
-        Form::Csv,
-        false,
-    ),
-    (
-        records!(
-            r#""LEI","#,
-            r#""00000000000000000195","Société ""Bleue"", S.A.","fr","3 rue de l'Arbre","Lyon","FR-ARA","FR","69001","3 rue de l'Arbre","Lyon","","FR","69001","RA000001","400000001","FR","GENERAL","AB12","ACTIVE","1998-03-01T23:00:00Z","","2025-01-10T09:00:00Z","2025-01-10T09:00:00Z","ISSUED","2026-01-10T09:00:00Z","506700GE1G29325QX363","FULLY_CORROBORATED","""#,
-            r#""00000000000000000195","Société ""Bleue"", S.A.","fr","3 rue de l'Arbre","Lyon","FR-ARA","FR","69001","3 rue de l'Arbre","Lyon","","FR","69001","RA000001","400000001","FR","GENERAL","AB12","ACTIVE","1998-03-01T23:00:00Z","","2025-01-10T09:00:00Z","2025-01-10T09:00:00Z","ISSUED","2026-01-10T09:00:00Z","506700GE1G29325QX363","FULLY_CORROBORATED","""#
-        ),
-        Sheet::Lei,
-        Form::Csv,
-        false,
-    ),
-    (
-        copy!(
-            "2",
-            r#"{"ExceptionCategory":"B","LEI":"A"}"#,
-            r#",{"ExceptionCategory":"B","LEI":"A"}"#
-        ),
-        Sheet::Repex,
-        Form::Json,
-        false,
-    ),
-    (
-        copy!(
-            "2",
-            r#"{"ExceptionCategory":"B","LEI":"C"}"#,
-            r#",{"ExceptionCategory":"B","LEI":"A"}"#
-        ),
-        Sheet::Repex,
-        Form::Json,
-        false,
-    ),
-    (
-        copy!("2", r#"{"LEI":"B"}"#, r#",{"LEI":"A"}"#),
-        Sheet::Lei,
-        Form::Json,
-        false,
-    ),
-    // A number that is none of a publication or is printed otherwise, a moment in another form, members of a head in another order.
-    (
-        r#"{"contentDate":"2025-01-12T00:00:00Z","publication":0,"recordCount":0,"records":[]}"#,
-        Sheet::Repex,
-        Form::Json,
-        false,
-    ),
-    (
-        r#"{"contentDate":"2025-01-12T00:00:00Z","publication":1000001,"recordCount":0,"records":[]}"#,
-        Sheet::Repex,
-        Form::Json,
-        false,
-    ),
-    (
-        r#"{"contentDate":"2025-01-12T00:00:00Z","publication":02,"recordCount":0,"records":[]}"#,
-        Sheet::Repex,
-        Form::Json,
-        false,
-    ),
-    (
-        r#"{"contentDate":"2025-01-12T00:00:00.0Z","publication":2,"recordCount":0,"records":[]}"#,
-        Sheet::Repex,
-        Form::Json,
-        false,
-    ),
-    (
-        r#"{"contentDate":"2025-01-12T01:00:00+01:00","publication":2,"recordCount":0,"records":[]}"#,
-        Sheet::Repex,
-        Form::Json,
-        false,
-    ),
-    (
-        r#"{"publication":2,"contentDate":"2025-01-12T00:00:00Z","recordCount":0,"records":[]}"#,
-        Sheet::Repex,
-        Form::Json,
-        false,
-    ),
-    // A byte behind the end, another count, a space.
-    (
-        concat!(
-            r#"{"contentDate":"2025-01-12T00:00:00Z","publication":2,"recordCount":0,"records":[]}"#,
-            "\n"
-        ),
-        Sheet::Repex,
-        Form::Json,
-        false,
-    ),
-    (copy!("1"), Sheet::Repex, Form::Json, false),
-    (
-        copy!("0", r#"{"ExceptionCategory":"B","LEI":"A"}"#),
-        Sheet::Repex,
-        Form::Json,
-        false,
-    ),
-    (
-        r#"{"contentDate":"2025-01-11T00:00:00Z", "publication":1,"recordCount":0,"records":[]}"#,
-        Sheet::Lei,
-        Form::Json,
-        false,
-    ),
-    // Fields in another order, an absent field, a field that the sheet lacks, and one that stands twice.
-    (
-        copy!("1", r#"{"LEI":"A","ExceptionCategory":"B"}"#),
-        Sheet::Repex,
-        Form::Json,
-        false,
-    ),
-    (
-        copy!(
-            "1",
-            r#"{"ExceptionCategory":"B","ExceptionReason":"","LEI":"A"}"#
-        ),
-        Sheet::Repex,
-        Form::Json,
-        false,
-    ),
-    (
-        copy!("1", r#"{"Action":"PUT","ExceptionCategory":"B","LEI":"A"}"#),
-        Sheet::Repex,
-        Form::Json,
-        false,
-    ),
-    (
-        copy!("1", r#"{"ExceptionCategory":"B","LEI":"A","LEI":"A"}"#),
-        Sheet::Repex,
-        Form::Json,
-        false,
-    ),
-    // Escapes that printing doesn't make.
-    (
-        copy!("1", r#"{"ExceptionCategory":"B","LEI":"\u0041"}"#),
-        Sheet::Repex,
-        Form::Json,
-        false,
-    ),
-    (
-        copy!("1", r#"{"ExceptionCategory":"B","LEI":"\/"}"#),
-        Sheet::Repex,
-        Form::Json,
-        false,
-    ),
-    (
-        copy!("1", r#"{"ExceptionCategory":"B","LEI":"\u000a"}"#),
-        Sheet::Repex,
-        Form::Json,
-        false,
-    ),
-    (
-        copy!("1", r#"{"ExceptionCategory":"B","LEI":"\u001F"}"#),
-        Sheet::Repex,
-        Form::Json,
-        false,
-    ),
-];
+// Texts that are spelled out.
+macro_rules! texts {
+    ($($case:literal $(, $part:literal)*;)*) => {
+        concat!($("§", $case, "\n", $($part,)*)*)
+    };
+}
 
-const DELTAS: [Case; 23] = [
+const RECORDS: &str = records! {
     // Of the worked examples.
-    (
-        records!(
-            r#""Delta.Action","LEI","#,
-            r#""PUT","00000000000000000195","Alpha","","1 Main Street","Paris","","FR","","1 Main Street","Paris","","FR","","RA000001","1001","FR","GENERAL","AB12","ACTIVE","","","2025-01-10T09:00:00Z","2025-01-12T00:00:00Z","ISSUED","2026-01-12T00:00:00Z","506700GE1G29325QX363","FULLY_CORROBORATED","""#
-        ),
-        Sheet::Lei,
-        Form::Csv,
-        true,
-    ),
-    (
-        records!(r#""Delta.Action","LEI","#),
-        Sheet::Lei,
-        Form::Csv,
-        true,
-    ),
-    (
-        exceptions!(
-            r#""Delta.Action","LEI","#,
-            r#""DROP","00000000000000000195","DIRECT_ACCOUNTING_CONSOLIDATION_PARENT","","""#
-        ),
-        Sheet::Repex,
-        Form::Csv,
-        true,
-    ),
-    (
-        delta!(
-            "1",
-            r#"{"action":"DROP","record":{"ExceptionCategory":"DIRECT_ACCOUNTING_CONSOLIDATION_PARENT","LEI":"00000000000000000195"}}"#
-        ),
-        Sheet::Repex,
-        Form::Json,
-        true,
-    ),
-    // Changes of both kinds.
-    (
-        exceptions!(
-            r#""Delta.Action","LEI","#,
-            r#""DROP","A","B","","""#,
-            r#""PUT","A","C","D","""#
-        ),
-        Sheet::Repex,
-        Form::Csv,
-        true,
-    ),
-    (
-        delta!(
-            "2",
-            r#"{"action":"DROP","record":{"ExceptionCategory":"B","LEI":"A"}}"#,
-            r#",{"action":"PUT","record":{"ExceptionCategory":"C","ExceptionReason":"D","LEI":"A"}}"#
-        ),
-        Sheet::Repex,
-        Form::Json,
-        true,
-    ),
-    // A key that is dropped with more than itself, another action, and none.
-    (
-        exceptions!(r#""Delta.Action","LEI","#, r#""DROP","A","B","C","""#),
-        Sheet::Repex,
-        Form::Csv,
-        false,
-    ),
-    (
-        delta!(
-            "1",
-            r#"{"action":"DROP","record":{"ExceptionCategory":"B","ExceptionReason":"C","LEI":"A"}}"#
-        ),
-        Sheet::Repex,
-        Form::Json,
-        false,
-    ),
-    (
-        exceptions!(r#""Delta.Action","LEI","#, r#""drop","A","B","","""#),
-        Sheet::Repex,
-        Form::Csv,
-        false,
-    ),
-    (
-        delta!(
-            "1",
-            r#"{"action":"drop","record":{"ExceptionCategory":"B","LEI":"A"}}"#
-        ),
-        Sheet::Repex,
-        Form::Json,
-        false,
-    ),
-    (
-        exceptions!(r#""Delta.Action","LEI","#, r#""A","B","C","""#),
-        Sheet::Repex,
-        Form::Csv,
-        false,
-    ),
-    (
-        delta!("1", r#"{"ExceptionCategory":"B","LEI":"A"}"#),
-        Sheet::Repex,
-        Form::Json,
-        false,
-    ),
-    // Copies.
-    (exceptions!(r#""LEI","#), Sheet::Repex, Form::Csv, false),
-    (copy!("0"), Sheet::Repex, Form::Json, false),
-    // Members in another order, a number that is none of a publication.
-    (
-        delta!(
-            "1",
-            r#"{"record":{"ExceptionCategory":"B","LEI":"A"},"action":"DROP"}"#
-        ),
-        Sheet::Repex,
-        Form::Json,
-        false,
-    ),
-    (
-        r#"{"contentDate":"2025-01-12T00:00:00Z","publication":2,"fromPublication":1,"recordCount":0,"records":[]}"#,
-        Sheet::Repex,
-        Form::Json,
-        false,
-    ),
-    (
-        r#"{"contentDate":"2025-01-12T00:00:00Z","fromPublication":0,"publication":2,"recordCount":0,"records":[]}"#,
-        Sheet::Repex,
-        Form::Json,
-        false,
-    ),
+    "copy lei csv yes",
+        r#""LEI","#,
+        r#""00000000000000000195","Société ""Bleue"", S.A.","fr","3 rue de l'Arbre","Lyon","FR-ARA","FR","69001","3 rue de l'Arbre","Lyon","","FR","69001","RA000001","400000001","FR","GENERAL","AB12","ACTIVE","1998-03-01T23:00:00Z","","2025-01-10T09:00:00Z","2025-01-10T09:00:00Z","ISSUED","2026-01-10T09:00:00Z","506700GE1G29325QX363","FULLY_CORROBORATED","""#;
+    // A field too many, one too few, a space, names in another order, and those of another sheet.
+    "copy rr csv no",
+        r#""LEI","#;
     // A key twice, and keys that fall.
-    (
-        exceptions!(
-            r#""Delta.Action","LEI","#,
-            r#""DROP","A","B","","""#,
-            r#""PUT","A","B","C","""#
-        ),
-        Sheet::Repex,
-        Form::Csv,
-        false,
-    ),
-    (
-        delta!(
-            "2",
-            r#"{"action":"DROP","record":{"ExceptionCategory":"B","LEI":"A"}}"#,
-            r#",{"action":"PUT","record":{"ExceptionCategory":"B","ExceptionReason":"C","LEI":"A"}}"#
-        ),
-        Sheet::Repex,
-        Form::Json,
-        false,
-    ),
-    (
-        exceptions!(
-            r#""Delta.Action","LEI","#,
-            r#""DROP","A","C","","""#,
-            r#""PUT","A","B","D","""#
-        ),
-        Sheet::Repex,
-        Form::Csv,
-        false,
-    ),
-    (
-        delta!(
-            "2",
-            r#"{"action":"PUT","record":{"LEI":"B"}}"#,
-            r#",{"action":"DROP","record":{"LEI":"A"}}"#
-        ),
-        Sheet::Lei,
-        Form::Json,
-        false,
-    ),
+    "copy lei csv no",
+        r#""LEI","#,
+        r#""00000000000000000195","Société ""Bleue"", S.A.","fr","3 rue de l'Arbre","Lyon","FR-ARA","FR","69001","3 rue de l'Arbre","Lyon","","FR","69001","RA000001","400000001","FR","GENERAL","AB12","ACTIVE","1998-03-01T23:00:00Z","","2025-01-10T09:00:00Z","2025-01-10T09:00:00Z","ISSUED","2026-01-10T09:00:00Z","506700GE1G29325QX363","FULLY_CORROBORATED","""#,
+        r#""00000000000000000195","Société ""Bleue"", S.A.","fr","3 rue de l'Arbre","Lyon","FR-ARA","FR","69001","3 rue de l'Arbre","Lyon","","FR","69001","RA000001","400000001","FR","GENERAL","AB12","ACTIVE","1998-03-01T23:00:00Z","","2025-01-10T09:00:00Z","2025-01-10T09:00:00Z","ISSUED","2026-01-10T09:00:00Z","506700GE1G29325QX363","FULLY_CORROBORATED","""#;
+    // Of the worked examples.
+    "delta lei csv yes",
+        r#""Delta.Action","LEI","#,
+        r#""PUT","00000000000000000195","Alpha","","1 Main Street","Paris","","FR","","1 Main Street","Paris","","FR","","RA000001","1001","FR","GENERAL","AB12","ACTIVE","","","2025-01-10T09:00:00Z","2025-01-12T00:00:00Z","ISSUED","2026-01-12T00:00:00Z","506700GE1G29325QX363","FULLY_CORROBORATED","""#;
+    "delta lei csv yes",
+        r#""Delta.Action","LEI","#;
+};
+
+const RELATIONS: &str = relations! {
+    // Keys that differ in their last text, a text of a quote and a line feed, and rows of empty texts.
+    "copy rr csv yes",
+        r#""Relationship.StartNode","#,
+        r#""A","B","C","","","","","","","","""#,
+        r#""A","B","D","","","","","","","","""#;
+    // A key twice, and keys that fall.
+    "copy rr csv no",
+        r#""Relationship.StartNode","#,
+        r#""A","B","D","","","","","","","","""#,
+        r#""A","B","C","","","","","","","","""#;
+};
+
+const EXCEPTIONS: &str = exceptions! {
+    // Of the worked examples.
+    "copy repex csv yes",
+        r#""LEI","#,
+        r#""00000000000000000195","DIRECT_ACCOUNTING_CONSOLIDATION_PARENT","NON_CONSOLIDATING","""#;
+    "copy repex csv yes",
+        r#""LEI","#;
+    // Keys that differ in their last text, a text of a quote and a line feed, and rows of empty texts.
+    "copy repex csv yes",
+        r#""LEI","#, r#""","","","""#;
+    // A quote taken off or put in.
+    "copy repex csv no",
+        r#""LEI","#, r#""A","B",C,"""#;
+    "copy repex csv no",
+        r#""LEI","#, r#""A","B"C","D","""#;
+    // A field too many, one too few, a space, names in another order, and those of another sheet.
+    "copy repex csv no",
+        r#""LEI","#, r#""A","B","C","","""#;
+    "copy repex csv no",
+        r#""LEI","#, r#""A","B","C""#;
+    "copy repex csv no",
+        r#""LEI","#, r#""A", "B","C","""#;
+    "copy rr csv no",
+        r#""LEI","#;
+    // A key twice, and keys that fall.
+    "copy repex csv no",
+        r#""LEI","#, r#""A","B","C","""#, r#""A","B","D","""#;
+    "copy repex csv no",
+        r#""LEI","#, r#""B","B","C","""#, r#""A","B","C","""#;
+    // Of the worked examples.
+    "delta repex csv yes",
+        r#""Delta.Action","LEI","#,
+        r#""DROP","00000000000000000195","DIRECT_ACCOUNTING_CONSOLIDATION_PARENT","","""#;
+    // Changes of both kinds.
+    "delta repex csv yes",
+        r#""Delta.Action","LEI","#,
+        r#""DROP","A","B","","""#,
+        r#""PUT","A","C","D","""#;
+    // A key that is dropped with more than itself, another action, and none.
+    "delta repex csv no",
+        r#""Delta.Action","LEI","#, r#""DROP","A","B","C","""#;
+    "delta repex csv no",
+        r#""Delta.Action","LEI","#, r#""drop","A","B","","""#;
+    "delta repex csv no",
+        r#""Delta.Action","LEI","#, r#""A","B","C","""#;
+    // Copies.
+    "delta repex csv no",
+        r#""LEI","#;
+    // A key twice, and keys that fall.
+    "delta repex csv no",
+        r#""Delta.Action","LEI","#,
+        r#""DROP","A","B","","""#,
+        r#""PUT","A","B","C","""#;
+    "delta repex csv no",
+        r#""Delta.Action","LEI","#,
+        r#""DROP","A","C","","""#,
+        r#""PUT","A","B","D","""#;
+};
+
+const COPIES: &str = copies! {
+    // Of the worked examples.
+    "copy lei json yes",
+        "1",
+        r#"{"Entity.EntityCategory":"GENERAL","Entity.EntityCreationDate":"1998-03-01T23:00:00Z","Entity.EntityStatus":"ACTIVE","Entity.HeadquartersAddress.City":"Lyon","Entity.HeadquartersAddress.Country":"FR","Entity.HeadquartersAddress.FirstAddressLine":"3 rue de l'Arbre","Entity.HeadquartersAddress.PostalCode":"69001","Entity.LegalAddress.City":"Lyon","Entity.LegalAddress.Country":"FR","Entity.LegalAddress.FirstAddressLine":"3 rue de l'Arbre","Entity.LegalAddress.PostalCode":"69001","Entity.LegalAddress.Region":"FR-ARA","Entity.LegalForm.EntityLegalFormCode":"AB12","Entity.LegalJurisdiction":"FR","Entity.LegalName":"Société \"Bleue\", S.A.","Entity.LegalName.xmllang":"fr","Entity.RegistrationAuthority.RegistrationAuthorityEntityID":"400000001","Entity.RegistrationAuthority.RegistrationAuthorityID":"RA000001","LEI":"00000000000000000195","Registration.InitialRegistrationDate":"2025-01-10T09:00:00Z","Registration.LastUpdateDate":"2025-01-10T09:00:00Z","Registration.ManagingLOU":"506700GE1G29325QX363","Registration.NextRenewalDate":"2026-01-10T09:00:00Z","Registration.RegistrationStatus":"ISSUED","Registration.ValidationSources":"FULLY_CORROBORATED"}"#;
+    "copy repex json yes",
+        "1",
+        r#"{"ExceptionCategory":"DIRECT_ACCOUNTING_CONSOLIDATION_PARENT","ExceptionReason":"NON_CONSOLIDATING","LEI":"00000000000000000195"}"#;
+    "copy repex json yes",
+        "0";
+    // Keys that differ in their last text, a text of a quote and a line feed, and rows of empty texts.
+    "copy rr json yes",
+        "2",
+        r#"{"Relationship.EndNode":"C","Relationship.RelationshipType":"B","Relationship.StartNode":"A"}"#,
+        r#",{"Relationship.EndNode":"D","Relationship.RelationshipType":"B","Relationship.StartNode":"A"}"#;
+    "copy repex json yes",
+        "1", r#"{"ExceptionCategory":"\"\n","LEI":"A"}"#;
+    "copy repex json yes",
+        "1", r#"{}"#;
+    // A key twice, and keys that fall.
+    "copy repex json no",
+        "2",
+        r#"{"ExceptionCategory":"B","LEI":"A"}"#,
+        r#",{"ExceptionCategory":"B","LEI":"A"}"#;
+    "copy repex json no",
+        "2",
+        r#"{"ExceptionCategory":"B","LEI":"C"}"#,
+        r#",{"ExceptionCategory":"B","LEI":"A"}"#;
+    "copy lei json no",
+        "2", r#"{"LEI":"B"}"#, r#",{"LEI":"A"}"#;
+    // A byte behind the end, another count, a space.
+    "copy repex json no",
+        "1";
+    "copy repex json no",
+        "0", r#"{"ExceptionCategory":"B","LEI":"A"}"#;
+    // Fields in another order, an absent field, a field that the sheet lacks, and one that stands twice.
+    "copy repex json no",
+        "1", r#"{"LEI":"A","ExceptionCategory":"B"}"#;
+    "copy repex json no",
+        "1",
+        r#"{"ExceptionCategory":"B","ExceptionReason":"","LEI":"A"}"#;
+    "copy repex json no",
+        "1", r#"{"Action":"PUT","ExceptionCategory":"B","LEI":"A"}"#;
+    "copy repex json no",
+        "1", r#"{"ExceptionCategory":"B","LEI":"A","LEI":"A"}"#;
+    // Escapes that printing doesn't make.
+    "copy repex json no",
+        "1", r#"{"ExceptionCategory":"B","LEI":"\u0041"}"#;
+    "copy repex json no",
+        "1", r#"{"ExceptionCategory":"B","LEI":"\/"}"#;
+    "copy repex json no",
+        "1", r#"{"ExceptionCategory":"B","LEI":"\u000a"}"#;
+    "copy repex json no",
+        "1", r#"{"ExceptionCategory":"B","LEI":"\u001F"}"#;
+    // Copies.
+    "delta repex json no",
+        "0";
+};
+
+const DELTAS: &str = deltas! {
+    // Of the worked examples.
+    "delta repex json yes",
+        "1",
+        r#"{"action":"DROP","record":{"ExceptionCategory":"DIRECT_ACCOUNTING_CONSOLIDATION_PARENT","LEI":"00000000000000000195"}}"#;
+    // Changes of both kinds.
+    "delta repex json yes",
+        "2",
+        r#"{"action":"DROP","record":{"ExceptionCategory":"B","LEI":"A"}}"#,
+        r#",{"action":"PUT","record":{"ExceptionCategory":"C","ExceptionReason":"D","LEI":"A"}}"#;
+    // A key that is dropped with more than itself, another action, and none.
+    "delta repex json no",
+        "1",
+        r#"{"action":"DROP","record":{"ExceptionCategory":"B","ExceptionReason":"C","LEI":"A"}}"#;
+    "delta repex json no",
+        "1",
+        r#"{"action":"drop","record":{"ExceptionCategory":"B","LEI":"A"}}"#;
+    "delta repex json no",
+        "1", r#"{"ExceptionCategory":"B","LEI":"A"}"#;
+    // Members in another order, a number that is none of a publication.
+    "delta repex json no",
+        "1",
+        r#"{"record":{"ExceptionCategory":"B","LEI":"A"},"action":"DROP"}"#;
+    // A key twice, and keys that fall.
+    "delta repex json no",
+        "2",
+        r#"{"action":"DROP","record":{"ExceptionCategory":"B","LEI":"A"}}"#,
+        r#",{"action":"PUT","record":{"ExceptionCategory":"B","ExceptionReason":"C","LEI":"A"}}"#;
+    "delta lei json no",
+        "2",
+        r#"{"action":"PUT","record":{"LEI":"B"}}"#,
+        r#",{"action":"DROP","record":{"LEI":"A"}}"#;
+};
+
+const TEXTS: &str = texts! {
+    // Of the worked examples.
+    "copy repex json yes",
+        r#"{"contentDate":"2025-01-12T00:00:00Z","publication":2,"recordCount":0,"records":[]}"#;
+    // Keys that differ in their last text, a text of a quote and a line feed, and rows of empty texts.
+    "copy repex csv yes",
+        r#""LEI","ExceptionCategory","ExceptionReason","ExceptionReference""#,
+        "\n\"A\",\"\"\"\n\",\"C\",\"\"\n";
+    // A quote taken off or put in.
+    "copy repex csv no",
+        r#"LEI","ExceptionCategory","ExceptionReason","ExceptionReference""#,
+        "\n";
+    // Another line end, none, and a byte behind the last.
+    "copy repex csv no",
+        r#""LEI","ExceptionCategory","ExceptionReason","ExceptionReference""#,
+        "\r\n";
+    "copy repex csv no",
+        r#""LEI","ExceptionCategory","ExceptionReason","ExceptionReference""#,
+        "\n\"A\",\"B\",\"C\",\"\"\r\n";
+    "copy repex csv no",
+        r#""LEI","ExceptionCategory","ExceptionReason","ExceptionReference""#,
+        "\n\"A\",\"B\",\"C\",\"\"";
+    "copy repex csv no",
+        r#""LEI","ExceptionCategory","ExceptionReason","ExceptionReference""#;
+    "copy repex csv no",
+        r#""LEI","ExceptionCategory","ExceptionReason","ExceptionReference""#,
+        "\n\n";
+    "copy lei csv no";
+    // A field too many, one too few, a space, names in another order, and those of another sheet.
+    "copy repex csv no",
+        r#""ExceptionCategory","LEI","ExceptionReason","ExceptionReference""#,
+        "\n";
+    // A number that is none of a publication or is printed otherwise, a moment in another form, members of a head in another order.
+    "copy repex json no",
+        r#"{"contentDate":"2025-01-12T00:00:00Z","publication":0,"recordCount":0,"records":[]}"#;
+    "copy repex json no",
+        r#"{"contentDate":"2025-01-12T00:00:00Z","publication":1000001,"recordCount":0,"records":[]}"#;
+    "copy repex json no",
+        r#"{"contentDate":"2025-01-12T00:00:00Z","publication":02,"recordCount":0,"records":[]}"#;
+    "copy repex json no",
+        r#"{"contentDate":"2025-01-12T00:00:00.0Z","publication":2,"recordCount":0,"records":[]}"#;
+    "copy repex json no",
+        r#"{"contentDate":"2025-01-12T01:00:00+01:00","publication":2,"recordCount":0,"records":[]}"#;
+    "copy repex json no",
+        r#"{"publication":2,"contentDate":"2025-01-12T00:00:00Z","recordCount":0,"records":[]}"#;
+    // A byte behind the end, another count, a space.
+    "copy repex json no",
+        r#"{"contentDate":"2025-01-12T00:00:00Z","publication":2,"recordCount":0,"records":[]}"#,
+        "\n";
+    "copy lei json no",
+        r#"{"contentDate":"2025-01-11T00:00:00Z", "publication":1,"recordCount":0,"records":[]}"#;
+    // Members in another order, a number that is none of a publication.
+    "delta repex json no",
+        r#"{"contentDate":"2025-01-12T00:00:00Z","publication":2,"fromPublication":1,"recordCount":0,"records":[]}"#;
+    "delta repex json no",
+        r#"{"contentDate":"2025-01-12T00:00:00Z","fromPublication":0,"publication":2,"recordCount":0,"records":[]}"#;
     // A byte behind the end, and another line end.
-    (
-        concat!(
-            r#"{"contentDate":"2025-01-12T00:00:00Z","fromPublication":1,"publication":2,"recordCount":0,"records":[]}"#,
-            " "
-        ),
-        Sheet::Rr,
-        Form::Json,
-        false,
-    ),
-    (
-        concat!(
-            r#""Delta.Action","LEI","ExceptionCategory","ExceptionReason","ExceptionReference""#,
-            "\r\n"
-        ),
-        Sheet::Repex,
-        Form::Csv,
-        false,
-    ),
-];
+    "delta rr json no",
+        r#"{"contentDate":"2025-01-12T00:00:00Z","fromPublication":1,"publication":2,"recordCount":0,"records":[]}"#,
+        " ";
+    "delta repex csv no",
+        r#""Delta.Action","LEI","ExceptionCategory","ExceptionReason","ExceptionReference""#,
+        "\r\n";
+};
 
 // Bytes that are no UTF-8, in CSV and in JSON.
 const NO_TEXT: [(&[u8], Form); 2] = [
@@ -734,18 +466,55 @@ fn is_delta(alloc: Global, text: &str, sheet: Sheet, form: Form) -> Result<bool,
     }
 }
 
-#[test]
-fn copies_are_read_from_their_texts_alone(rt: HostRuntime) -> Result<(), Fail> {
-    for (text, sheet, form, good) in COPIES {
-        assert_eq!(rt; is_copy(rt.alloc(), text, sheet, form)?, good, "{text}");
+// The sheet with this name.
+fn sheet_named(name: &str) -> Sheet {
+    match name {
+        "lei" => Sheet::Lei,
+        "rr" => Sheet::Rr,
+        _ => Sheet::Repex,
     }
-    Ok(())
+}
+
+// Whether the text of a case is read as the case says.
+fn is_as_said(alloc: Global, case: &str) -> Result<bool, Fail> {
+    let (asked, text) = case.split_once('\n').ok_or("a case without a line")?;
+    let (kind, asked) = asked.split_once(' ').ok_or("a case without a sheet")?;
+    let (sheet, asked) = asked.split_once(' ').ok_or("a case without a form")?;
+    let (form, answer) = asked.split_once(' ').ok_or("a case without an answer")?;
+    let sheet = sheet_named(sheet);
+    let form = if form == "csv" { Form::Csv } else { Form::Json };
+    let good = if kind == "copy" {
+        is_copy(alloc, text, sheet, form)?
+    } else {
+        is_delta(alloc, text, sheet, form)?
+    };
+    Ok(good == (answer == "yes"))
+}
+
+// How many cases these are, or the first one that isn't as it says.
+fn count(alloc: Global, cases: &'static str) -> Result<Result<usize, &'static str>, Fail> {
+    let mut count = 0usize;
+    for case in cases.split("§").skip(1) {
+        if !is_as_said(alloc, case)? {
+            return Ok(Err(case));
+        }
+        count = count.saturating_add(1);
+    }
+    Ok(Ok(count))
 }
 
 #[test]
-fn deltas_are_read_from_their_texts_alone(rt: HostRuntime) -> Result<(), Fail> {
-    for (text, sheet, form, good) in DELTAS {
-        assert_eq!(rt; is_delta(rt.alloc(), text, sheet, form)?, good, "{text}");
+fn copies_and_deltas_are_read_from_their_texts_alone(rt: HostRuntime) -> Result<(), Fail> {
+    let tables = [
+        (RECORDS, 5),
+        (RELATIONS, 2),
+        (EXCEPTIONS, 19),
+        (COPIES, 20),
+        (DELTAS, 8),
+        (TEXTS, 22),
+    ];
+    for (cases, known) in tables {
+        assert_eq!(rt; count(rt.alloc(), cases)?, Ok(known));
     }
     Ok(())
 }

@@ -1,8 +1,9 @@
 // What an office answers, where no session of the program shows it: under other limits than the standard ones.
+ghost use Rattle.lei_office.specs.Limits.{AreLimits};
 
 use lei_code::Lei;
 use lei_office::{Call, Limits, Office, Reply, Request, is_upload_number};
-use lei_outside::Bytes;
+use lei_outside::{Bytes, SureKeeper};
 use lei_shapes::Moment;
 use std::alloc::Global;
 use std::process::Abort;
@@ -42,11 +43,21 @@ const TWO_RECORDS: &str = concat!(
     r#""Registration.ValidationSources":"FULLY_CORROBORATED"}]}"#
 );
 
+// An office under these limits, over a keeper in memory.
+fn office(alloc: Global, limits: Limits) -> Result<Office<SureKeeper>, Fail>
+    requires { AreLimits limits }
+{
+    match Office::new(alloc, SureKeeper::new(alloc), limits) {
+        Ok(office) => Ok(office),
+        Err(_) => Err(Fail::from("memory for an office")),
+    }
+}
+
 // The office answers the request with this status code, a space, and this text or refusal in words.
 fn answers<R: Abort + Threads + Sync>(
     rt: &R,
     alloc: Global,
-    office: &mut Office,
+    office: &mut Office<SureKeeper>,
     request: &Request,
     want: &str,
 ) -> Result<(), Fail> {
@@ -79,7 +90,7 @@ fn told(alloc: Global, reply: &Reply) -> Result<String, Fail> {
 fn accredits<R: Abort + Threads + Sync>(
     rt: &R,
     alloc: Global,
-    office: &mut Office,
+    office: &mut Office<SureKeeper>,
     issuer: &str,
     want: &str,
 ) -> Result<(), Fail> {
@@ -90,7 +101,7 @@ fn accredits<R: Abort + Threads + Sync>(
 fn uploads<R: Abort + Threads + Sync>(
     rt: &R,
     alloc: Global,
-    office: &mut Office,
+    office: &mut Office<SureKeeper>,
     number: u32,
     body: &[u8],
     want: &str,
@@ -112,7 +123,7 @@ const LIMITS: Limits = Limits {
 
 #[test]
 fn an_office_keeps_to_its_limits(rt: HostRuntime) -> Result<(), Fail> {
-    let mut office = Office::new(rt.alloc(), LIMITS)?;
+    let mut office = office(rt.alloc(), LIMITS)?;
     assert_eq!(rt; office.limits(), LIMITS);
     accredits(
         &rt,
@@ -136,6 +147,42 @@ fn an_office_keeps_to_its_limits(rt: HostRuntime) -> Result<(), Fail> {
         2,
         &[b' '; 2_001],
         "413 TOO_LONG",
+    )
+}
+
+// Under these limits an upload of two records, of more than 1,200 bytes, is answered so.
+fn takes_two<R: Abort + Threads + Sync>(
+    rt: &R,
+    alloc: Global,
+    limits: Limits,
+    want: &str,
+) -> Result<(), Fail>
+    requires { AreLimits limits }
+{
+    let mut office = office(alloc, limits)?;
+    let accredited = r#"200 {"entry":1,"issuer":"506700GE1G29325QX363"}"#;
+    accredits(rt, alloc, &mut office, ISSUER, accredited)?;
+    uploads(rt, alloc, &mut office, 1, TWO_RECORDS.as_bytes(), want)
+}
+
+#[test]
+fn an_office_takes_an_upload_where_there_is_room(rt: HostRuntime) -> Result<(), Fail> {
+    let few = Limits {
+        body: 4_194_304,
+        kept: 1_200,
+        entries: 3,
+        records: 1,
+    };
+    takes_two(&rt, rt.alloc(), few, "507 LEDGER_FULL")?;
+    let more = Limits {
+        kept: 100_000,
+        ..few
+    };
+    takes_two(
+        &rt,
+        rt.alloc(),
+        more,
+        r#"200 {"entry":2,"issuer":"506700GE1G29325QX363","items":["ACCEPTED","C20 REGISTER_FULL"],"number":1}"#,
     )
 }
 
@@ -164,7 +211,7 @@ const BODIES: [(u32, &str, &str); 6] = [
 
 #[test]
 fn an_office_keeps_bodies_to_their_limit(rt: HostRuntime) -> Result<(), Fail> {
-    let mut office = Office::new(rt.alloc(), ROOM)?;
+    let mut office = office(rt.alloc(), ROOM)?;
     let accredited = r#"200 {"entry":1,"issuer":"506700GE1G29325QX363"}"#;
     accredits(&rt, rt.alloc(), &mut office, ISSUER, accredited)?;
     for (number, body, want) in BODIES {
@@ -189,7 +236,7 @@ fn an_office_keeps_entries_to_their_limit(rt: HostRuntime) -> Result<(), Fail> {
         entries: 2,
         records: 1,
     };
-    let mut office = Office::new(rt.alloc(), limits)?;
+    let mut office = office(rt.alloc(), limits)?;
     for (issuer, want) in ACCREDITATIONS {
         accredits(&rt, rt.alloc(), &mut office, issuer, want)?;
     }

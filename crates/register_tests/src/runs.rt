@@ -1,6 +1,7 @@
 //! Runs of the program that fail: each read and each write in turn, and an input that doesn't end.
 use lei_outside::{
-    ByteSink, ByteSource, Bytes, Failed, List, ListClock, Sink, Source, SureSink, SureSource,
+    ByteSink, ByteSource, Bytes, Failed, List, ListClock, Sink, Source, SureKeeper, SureSink,
+    SureSource,
 };
 use leireg_run::run;
 use leireg_run::status::{INPUT_TOO_LONG, READ_FAULT, WRITE_FAULT};
@@ -19,17 +20,19 @@ const REPLIES: &str = r#"200 {"entry":1,"issuer":"506700GE1G29325QX363"}
 200 {"entry":2,"issuer":"5493001KJTIIGC8Y1R12"}
 "#;
 
-// The status of a run over lines, whose clock gives the same moment always.
+// The status of a run over lines, whose clock gives the same moment always, and how often the clock was asked.
 fn status_of<R: Threads + Sync, S: Source, W: Sink>(
     rt: &R,
     alloc: Global,
     source: &mut S,
     sink: &mut W,
-) -> Result<u8, Fail> {
+) -> Result<(u8, u64), Fail> {
     let mut words = Vec::new(alloc);
     words.push(String::from_str(alloc, "lines")?)?;
     let mut clock = ListClock::new(List::from(Vec::new(alloc)));
-    Ok(run(rt, alloc, &words, source, sink, &mut clock))
+    let keeper = SureKeeper::new(alloc);
+    let (status, _) = run(rt, alloc, &words, source, sink, keeper, &mut clock);
+    Ok((status, clock.calls()))
 }
 
 // The list of one number.
@@ -48,7 +51,7 @@ fn ends_at_read<R: Abort + Threads + Sync>(rt: &R, alloc: Global, call: u64) -> 
     let bytes = Bytes::copy_of(alloc, LINES.as_bytes())?;
     let mut source = ByteSource::new(bytes, 20, only(alloc, call)?);
     let mut sink = SureSink::new(alloc, usize::MAX);
-    let status = status_of(rt, alloc, &mut source, &mut sink)?;
+    let (status, _) = status_of(rt, alloc, &mut source, &mut sink)?;
     let read = LINES.len().saturating_sub(source.left().len());
     assert_eq!(rt; status, READ_FAULT, "read {call}");
     assert_eq!(rt;
@@ -71,13 +74,20 @@ fn ends_where_a_read_fails(rt: HostRuntime) -> Result<(), Fail> {
     Ok(())
 }
 
-// Where the write of this number fails, a front of the replies is written.
+// Where the write of this number fails, the replies before it are written, and no line behind its own is put to the
+// office: all lines come in one read, and each asks for a moment.
 fn ends_at_write<R: Abort + Threads + Sync>(rt: &R, alloc: Global, call: u64) -> Result<(), Fail> {
     let mut source = SureSource::new(Bytes::copy_of(alloc, LINES.as_bytes())?, 65_536);
     let mut sink = ByteSink::new(alloc, 50, only(alloc, call)?);
-    let status = status_of(rt, alloc, &mut source, &mut sink)?;
+    let (status, moments) = status_of(rt, alloc, &mut source, &mut sink)?;
     assert_eq!(rt; status, WRITE_FAULT, "write {call}");
     assert_eq!(rt; sink.faults(), 1, "write {call}");
+    assert_eq!(rt; moments, call, "write {call}");
+    assert_eq!(rt;
+        line_ends(sink.written()) as u64,
+        call.saturating_sub(1),
+        "write {call}"
+    );
     assert!(rt;
         REPLIES.as_bytes().starts_with(sink.written()),
         "write {call}"
@@ -114,7 +124,7 @@ impl Source for Endless {
 fn ends_at_the_greatest_input(rt: HostRuntime) -> Result<(), Fail> {
     let alloc = rt.alloc();
     let mut sink = SureSink::new(alloc, usize::MAX);
-    let status = status_of(&rt, alloc, &mut Endless, &mut sink)?;
+    let (status, _) = status_of(&rt, alloc, &mut Endless, &mut sink)?;
     assert_eq!(rt; status, INPUT_TOO_LONG);
     assert!(rt; sink.written().is_empty());
     Ok(())

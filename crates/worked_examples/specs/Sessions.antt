@@ -10,11 +10,12 @@ use Rattle.worked_examples.specs.Filling.{text_parts}
 use Rattle.worked_examples.specs.declared.texts.Part.{Part}
 use Rattle.worked_examples.specs.declared.texts.Named.{Named}
 
--- A run of the program: its words, the moments of its clock, the bytes that are sent, the bytes that must come back, and
--- the status that it must end with.
+-- A run of the program: its words, the moments of its clock, the numbers of the entries that its keeper refuses, the bytes
+-- that are sent, the bytes that must come back, and the status that it must end with.
 pub record RunState : Type 0 where
   pub words : List (List ℕ)
   pub moments : List ℤ
+  pub refused : List ℕ
   pub sent : List ℕ
   pub expected : List ℕ
   pub status : ℕ
@@ -34,7 +35,7 @@ word_of text = if bytes_eq text (codes "\"\"") then [] else text
 abbrev pub run_of_words : List (List ℕ) → Option RunState
 run_of_words [] = None
 run_of_words (program ∷ words) = if bytes_eq program (codes "./leireg")
-    then Some (record { words = map word_of words; moments = []; sent = []; expected = []; status = 0 }) else None
+    then Some (record { words = map word_of words; moments = []; refused = []; sent = []; expected = []; status = 0 }) else None
 
 -- `$ ./leireg WORD ..`: a run with these words, in which nothing is sent
 abbrev pub run_of : List ℕ → Option RunState
@@ -43,6 +44,10 @@ run_of command = run_of_words (pieces 32 command)
 -- `at MOMENT`: the next moment of the clock
 abbrev pub with_moment : RunState → List ℕ → Option RunState
 with_moment run text = option_map (λ moment. record run { moments = run.moments ++ moment ∷ [] }) (read_moment text)
+
+-- `refuses N`: the keeper refuses the N-th entry that it is handed
+abbrev pub with_refused : RunState → List ℕ → Option RunState
+with_refused run text = option_map (λ n. record run { refused = run.refused ++ n ∷ [] }) (number 1000000 text)
 
 -- `status N`
 abbrev pub with_status : RunState → List ℕ → Option RunState
@@ -103,9 +108,10 @@ with_each known run range =
 -- a line of a run that has begun
 unfoldable pub with_line : List Named → RunState → List ℕ → List ℕ → Option RunState
 with_line known run word rest = if bytes_eq word (codes "at") then with_moment run rest
+    else (if bytes_eq word (codes "refuses") then with_refused run rest
     else (if bytes_eq word (codes "status") then with_status run rest
     else (if bytes_eq word (codes "each") then with_each known run rest
-    else with_text known run word rest))
+    else with_text known run word rest)))
 
 -- ---- the lines of a session
 

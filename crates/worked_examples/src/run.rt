@@ -1,5 +1,5 @@
 //! Runs of the program, as they are wanted.
-ghost use Rattle.std.specs.Prelude.{◌≡◌, ◌++◌, ◌≤◌, map, IfOk, string_bytes};
+ghost use Rattle.std.specs.Prelude.{◌≡◌, ◌++◌, ◌≤◌, [], map, IfOk, string_bytes};
 ghost use Rattle.worked_examples.specs.Reading.{Gives};
 ghost use Rattle.worked_examples.specs.Sessions;
 ghost use Rattle.worked_examples.specs.Texts;
@@ -10,17 +10,18 @@ use crate::fault::Fault;
 use crate::filling::text_parts;
 use crate::numbers::number_of;
 use crate::texts::{Named, Part, put_filled};
-use lei_outside::{Bytes, List, ListClock, NoMemory, Text};
+use lei_outside::{Bytes, List, ListClock, MapKeeper, NoMemory, Text};
 use lei_shapes::Moment;
 use std::alloc::{AllocError, Global};
 use std::marker::Model;
 
-/// A run of the program: its words, the moments of its clock, the bytes that are sent, the bytes that must come back, and
-/// the status that it must end with.
+/// A run of the program: its words, the moments of its clock, the numbers of the entries that its keeper refuses, the
+/// bytes that are sent, the bytes that must come back, and the status that it must end with.
 #[derive(Drop)]
 pub struct Run {
     words: Vec<String>,
     moments: Vec<i64>,
+    refused: Vec<u64>,
     sent: Vec<u8>,
     expected: Vec<u8>,
     status: u8,
@@ -33,7 +34,7 @@ impl Model for Run {
 
     ghost Value = { RunState };
 
-    ghost view = { λ r. record { words = map string_bytes r.words.items; moments = r.moments.items; sent = r.sent.items; expected = r.expected.items; status = r.status } };
+    ghost view = { λ r. record { words = map string_bytes r.words.items; moments = r.moments.items; refused = r.refused.items; sent = r.sent.items; expected = r.expected.items; status = r.status } };
 
     ghost invariant = { λ r. All IsClockMoment r.moments.items };
 }
@@ -53,6 +54,7 @@ impl Run {
         Ok(Run {
             words: words_of(alloc, words)?,
             moments: Vec::new(alloc),
+            refused: Vec::new(alloc),
             sent: Vec::new(alloc),
             expected: Vec::new(alloc),
             status: 0,
@@ -71,6 +73,19 @@ impl Run {
         ensures { IfOk result (λ clock. clock ≡ record { moments = self.now.moments; calls = 0 }) }
     {
         Ok(ListClock::new(List::from(self.moments.as_slice().to_vec(alloc)?)))
+    }
+
+    /// A keeper that has kept nothing, and refuses some of the entries that it is handed.
+    pub fn keeper(&self, alloc: Global) -> Result<MapKeeper, AllocError>
+        ensures { IfOk result (λ keeper. keeper ≡ record {
+          kept = record { entries = []; cells = [] };
+          failing = self.now.refused;
+          calls = 0;
+          faults = 0;
+        }) }
+    {
+        let refused = List::from(self.refused.as_slice().to_vec(alloc)?);
+        Ok(MapKeeper::new(alloc, refused))
     }
 
     /// The bytes that are sent.
@@ -108,6 +123,9 @@ impl Run {
         if word == "at" {
             return self.with_moment(rest);
         }
+        if word == "refuses" {
+            return self.with_refused(rest);
+        }
         if word == "status" {
             return self.with_status(rest);
         }
@@ -124,6 +142,16 @@ impl Run {
             return Err(Fault::Form);
         };
         self.moments.push(moment.seconds())?;
+        Ok(self)
+    }
+
+    fn with_refused(mut self, text: &str) -> Result<Self, Fault>
+        ensures { Gives (λ run. run) result (Sessions.with_refused self text.now) }
+    {
+        let Some(number) = number_of(text, 1_000_000) else {
+            return Err(Fault::Form);
+        };
+        self.refused.push(u64::from(number))?;
         Ok(self)
     }
 

@@ -26,12 +26,14 @@ pub fn came_of<R: Threads + Sync>(
     let mut source = SureSource::new(Bytes::from(wanted.sent().to_vec(alloc)?), most);
     let mut sink = SureSink::new(alloc, most);
     let mut clock = wanted.clock(alloc)?;
-    let status = run(
+    let keeper = wanted.keeper(alloc)?;
+    let (status, _) = run(
         rt,
         alloc,
         wanted.words(),
         &mut source,
         &mut sink,
+        keeper,
         &mut clock,
     );
     Ok(Came {

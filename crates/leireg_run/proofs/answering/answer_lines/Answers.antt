@@ -1,7 +1,7 @@
 use Rattle.std.proofs.Common.{List, ℕ, ◌+◌, ◌∷◌, [], Result, Ok, Err, take, drop, refl, sym, subst, ◌∙◌}
 use Rattle.lei_outside.proofs.Faulting.{fails_later}
 use Rattle.lei_outside.specs.declared.faults.SinkFault.{SinkFault}
-use Rattle.leireg_run.specs.Runs.{AnswersAndPuts, progress}
+use Rattle.leireg_run.specs.Runs.{asks_of, GoesOn, progress}
 use Rattle.leireg_run.proofs.Running.{Walked, Answered-nothing, walk_on, walk_stops}
 use Rattle.leireg_run.proofs.Stopping.{handed_on}
 use Rattle.leireg_run.proofs.answering.answer_lines.Goals as goal
@@ -10,13 +10,14 @@ pub returns-in_err-answer_line-clause-answered : goal.returns-in_err-answer_line
 returns-in_err-answer_line-clause-answered g c =
     let given = g.C.Clock.given in
     let written = g.W.Sink.written in
+    let faults = g.K.Keeper.faults in
     let rest = c.loop-end.rest.now in
     let end = c.in-Some.end in
-    let mid = progress c.loop-end.office c.loop-end.outbox (given c.loop-end.clock) (written c.loop-end.out) in
-    let after = progress c.answer_line.new.office c.answer_line.new.outbox (given c.answer_line.new.clock)
+    let mid = progress c.loop-end.office.office (faults c.loop-end.office.keeper) c.loop-end.outbox (given c.loop-end.clock) (written c.loop-end.out) in
+    let after = progress c.answer_line.new.office.office (faults c.answer_line.new.office.keeper) c.answer_line.new.outbox (given c.answer_line.new.clock)
     (written c.answer_line.new.out) in
     let fault = c.in_err-answer_line.field-0.0 in
-    let L : List ℕ → Type 0 = λ line. AnswersAndPuts {T = Unit {0}} {E = SinkFault} mid (line ∷ []) (Err fault) after in
+    let L : List ℕ → Type 0 = λ line. GoesOn {T = Unit {0}} {E = SinkFault} mid (asks_of (line ∷ [])) (Err fault) after in
     walk_stops c.args.block.now _ mid after rest (take end rest) (drop (end + 1) rest) c.loop-end.seen fault
     c.from_residual.result
     c.from_residual.ensures.0 c.loop-end.invariant.walked c.in-Some.ensures.found
@@ -26,14 +27,15 @@ pub loop-end-preserved : goal.loop-end-preserved
 loop-end-preserved g c =
     let given = g.C.Clock.given in
     let written = g.W.Sink.written in
+    let faults = g.K.Keeper.faults in
     let rest = c.loop-end.rest.now in
     let end = c.in-Some.end in
-    let before = progress c.args.office.now c.args.outbox.now (given c.args.clock.now) (written c.args.out.now) in
-    let mid = progress c.loop-end.office c.loop-end.outbox (given c.loop-end.clock) (written c.loop-end.out) in
-    let after = progress c.answer_line.new.office c.answer_line.new.outbox (given c.answer_line.new.clock)
+    let before = progress c.args.office.now.office (faults c.args.office.now.keeper) c.args.outbox.now (given c.args.clock.now) (written c.args.out.now) in
+    let mid = progress c.loop-end.office.office (faults c.loop-end.office.keeper) c.loop-end.outbox (given c.loop-end.clock) (written c.loop-end.out) in
+    let after = progress c.answer_line.new.office.office (faults c.answer_line.new.office.keeper) c.answer_line.new.outbox (given c.answer_line.new.clock)
     (written c.answer_line.new.out) in
     let done : Result (Unit {0}) SinkFault = Ok (tt {0}) in
-    let L : List ℕ → Type 0 = λ line. AnswersAndPuts mid (line ∷ []) done after in
+    let L : List ℕ → Type 0 = λ line. GoesOn mid (asks_of (line ∷ [])) done after in
     let W : List ℕ → Type 0 = λ behind. Walked c.args.block.now before behind 0 after in
     let walked = walk_on c.args.block.now before mid after rest (take end rest) (drop (end + 1) rest) c.loop-end.seen
     c.loop-end.invariant.walked c.in-Some.ensures.found

@@ -7,10 +7,12 @@ abbrev pub invariant-loop-end : goal.invariant-loop-end
 invariant-loop-end g l =
     let given = g.C.Clock.given in
     let written = g.W.Sink.written in
+    let keeper_faults = g.K.Keeper.faults in
     let faults = g.W.Sink.faults in
     record {
-      walked : Walked l.block (progress l.fn.office l.fn.outbox (given l.fn.clock) (written l.fn.out)) l.rest l.seen
-          (progress l.office l.outbox (given l.clock) (written l.out));
+      walked : Walked l.block (progress l.fn.office.office (keeper_faults l.fn.office.keeper) l.fn.outbox (given l.fn.clock)
+          (written l.fn.out)) l.rest l.seen
+          (progress l.office.office (keeper_faults l.office.keeper) l.outbox (given l.clock) (written l.out));
       kept : faults l.out ≡ faults l.fn.out;
     }
 

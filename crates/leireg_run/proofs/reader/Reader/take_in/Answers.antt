@@ -1,6 +1,8 @@
 use Rattle.std.proofs.Common.{[], ◌∷◌, ◌++◌, inr, refl}
 use Rattle.lei_outside.specs.declared.faults.SinkFault.{SinkFault}
 use Rattle.lei_outside.proofs.Faulting.{fails_later}
+use Rattle.lei_office.specs.declared.request.Asked.TheVariants.{Refuse}
+use Rattle.lei_office.specs.declared.reply.Refusal.TheVariants.{TooLong}
 use Rattle.leireg_run.specs.Runs.{progress}
 use Rattle.leireg_run.proofs.Reading.{never, skips_all, long_stops, long_goes}
 use Rattle.leireg_run.proofs.reader.Reader.take_in.Goals as goal
@@ -10,14 +12,15 @@ returns-then-not-skip_line-clause-answered g c part holds =
     skips_all SinkFault c.args.self.now.skips c.args.self.now.window _ c.args.seen _ part
     c.if-self.true c.if-not-skip_line.ensures.0 c.if-not-skip_line.ensures.1 holds
 
-pub returns-in_err-put_too_long-clause-answered : goal.returns-in_err-put_too_long-clause-answered
-returns-in_err-put_too_long-clause-answered g c part holds =
+pub returns-in_err-put_refusal-clause-answered : goal.returns-in_err-put_refusal-clause-answered
+returns-in_err-put_refusal-clause-answered g c part holds =
     let ends = c.if-not-skip_line.ensures in
-    let at = progress c.args.self.now.office c.args.self.now.outbox (g.C.Clock.given c.args.clock.now)
+    let at = progress c.args.self.now.office.office (g.K.Keeper.faults c.args.self.now.office.keeper)
+    c.args.self.now.outbox (g.C.Clock.given c.args.clock.now)
     (g.W.Sink.written c.args.out.now) in
     let stopped = long_stops c.args.self.now.skips c.args.self.now.window c.args.seen at _ _ part ends.0
-    c.skip_line.new.self c.in_err-put_too_long.field-0.0 c.from_residual.result
-    c.if-self.true c.from_residual.ensures.0 ends.1 c.in_err-put_too_long.ensures.puts holds in (
+    c.skip_line.new.self c.in_err-put_refusal.field-0.0 c.from_residual.result
+    c.if-self.true c.from_residual.ensures.0 ends.1 (c.in_err-put_refusal.ensures.puts (Refuse TooLong)) holds in (
       (part ++ ends.0) ++ 10 ∷ [],
       c.skip_line.new.self,
       stopped.0,
@@ -32,9 +35,9 @@ returns-then-self-clause-answered g c part holds =
     let ends = c.if-not-skip_line.ensures in
     long_goes c.args.self.now.skips c.args.self.now.window _ _ c.args.seen _ _ _ _ part ends.0 c.skip_line.new.self
     c.answer_whole.result
-    c.if-self.true ends.1 c.in_ok-put_too_long.ensures.puts c.answer_whole.ensures.answered holds
+    c.if-self.true ends.1 (c.in_ok-put_refusal.ensures.puts (Refuse TooLong)) c.answer_whole.ensures.answered holds
 
 pub returns-then-self-clause-failed : goal.returns-then-self-clause-failed
 returns-then-self-clause-failed g c is =
-    fails_later g.W.Sink.written g.W.Sink.faults _ _ _ (c.in_ok-put_too_long.ensures.kept (λ ok. cc))
+    fails_later g.W.Sink.written g.W.Sink.faults _ _ _ (c.in_ok-put_refusal.ensures.kept (λ ok. cc))
     (c.answer_whole.ensures.failed is)
