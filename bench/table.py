@@ -1,20 +1,29 @@
 #!/usr/bin/env python3
 """Measures how an upload's time grows with the table: 8, 16 and 32 uploads of 4,400 new records each, to 140,800
-records in all. Beside them stand as many uploads whose records all have one LEI, so that the table has one row: what is
-left of these is reading bodies, making records ready and judging them. Each time is the least of three runs. The memory
-of a row is what the program takes at most, over what it takes for the uploads of one LEI, by row."""
+records in all. Beside them stand as many uploads whose records all have one LEI, so that the table has one row, and a
+program of its own that reads the very bodies and makes their records ready, without lines, judging, table or answers. It
+calls `upload_format` and `lei_records` alone, and is proved and built in a temporary folder beside copies of the crates
+that it needs, with what was proved of them.
+
+Each time is that of the process on its processor, its own and the system's for it, the least of some runs. The last ratio
+is that of the uploads to reading and making ready. The memory of a row is what the program takes at most, over what it
+takes for the uploads of one LEI, by row."""
 import datetime
 import json
+import os
 import pathlib
+import shutil
 import subprocess
+import sys
 import tempfile
-
-from timing import least
 
 ROOT = pathlib.Path(__file__).resolve().parent.parent
 PROGRAM = ROOT / "crates" / "leireg" / "out" / "leireg"
+BELOW = ["lei_outside", "lei_code", "lei_shapes", "lei_records", "upload_format"]
+NAME = "table_bench"
 OFFICE = "506700GE1G29325QX363"
 RECORDS = 4400
+RUNS = 5
 
 FIELDS = {
     "Entity.EntityCategory": "GENERAL",
@@ -44,44 +53,84 @@ def code(number):
     return f"{number:018}{98 - number * 100 % 97:02}"
 
 
-def lines(uploads, first_of):
-    """An accreditation and uploads. A record's LEI and its id are those of a number."""
-    yield f"ACCREDIT {OFFICE}\n"
+def build(folder):
+    """The program that reads bodies and makes their records ready, proved and built."""
+    crates = folder / "crates"
+    for crate in BELOW:
+        shutil.copytree(ROOT / "crates" / crate, crates / crate, ignore=shutil.ignore_patterns("must-fail"))
+    source = crates / NAME / "src"
+    source.mkdir(parents=True)
+    shutil.copy(pathlib.Path(__file__).with_name("table.txt"), source / "main.rt")
+    lines = (ROOT / "crates.txt").read_text().splitlines()
+    kept = [line for line in lines if line.split(":")[0] in BELOW]
+    kept.append(f"{NAME}: lei_outside lei_records upload_format anyhow")
+    (folder / "crates.txt").write_text("\n".join(kept) + "\n")
+    subprocess.run(["git", "init", "-q"], cwd=folder, check=True)
+    done = subprocess.run(["rt", "run"], cwd=crates / NAME, capture_output=True, text=True)
+    if done.returncode:
+        sys.exit(done.stdout + done.stderr)
+    return crates / NAME / "out" / NAME
+
+
+def bodies(uploads, first_of):
+    """The bodies of uploads. A record's LEI and its id are those of a number."""
     for upload in range(uploads):
         numbers = (first_of(upload * RECORDS + at) for at in range(RECORDS))
         records = [{**FIELDS, "LEI": code(number), "Entity.RegistrationAuthority.RegistrationAuthorityEntityID": str(number)}
                    for number in numbers]
-        body = json.dumps({"records": records}, separators=(",", ":"), sort_keys=True)
-        yield f"UPLOAD {OFFICE} {upload + 1} {body}\n"
+        yield json.dumps({"records": records}, separators=(",", ":"), sort_keys=True)
 
 
-def measure(uploads, first_of):
-    """The least time of three runs in seconds, how many records were accepted, and the most memory in bytes."""
-    with tempfile.NamedTemporaryFile("w") as sent:
-        sent.writelines(lines(uploads, first_of))
-        sent.flush()
-        most = 0
+def run(command, source):
+    """The seconds of a processor that a command takes, the most memory in bytes, and what it writes."""
+    with tempfile.TemporaryFile() as written:
+        process = subprocess.Popen(command, stdin=source, stdout=written)
+        _, status, usage = os.wait4(process.pid, 0)
+        process.returncode = os.waitstatus_to_exitcode(status)
+        if process.returncode:
+            sys.exit(f"{command[0]} failed")
+        written.seek(0)
+        return usage.ru_utime + usage.ru_stime, usage.ru_maxrss * 1024, written.read()
 
-        def answered():
-            nonlocal most
-            with open(sent.name, "rb") as source:
-                command = ["/usr/bin/env", "time", "-f", "%M", PROGRAM, "lines"]
-                done = subprocess.run(command, stdin=source, capture_output=True, check=True)
-                most = max(most, int(done.stderr.split()[-1]) * 1024)
-                return done.stdout
 
-        accepted = answered().count(b'"ACCEPTED"')
-        return least(answered), accepted, most
+def answer(program, sent):
+    """The time of an accreditation and of uploads of these bodies, the most memory, and how many records were accepted."""
+    with tempfile.TemporaryFile("w+") as source:
+        source.write(f"ACCREDIT {OFFICE}\n")
+        source.writelines(f"UPLOAD {OFFICE} {number} {body}\n" for number, body in enumerate(sent, 1))
+        runs = []
+        for _ in range(RUNS):
+            source.seek(0)
+            runs.append(run([program, "lines"], source))
+        return min(taken for taken, _, _ in runs), min(most for _, most, _ in runs), runs[0][2].count(b'"ACCEPTED"')
+
+
+def read(program, folder, sent):
+    """The time of reading these bodies and of making their records ready, and how many were."""
+    files = []
+    for number, body in enumerate(sent):
+        files.append(folder / f"{number}.json")
+        files[-1].write_text(body)
+    runs = [run([program, *files], subprocess.DEVNULL) for _ in range(RUNS)]
+    return min(taken for taken, _, _ in runs), int(runs[0][2])
 
 
 def main():
     subprocess.run([ROOT / "leireg", "lines"], stdin=subprocess.DEVNULL, check=True)
-    for uploads in (8, 16, 32):
-        new, accepted, most = measure(uploads, lambda number: 1000 + number)
-        same, _, least_most = measure(uploads, lambda number: 1000)
-        print(f"{uploads:3} uploads, {accepted:6} records   {new:6.2f} s   {new / uploads * 1000:6.1f} ms an upload"
-              f"   one LEI {same:6.2f} s   ratio {new / same:4.2f}"
-              f"   {(most - least_most) / (uploads * RECORDS):6.0f} bytes a row")
+    print(f"{datetime.date.today()}, {os.cpu_count()} processors, load {os.getloadavg()[0]:.1f}")
+    with tempfile.TemporaryDirectory() as name:
+        folder = pathlib.Path(name)
+        reader = build(folder)
+        for uploads in (8, 16, 32):
+            sent = list(bodies(uploads, lambda number: 1000 + number))
+            new, most, accepted = answer(PROGRAM, sent)
+            same, least_most, _ = answer(PROGRAM, bodies(uploads, lambda number: 1000))
+            alone, ready = read(reader, folder, sent)
+            if accepted != ready:
+                sys.exit(f"{accepted} records were accepted, and {ready} made ready")
+            print(f"{uploads:3} uploads, {accepted:6} records   {new:6.2f} s   {new / uploads * 1000:6.1f} ms an upload"
+                  f"   one LEI {same:6.2f} s   read and made ready {alone:6.2f} s   ratio {new / alone:4.2f}"
+                  f"   {(most - least_most) / (uploads * RECORDS):6.0f} bytes a row")
 
 
 if __name__ == "__main__":
