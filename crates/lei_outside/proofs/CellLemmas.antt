@@ -1,5 +1,5 @@
 -- Cells in a map by their places, as a finite map: what an insertion comes to, and the cells in order.
-use Rattle.std.specs.Prelude.{◌≡◌, ℕ, ◌&&◌, nat_le, nat_lt, Bool, true, false, cond, List, [], ◌∷◌, ◌++◌, length, map, filter, Option, Some, None, Result, Ok, Err, IfOk}
+use Rattle.std.specs.Prelude.{◌≡◌, ℕ, ◌&&◌, nat_le, nat_lt, Bool, true, false, cond, List, [], ◌∷◌, ◌++◌, map, Option, Some, Result, Ok, Err, IfOk}
 use Rattle.std.specs.BTreeMap.{insert_entry}
 use Rattle.std.specs.Borrow.{Bor}
 use Rattle.std.specs.Global.{Global}
@@ -7,7 +7,7 @@ use Rattle.std.specs.declared.vec.Vec.{Vec}
 use Rattle.std.specs.Cmp.{tied_itself}
 use Rattle.std.proofs.lemmas.Cmp.{nat_list_cmp_total}
 use Rattle.std.specs.Cmp.Lexicographic.{slice_cmp}
-use Rattle.std.specs.FinMap.{empty, entries, from_entries, from_sorted, entries-from_sorted, get, insert, get-from_entries, get-from_sorted, get-insert, nat_cmp-IsAntisymmetric, same_map, slice_cmp-IsAntisymmetric}
+use Rattle.std.specs.FinMap.{empty, entries, from_entries, from_sorted, entries-from_sorted, insert, get-from_entries, get-from_sorted, get-insert, nat_cmp-IsAntisymmetric, same_map, slice_cmp-IsAntisymmetric}
 use Rattle.std.specs.FinMap.Entries.{below_all, find, is_sorted}
 use Rattle.std.specs.List.{AllByRecursion}
 use Rattle.std.specs.List.Sorted.{IsStrictlySortedBy}
@@ -18,7 +18,7 @@ use Rattle.std.proofs.Common.{refl, sym, ap, subst, ◌∙◌, append_assoc, T}
 use mathlib.Core.Bool.{true≢false}
 use Rattle.lei_outside.specs.declared.keeper.KeptCell.{KeptCell}
 use Rattle.lei_outside.specs.CellLists.{between_of, cells_in, content_at}
-use Rattle.lei_outside.specs.Keeping.{CellContent, CellPlace, Cells, cell_at, content_of, put_cell}
+use Rattle.lei_outside.specs.Keeping.{CellContent, CellPlace, Cells, cell_at, content_of}
 
 abbrev pub Listed : Type 0
 Listed = List (CellPlace × Bor KeptCell)

@@ -1,8 +1,8 @@
 -- Tables that are kept stay so with a batch.
-use Rattle.std.specs.Prelude.{◌≡◌, ◌<◌, ◌≤◌, ◌+◌, ◌-◌, ◌&&◌, nat_le, nat_lt, filter, ℕ, List, [], ◌∷◌, ◌++◌, length, slice_get, fold, Bool, true, false, cond, Option, None, Some, IfSome}
+use Rattle.std.specs.Prelude.{◌≡◌, ◌<◌, ◌≤◌, ◌+◌, ◌-◌, ◌&&◌, nat_le, nat_lt, filter, ℕ, List, [], ◌∷◌, ◌++◌, length, slice_get, Bool, true, false, cond, Option, Some, IfSome}
 use Rattle.std.proofs.lemmas.Cmp.{nat_list_cmp_total}
 use Rattle.std.specs.Cmp.Lexicographic.{slice_cmp}
-use Rattle.std.specs.FinMap.{empty, get, insert, get-empty, get-insert}
+use Rattle.std.specs.FinMap.{empty, get, get-empty, get-insert}
 use Rattle.std.specs.List.{AllByRecursion}
 use Rattle.std.specs.Ordering.{eq_by_cmp, nat_cmp}
 use Rattle.std.proofs.Common.{refl, sym, ap, subst, ◌∙◌, arith}
@@ -10,8 +10,8 @@ use Rattle.std.proofs.lemmas.List.Sums.{fold-append}
 use Rattle.lei_outside.specs.declared.entry.KeptEntry.{KeptEntry}
 use Rattle.lei_outside.specs.declared.keeper.Batch.{Batch}
 use Rattle.lei_outside.specs.declared.keeper.KeptCell.{KeptCell}
-use Rattle.lei_outside.specs.Keeping.{AreKept, AreTouched, CellContent, CellPlace, Cells, IsBatch, IsCellOf, IsNextOf, RiseFrom, content_of, last_number, number_of, place_of, put_cell, put_cells}
-use Rattle.lei_outside.specs.Memory.{SureKeeperState, tables_of, with_kept}
+use Rattle.lei_outside.specs.Keeping.{AreKept, AreTouched, CellContent, Cells, IsBatch, IsCellOf, IsEntryNumber, RiseFrom, content_of, last_number, number_of, place_of, put_cell, put_cells}
+use Rattle.lei_outside.specs.Memory.{AreOfEntries, MayBeKept, SureKeeperState, tables_of, with_kept}
 
 -- ---- entries
 
@@ -41,20 +41,23 @@ between after upto list = filter (λ e. nat_lt after e.seq && nat_le e.seq upto)
 -- ---- cells
 
 touched_by : (b : Bool) (new : CellContent) (old : Option CellContent) (content : CellContent) → cond b (Some new) old ≡ Some content
-    → 1 ≤ new.touched → (old ≡ Some content → 1 ≤ content.touched) → 1 ≤ content.touched
-touched_by true new old content is low kept = subst (λ o. IfSome o (λ c. 1 ≤ c.touched)) is low
+    → IsEntryNumber new.touched → (old ≡ Some content → IsEntryNumber content.touched) → IsEntryNumber content.touched
+touched_by true new old content is low kept = subst (λ o. IfSome o (λ c. IsEntryNumber c.touched)) is low
 touched_by false new old content is low kept = kept is
 
-put_touched : (cells : Cells) (cell : KeptCell) → AreTouched cells → 1 ≤ cell.touched → AreTouched (put_cell cells cell)
+put_touched : (cells : Cells) (cell : KeptCell) → AreTouched cells → IsEntryNumber cell.touched → AreTouched (put_cell cells cell)
 put_touched cells cell are low place content is =
     touched_by (eq_by_cmp (slice_cmp nat_cmp) place (place_of cell)) (content_of cell) (get cells place) content
     (sym (get-insert nat_list_cmp_total cells (place_of cell) (content_of cell) place) ∙ is) low (are place content)
 
-all_touched : (number : ℕ) (cells : Cells) (list : List KeptCell) → 1 ≤ number → AllByRecursion (IsCellOf number) list → AreTouched cells → AreTouched (put_cells cells list)
-all_touched number cells [] low all are = are
-all_touched number cells (cell ∷ list) low all are =
-    let own : cell.touched ≡ number = all.0.0 in
-    all_touched number (put_cell cells cell) list low all.1 (put_touched cells cell are (omega (arith, own, low)))
+all_touched : (number : ℕ) (cells : Cells) (list : List KeptCell) → IsEntryNumber number → AllByRecursion (IsCellOf number) list → AreTouched cells → AreTouched (put_cells cells list)
+all_touched number cells [] is all are = are
+all_touched number cells (cell ∷ list) is all are =
+    all_touched number (put_cell cells cell) list is all.1 (put_touched cells cell are (subst IsEntryNumber (sym all.0.0) is))
+
+came_touched : (cells : Cells) (list : List KeptCell) → AreOfEntries list → AreTouched cells → AreTouched (put_cells cells list)
+came_touched cells [] all are = are
+came_touched cells (cell ∷ list) all are = came_touched (put_cell cells cell) list all.1 (put_touched cells cell are all.0)
 
 none_touched : AreTouched empty
 none_touched place content is = let none = sym (get-empty (slice_cmp nat_cmp) place) ∙ is in cc
@@ -64,6 +67,9 @@ none_touched place content is = let none = sym (get-empty (slice_cmp nat_cmp) pl
 pub nothing-kept : AreKept (tables_of (record { entries = []; cells = [] }))
 nothing-kept = record { entries = tt; cells = none_touched }
 
+pub may-kept : (entries : List KeptEntry) (cells : List KeptCell) → MayBeKept entries cells → AreKept (tables_of (record { entries = entries; cells = cells }))
+may-kept entries cells may = record { entries = may.0; cells = came_touched empty cells may.1 none_touched }
+
 pub tables-with : (keeper : SureKeeperState) (batch : Batch) → put_cells (put_cells empty keeper.cells) batch.cells ≡ put_cells empty (keeper.cells ++ batch.cells)
 tables-with keeper batch = sym (fold-append put_cell empty keeper.cells batch.cells)
 
@@ -71,8 +77,9 @@ pub kept-with : (keeper : SureKeeperState) (batch : Batch) → AreKept (tables_o
     → AreKept (tables_of (with_kept batch keeper))
 kept-with keeper batch kept is next =
     let low : 1 ≤ batch.entry.seq = omega (arith, next) in
+    let number : IsEntryNumber batch.entry.seq = (low, omega (arith, is.number)) in
     let behind : last_from 0 keeper.entries < batch.entry.seq = omega (arith, next, last_of keeper.entries) in
     record {
       entries = rise_on 0 keeper.entries batch.entry kept.entries behind;
-      cells = subst AreTouched (tables-with keeper batch) (all_touched batch.entry.seq (put_cells empty keeper.cells) batch.cells low is.cells kept.cells);
+      cells = subst AreTouched (tables-with keeper batch) (all_touched batch.entry.seq (put_cells empty keeper.cells) batch.cells number is.cells kept.cells);
     }

@@ -1,7 +1,7 @@
 -- Cells by the bytes of their places, as a map in memory has them.
 use Rattle.std.specs.Prelude.{ℕ, List, ◌&&◌, map, filter, nat_le, nat_lt}
 use Rattle.std.specs.Borrow.{Bor}
-use Rattle.std.specs.FinMap.{entries, from_entries}
+use Rattle.std.specs.FinMap.{from_entries}
 use Rattle.lei_outside.specs.Keeping.{CellContent, CellPlace, Cells, cell_at, content_of}
 use Rattle.lei_outside.specs.declared.keeper.KeptCell.{KeptCell}
 

@@ -65,11 +65,15 @@ abbrev pub RiseFrom : ℕ → List KeptEntry → Type 0
 RiseFrom number [] = ⊤
 RiseFrom number (e ∷ list) = (number < e.seq) × RiseFrom e.seq list
 
--- Each cell was touched by an entry, whose number is at least 1.
-abbrev pub AreTouched : Cells → Type 0
-AreTouched cells = (place : CellPlace) (content : CellContent) → get cells place ≡ Some content → 1 ≤ content.touched
+-- A number that an entry may have: at least 1, and at most 18,446,744,073,709,551,615, the greatest of 64 bits.
+abbrev pub IsEntryNumber : ℕ → Type 0
+IsEntryNumber number = (1 ≤ number) × (number ≤ 18446744073709551615)
 
--- Tables that are kept: each entry and each cell has a number of at least 1, and no number of an entry stands twice.
+-- Each cell was touched by an entry.
+abbrev pub AreTouched : Cells → Type 0
+AreTouched cells = (place : CellPlace) (content : CellContent) → get cells place ≡ Some content → IsEntryNumber content.touched
+
+-- Tables that are kept: the numbers of the entries are at least 1 and rise, and each cell has the number of an entry.
 pub record AreKept (tables : KeptTables) : Type 0 where
   pub entries : RiseFrom 0 tables.entries
   pub cells : AreTouched tables.cells

@@ -2,7 +2,8 @@
 use Rattle.std.specs.Prelude.{ℕ, List, [], ◌∷◌, ◌++◌, Contains}
 use Rattle.std.specs.FinMap.{empty}
 use Rattle.lei_outside.specs.Count.{counted}
-use Rattle.lei_outside.specs.Keeping.{KeptTables, put_cells}
+use Rattle.std.specs.List.{AllByRecursion}
+use Rattle.lei_outside.specs.Keeping.{IsEntryNumber, KeptTables, RiseFrom, put_cells}
 use Rattle.lei_outside.specs.declared.entry.KeptEntry.{KeptEntry}
 use Rattle.lei_outside.specs.declared.keeper.Batch.{Batch}
 use Rattle.lei_outside.specs.declared.keeper.KeptCell.{KeptCell}
@@ -43,6 +44,15 @@ pub record SureKeeperState : Type 0 where
 -- Its tables: of the cells of one place the last one is kept.
 abbrev pub tables_of : SureKeeperState → KeptTables
 tables_of keeper = record { entries = keeper.entries; cells = put_cells empty keeper.cells }
+
+-- Cells that came, each touched by an entry.
+abbrev pub AreOfEntries : List KeptCell → Type 0
+AreOfEntries cells = AllByRecursion (λ cell. IsEntryNumber cell.touched) cells
+
+-- Entries and cells that a keeper may have: the numbers of the entries are at least 1 and rise, and each cell was touched
+-- by an entry.
+abbrev pub MayBeKept : List KeptEntry → List KeptCell → Type 0
+MayBeKept entries cells = RiseFrom 0 entries × AreOfEntries cells
 
 -- What it keeps with a batch.
 abbrev pub with_kept : Batch → SureKeeperState → SureKeeperState

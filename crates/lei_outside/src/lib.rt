@@ -23,7 +23,7 @@ pub use faults::{Failed, KeepFault, NoMemory, SinkFault};
 pub use keeper::{Batch, Keeper, KeptCell};
 pub use list::{Bytes, List, Text};
 pub use memory_clock::ListClock;
-pub use memory_keeper::{MapKeeper, SureKeeper};
+pub use memory_keeper::{MapKeeper, SureKeeper, may_be_kept};
 pub use memory_sink::{ByteSink, SureSink};
 pub use memory_source::{ByteSource, SureSource};
 pub use sink::{Sink, write_all};

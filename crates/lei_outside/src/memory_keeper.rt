@@ -1,8 +1,8 @@
 // Keepers that keep in memory.
-ghost use Rattle.std.specs.Prelude.{◌≡◌, ◌↔◌, ◌≤◌, [], Some, IfOk, OnOk, OnErr, IsErrOf};
+ghost use Rattle.std.specs.Prelude.{◌≡◌, ◌↔◌, ◌≤◌, [], Some, IfOk, OnOk, OnErr, IsErrOf, IsTrue};
 ghost use Rattle.lei_outside.specs.Count.{Rose, counted};
-ghost use Rattle.lei_outside.specs.Keeping.{AreKept, IsBatch, IsNextOf, cells_between, entries_between, last_number};
-ghost use Rattle.lei_outside.specs.Memory.{FailsNext, tables_of, with_kept};
+ghost use Rattle.lei_outside.specs.Keeping.{AreKept, IsBatch, IsNextOf, RiseFrom, cells_between, entries_between, last_number};
+ghost use Rattle.lei_outside.specs.Memory.{AreOfEntries, FailsNext, MayBeKept, tables_of, with_kept};
 
 use crate::calls::Calls;
 use crate::cell_list::cells_between;
@@ -113,6 +113,39 @@ fn copies(alloc: Global, cells: &[KeptCell]) -> Result<Vec<KeptCell>, NoMemory>
         list.push(cell.copy(alloc)?)?;
     }
     Ok(list)
+}
+
+/// Whether a keeper may have these entries and cells: the numbers of the entries are at least 1 and rise, and those of
+/// the cells are at least 1.
+pub fn may_be_kept(entries: &[KeptEntry], cells: &[KeptCell]) -> bool
+    ensures value { IsTrue result ↔ MayBeKept entries.now cells.now }
+    ensures kept { IsTrue result → AreKept (tables_of (record { entries = entries.now; cells = cells.now })) }
+{
+    do_rise(entries) && are_of_entries(cells)
+}
+
+fn do_rise(entries: &[KeptEntry]) -> bool
+    ensures { IsTrue result ↔ RiseFrom 0 entries.now }
+{
+    let mut number = 0;
+    for entry in entries {
+        if entry.seq <= number {
+            return false;
+        }
+        number = entry.seq;
+    }
+    true
+}
+
+fn are_of_entries(cells: &[KeptCell]) -> bool
+    ensures { IsTrue result ↔ AreOfEntries cells.now }
+{
+    for cell in cells {
+        if cell.touched == 0 {
+            return false;
+        }
+    }
+    true
 }
 
 /// A keeper in memory, some of whose calls fail.

@@ -1,4 +1,3 @@
-use Rattle.std.proofs.Common.{rules}
 use Rattle.std.specs.FinMap.{empty}
 use Rattle.lei_outside.specs.Keeping.{put_cells}
 use Rattle.lei_outside.proofs.CellLemmas.{all_between}

@@ -1,4 +1,3 @@
-use Rattle.std.proofs.Common.{rules, subst, sym}
 use Rattle.lei_outside.proofs.KeepingLemmas.{nothing-kept}
 use Rattle.lei_outside.proofs.memory_keeper.SureKeeper.new.Goals as goal
 

@@ -1,6 +1,4 @@
 use Rattle.std.proofs.Common.{◌≡◌, ◌++◌, drop}
-use Rattle.lei_outside.specs.Keeping.{entries_between}
-use Rattle.lei_outside.specs.Memory.{tables_of}
 use Rattle.lei_outside.proofs.KeepingLemmas.{between}
 use Rattle.lei_outside.proofs.memory_keeper.SureKeeperKeeper.entries.Given as goal
 
