@@ -79,7 +79,7 @@ sheet_same (RowKey.Exc l c) (RowKey.Rel f t m) is = apart_23 _ _ _ (sym is)
 content_in : Sheet → ℕ → Row → CellContent
 content_in sheet entry row = record { touched = entry; row = Some (json_record (row_of sheet row)) }
 
-item_kept : (key : RowKey) (entry : ℕ) (item : Option Item) → IsItemOf key item → content key (cell_of entry item) ≡ record { touched = entry; row = option_map item_text item }
+pub item_kept : (key : RowKey) (entry : ℕ) (item : Option Item) → IsItemOf key item → content key (cell_of entry item) ≡ record { touched = entry; row = option_map item_text item }
 unfolding content_in
 item_kept key entry None own = refl
 item_kept key entry (Some (Item.Record row)) own = ap (λ s. content_in s entry row) (sheet_same key (row_key (Item.Record row)) own)

@@ -22,7 +22,7 @@ use Rattle.lei_office.proofs.Histories.{last_entry-push, request_adds, upload_ad
 -- ---- moments
 
 -- each entry is next after those before it
-next_at : (limits : Limits) (before front after : History) (e : KeptEntry) → LegalAfter limits before (front ++ e ∷ after) → IsNext (office_of limits (before ++ front)) e
+pub next_at : (limits : Limits) (before front after : History) (e : KeptEntry) → LegalAfter limits before (front ++ e ∷ after) → IsNext (office_of limits (before ++ front)) e
 next_at limits before [] after e legal = (let P : History → Type 0 = λ h. IsNext (office_of limits h) e in subst P (sym (append-nil before)) legal.0)
 next_at limits before (first ∷ front) after e legal =
     (let P : History → Type 0 = λ h. IsNext (office_of limits h) e in subst P (append_assoc before (first ∷ []) front) (next_at limits (before ++ first ∷ []) front after e legal.1))

@@ -17,7 +17,7 @@ use Rattle.register_table.specs.Held.{Cell, Held}
 use Rattle.register_table.specs.Touched.{touched}
 use Rattle.upload_ledger.specs.History.{History, is_accreditation, is_upload}
 use Rattle.lei_office.specs.declared.limits.Limits.{Limits}
-use Rattle.lei_office.specs.declared.opening.Damage.{Damage}
+use Rattle.lei_office.specs.declared.damage.Damage.{Damage}
 use Rattle.lei_office.specs.declared.request.Request.{Request}
 use Rattle.lei_office.specs.declared.request.Request.TheVariants.{Accredit, Upload}
 use Rattle.lei_office.specs.Kept.{AreTablesOf, joined}
@@ -94,12 +94,20 @@ replayed office e = request_text office e.moment (asked_by e)
 
 -- ---- the first entry that differs
 
--- The entry of this number that is stored isn't what the replay makes, or the next that is stored has another number, so
--- that none of this number is there.
+-- an entry that is stored and isn't what the replay makes
+abbrev pub not_next : OfficeState → KeptEntry → Damage
+not_next office e = record { entry = e.seq; kept = entry_line e; replayed = replayed office e }
+
+-- no entry of this number is stored
+abbrev pub missing : ℕ → Damage
+missing number = record { entry = number; kept = codes "none"; replayed = codes "NOT_AN_ENTRY" }
+
+-- Where the entry of this number should be, another stands that isn't what the replay makes, or one of another number, so
+-- that none of this number is stored.
 abbrev pub EntryDiffers : OfficeState → ℕ → KeptEntry → Damage → Type 0
 EntryDiffers office number e damage =
-    ((e.seq ≡ number) × (IsNext office e → ⊥) × (damage.kept ≡ entry_line e) × (damage.replayed ≡ replayed office e))
-    ⊎ ((e.seq ≢ number) × (damage.kept ≡ codes "none") × (damage.replayed ≡ codes "NOT_AN_ENTRY"))
+    ((e.seq ≡ number) × (IsNext office e → ⊥) × (damage ≡ not_next office e))
+    ⊎ ((e.seq ≢ number) × (damage ≡ missing number))
 
 -- The first entry that differs: those before it are a legal history, and it isn't the next one of that.
 pub record IsEntryDamage (limits : Limits) (entries : History) (damage : Damage) : Type 0 where
@@ -108,7 +116,6 @@ pub record IsEntryDamage (limits : Limits) (entries : History) (damage : Damage)
   pub rest : History
   pub are : entries ≡ before ++ next ∷ rest
   pub legal : Legal (office_of limits before)
-  pub number : damage.entry ≡ length before + 1
   pub differs : EntryDiffers (office_of limits before) (length before + 1) next damage
 
 -- ---- how a cell is told
@@ -159,15 +166,25 @@ kept_page tables bounds = cells_between bounds.0 bounds.1 tables
 abbrev pub made_page : Held → ℕ × ℕ → List KeptCell
 made_page held bounds = map kept_of (touched bounds.0 bounds.1 held)
 
--- from here on the cells of a page differ: the first of those that are kept, and the first of those of the register
+-- a cell in its line, and `none` for none
+abbrev pub cell_or_none : Option KeptCell → Text
+cell_or_none None = codes "none"
+cell_or_none (Some cell) = cell_line cell
+
+-- a cell that is kept and isn't the one of the register that stands in its place, if one does
+abbrev pub not_made : KeptCell → Option KeptCell → Damage
+not_made kept made = record { entry = kept.touched; kept = cell_line kept; replayed = cell_or_none made }
+
+-- a cell of the register that isn't kept, nor any behind those before it
+abbrev pub not_kept : KeptCell → Damage
+not_kept made = record { entry = made.touched; kept = codes "none"; replayed = cell_line made }
+
+-- the first of the cells that are kept and the first of those of the register differ
 abbrev pub CellDiffers : List KeptCell → List KeptCell → Damage → Type 0
 CellDiffers [] [] damage = ⊥
-CellDiffers [] (made ∷ others) damage =
-    (damage.entry ≡ made.touched) × (damage.kept ≡ codes "none") × (damage.replayed ≡ cell_line made)
-CellDiffers (kept ∷ rest) [] damage =
-    (damage.entry ≡ kept.touched) × (damage.kept ≡ cell_line kept) × (damage.replayed ≡ codes "none")
-CellDiffers (kept ∷ rest) (made ∷ others) damage =
-    (kept ≢ made) × (damage.entry ≡ kept.touched) × (damage.kept ≡ cell_line kept) × (damage.replayed ≡ cell_line made)
+CellDiffers [] (made ∷ others) damage = damage ≡ not_kept made
+CellDiffers (kept ∷ rest) [] damage = damage ≡ not_made kept None
+CellDiffers (kept ∷ rest) (made ∷ others) damage = (kept ≢ made) × (damage ≡ not_made kept (Some made))
 
 -- The first place at which two lists of cells differ.
 pub record DifferFirst (kept made : List KeptCell) (damage : Damage) : Type 0 where
@@ -178,13 +195,12 @@ pub record DifferFirst (kept made : List KeptCell) (damage : Damage) : Type 0 wh
   pub made_is : made ≡ front ++ made_rest
   pub differs : CellDiffers kept_rest made_rest damage
 
--- The first cell that differs: the pages before its own have the same cells, and so has its own before it.
-pub record IsCellDamage (limits : Limits) (tables : KeptTables) (damage : Damage) : Type 0 where
+-- The first cell that differs from those of a register after this many entries: the pages before its own have the same
+-- cells, and so has its own before it.
+pub record IsCellDamage (last : ℕ) (held : Held) (tables : KeptTables) (damage : Damage) : Type 0 where
   pub page : ℕ
-  pub earlier : (k : ℕ) → k < page → kept_page tables (page_bounds (length tables.entries) k)
-      ≡ made_page (held_after limits tables.entries) (page_bounds (length tables.entries) k)
-  pub differs : DifferFirst (kept_page tables (page_bounds (length tables.entries) page))
-      (made_page (held_after limits tables.entries) (page_bounds (length tables.entries) page)) damage
+  pub earlier : (k : ℕ) → k < page → kept_page tables (page_bounds last k) ≡ made_page held (page_bounds last k)
+  pub differs : DifferFirst (kept_page tables (page_bounds last page)) (made_page held (page_bounds last page)) damage
 
 -- ---- damage
 
@@ -192,7 +208,8 @@ pub record IsCellDamage (limits : Limits) (tables : KeptTables) (damage : Damage
 -- isn't one of the register after it.
 abbrev pub IsDamage : Limits → KeptTables → Damage → Type 0
 IsDamage limits tables damage = IsEntryDamage limits tables.entries damage
-    ⊎ (Legal (office_of limits tables.entries) × IsCellDamage limits tables damage)
+    ⊎ (Legal (office_of limits tables.entries)
+    × IsCellDamage (length tables.entries) (held_after limits tables.entries) tables damage)
 
 -- The tables are those of a legal history under these limits.
 abbrev pub AreOfHistory : Limits → KeptTables → Type 0

@@ -11,3 +11,5 @@ pub mod Kept
 pub mod Deciding
 pub mod Offices
 pub mod Touching
+pub mod Damage
+pub mod Opening

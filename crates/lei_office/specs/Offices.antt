@@ -1,7 +1,34 @@
--- An office with its keeper, as contracts see it.
+-- An office with its keeper, as contracts see it, and what comes of opening one.
+use Rattle.std.specs.Prelude.{◌≡◌, ℕ, Option, IfSome, ⊤}
+use Rattle.lei_outside.specs.Count.{Rose}
+use Rattle.lei_outside.specs.Keeping.{KeptTables}
+use Rattle.lei_office.specs.declared.limits.Limits.{Limits}
+use Rattle.lei_office.specs.declared.opening.OpenFault.{OpenFault}
+use Rattle.lei_office.specs.declared.opening.OpenFault.TheVariants.{KeeperFault, NoMemory, StoreDamaged}
+use Rattle.lei_office.specs.Damage.{IsDamage}
 use Rattle.lei_office.specs.State.{OfficeState}
 
 -- its limits with its history, and beside them the keeper
 pub record KeptOffice (K : Type 0) : Type 0 where
   pub office : OfficeState
   pub keeper : K
+
+-- ---- opening
+
+-- the keeper that comes back where an office isn't opened
+abbrev pub keeper_back : {K : Type 0} → OpenFault K → K
+keeper_back (KeeperFault keeper) = keeper
+keeper_back (StoreDamaged keeper damage) = keeper
+keeper_back (NoMemory keeper) = keeper
+
+-- A call of the keeper failed exactly where that is told: its count of faults rose then, and stayed else.
+abbrev pub FaultRose : {K : Type 0} → ℕ → ℕ → OpenFault K → Type 0
+FaultRose before now (KeeperFault keeper) = Rose before now
+FaultRose before now (StoreDamaged keeper damage) = now ≡ before
+FaultRose before now (NoMemory keeper) = now ≡ before
+
+-- Where a store is told to be damaged and its keeper tells its tables, this is their first difference.
+abbrev pub IsRefused : {K : Type 0} → Limits → (K → Option KeptTables) → OpenFault K → Type 0
+IsRefused limits tables (KeeperFault keeper) = ⊤
+IsRefused limits tables (StoreDamaged keeper damage) = IfSome (tables keeper) (λ told. IsDamage limits told damage)
+IsRefused limits tables (NoMemory keeper) = ⊤

@@ -17,11 +17,15 @@ pub record Touches (number : ℕ) (before after : Held) : Type 0 where
   pub later : IsLater number before
   pub each : (key : KeyTexts) → (get after key ≡ get before key) ⊎ ((cell : Cell) × (get after key ≡ Some cell) × (cell.entry ≡ number))
 
--- These are the cells that the entry of this number touched last, as they are kept: each stands under a key whose LEIs are
--- LEIs, and its item is the key's own.
-pub record AreTouchedCells (number : ℕ) (held : Held) (cells : List KeptCell) : Type 0 where
+-- These are the cells that entries touched last whose numbers are greater than one number and at most another, as they are
+-- kept: each stands under a key whose LEIs are LEIs, and its item is the key's own.
+pub record AreCellsTouched (after upto : ℕ) (held : Held) (cells : List KeptCell) : Type 0 where
   pub list : List Touched
   pub are : cells ≡ map kept_cell list
-  pub told : map shown list ≡ touched (number - 1) number held
+  pub told : map shown list ≡ touched after upto held
   pub keys : AllByRecursion (λ told. IsKey told.key) list
   pub own : AllByRecursion (λ told. IsItemOf told.key told.item) list
+
+-- These are the cells that the entry of this number touched last, as they are kept.
+abbrev pub AreTouchedCells : ℕ → Held → List KeptCell → Type 0
+AreTouchedCells number held cells = AreCellsTouched (number - 1) number held cells

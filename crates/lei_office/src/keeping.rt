@@ -9,7 +9,7 @@ ghost use Rattle.lei_records.specs.Tables.{put_all};
 ghost use Rattle.upload_ledger.specs.Limits.{AreFew};
 ghost use Rattle.lei_office.specs.Kept.{AreTablesWith, IsKey, kept_cell, kind_of, name_of};
 ghost use Rattle.lei_office.specs.Replies.{told};
-ghost use Rattle.lei_office.specs.Touching.{AreTouchedCells, Touches};
+ghost use Rattle.lei_office.specs.Touching.{AreCellsTouched, Touches};
 ghost use Rattle.register_table.specs.Held.{Held, rows};
 ghost use Rattle.register_table.specs.Undos.{IsLater, MayApply, touch_all};
 
@@ -98,19 +98,23 @@ fn keep<K: Keeper>(
     ensures failed { IsErrOf result KeepFault.Failed → Rose (K.faults keeper.old) (K.faults keeper.new) }
 {
     ledger.reserve(&entry)?;
-    let cells = touched_cells(alloc, table, entry.seq)?;
+    let cells = touched_cells(alloc, table, entry.seq - 1, entry.seq)?;
     let batch = Batch { entry, cells };
     keeper.commit(&batch)?;
     ledger.push_reserved(batch.entry);
     Ok(())
 }
 
-// The cells that the entry of this number touched last.
-fn touched_cells(alloc: Global, table: &Table, number: u64) -> Result<List<KeptCell>, NoMemory>
-    requires { 1 ≤ number }
-    ensures { IfOk result (AreTouchedCells number table.now.held) }
+// The cells that entries touched last whose numbers are greater than `after` and at most `upto`.
+pub fn touched_cells(
+    alloc: Global,
+    table: &Table,
+    after: u64,
+    upto: u64,
+) -> Result<List<KeptCell>, NoMemory>
+    ensures { IfOk result (AreCellsTouched after upto table.now.held) }
 {
-    let touched = table.touched(number - 1, number)?;
+    let touched = table.touched(after, upto)?;
     let cells = kept_cells(alloc, touched.as_slice())?;
     Ok(List::from(cells))
 }

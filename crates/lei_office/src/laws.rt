@@ -6,6 +6,9 @@ ghost use Rattle.lei_records.specs.Tables.{IsSound, Table};
 ghost use Rattle.lei_records.specs.declared.item.RawItem.{RawItem};
 ghost use Rattle.register_judge.specs.Taking.{take};
 ghost use Rattle.lei_office.specs.Answers.{IsTold};
+ghost use Rattle.lei_outside.specs.Keeping.{KeptTables};
+ghost use Rattle.lei_office.specs.Damage.{DamageExcludes};
+ghost use Rattle.lei_office.specs.declared.limits.Limits.{Limits};
 ghost use Rattle.successor_rules.specs.Successors.{HasChains};
 ghost use Rattle.relation_rules.specs.Parents.{AreApart, HasParents};
 ghost use Rattle.lei_office.specs.declared.reply.Refusal.TheVariants.{KeeperFault, NoMemory};
@@ -69,6 +72,11 @@ pub fn verdicts_are_told()
 /// The rows of the cells that are kept of a register are those of the register.
 pub fn cells_have_the_rows()
     ensures { (office : OfficeState) → CellsHaveTheRows office }
+{}
+
+/// What has damage isn't what a history leaves: a store of a history is never refused.
+pub fn damage_is_no_history()
+    ensures { (limits : Limits) (tables : KeptTables) → DamageExcludes limits tables }
 {}
 
 /// No two tables are those that are kept of one office.

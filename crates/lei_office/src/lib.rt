@@ -1,6 +1,8 @@
 //! The office of the register: what it answers to requests, and what it keeps of them.
 #![tactic(auto)]
 
+mod comparing;
+mod damage;
 mod deciding;
 mod entries;
 mod judge;
@@ -8,18 +10,23 @@ mod keeping;
 mod laws;
 mod limits;
 mod office;
+mod opening;
+mod replaying;
 mod reply;
 mod request;
 mod texts;
 
+pub use damage::Damage;
 pub use entries::RULES;
 pub use laws::{
-    cells_have_the_rows, changes_are_permitted, changes_make_records, exceptions_stand_apart,
-    kept_tables_are_one, moments_never_fall, parents_are_chained, registers_are_sound,
-    sessions_are_exact, successors_are_chained, uploads_are_numbered, verdicts_are_told,
+    cells_have_the_rows, changes_are_permitted, changes_make_records, damage_is_no_history,
+    exceptions_stand_apart, kept_tables_are_one, moments_never_fall, parents_are_chained,
+    registers_are_sound, sessions_are_exact, successors_are_chained, uploads_are_numbered,
+    verdicts_are_told,
 };
 pub use limits::Limits;
 pub use office::Office;
+pub use opening::OpenFault;
 pub use reply::{Kind, Refusal, Reply};
 pub use request::{Asked, Call, MAX_NUMBER, Request, is_upload_number};
 pub use upload_ledger::{ACCREDIT, UPLOAD};

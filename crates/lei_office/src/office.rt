@@ -1,11 +1,8 @@
 //! One caller's register.
-ghost use Rattle.std.specs.Prelude.{◌≡◌, ◌≤◌, ℕ, [], Some, IfErr, IfOk, IfSome, option_map};
-ghost use Rattle.std.specs.FinMap.{empty};
+ghost use Rattle.std.specs.Prelude.{◌≡◌, ◌≤◌, Some, IfErr, IfOk, option_map};
 ghost use Rattle.lei_shapes.specs.Moment.{IsMoment};
-ghost use Rattle.register_table.specs.Held.{no_rows, rows};
-ghost use Rattle.register_table.specs.Undos.{IsLater};
 ghost use Rattle.lei_outside.specs.Count.{Rose};
-ghost use Rattle.lei_outside.specs.Keeping.{nothing_kept};
+ghost use Rattle.lei_outside.specs.Keeping.{LeavesNoMore, Stays};
 ghost use Rattle.lei_records.specs.Tables.{IsSound};
 ghost use Rattle.successor_rules.specs.Successors.{HasChains};
 ghost use Rattle.relation_rules.specs.Parents.{AreApart, HasParents};
@@ -17,14 +14,16 @@ ghost use Rattle.lei_office.specs.Legal.{IsNumbered, IsRequest, Legal, MomentsNe
 ghost use Rattle.lei_office.specs.Limits.{AreLimits};
 ghost use Rattle.lei_office.specs.Parties.{ChangesArePermitted};
 ghost use Rattle.lei_office.specs.Deciding.{reply_or};
+ghost use Rattle.lei_office.specs.Offices.{FaultRose, IsRefused, keeper_back};
 ghost use Rattle.lei_office.specs.Register.{IsKeptAfter, after};
 ghost use Rattle.lei_office.specs.Replies.{Step, StepOf, outcome_at};
-ghost use Rattle.lei_office.specs.State.{office_of, opened};
+ghost use Rattle.lei_office.specs.State.{office_of};
 
 use crate::deciding::{Decision, decide};
 use crate::entries::stamp;
 use crate::keeping::add;
 use crate::limits::Limits;
+use crate::opening::{Found, OpenFault, read_store};
 use crate::reply::{Refusal, Reply};
 use crate::request::Request;
 use lei_outside::{KeepFault, Keeper, KeptEntry, NoMemory};
@@ -64,24 +63,39 @@ impl<K: Keeper> Model for Office<K> {
 }
 
 impl<K: Keeper> Office<K> {
-    /// An office with no history, over a keeper that has kept nothing. Where memory is wanting the keeper comes back.
-    pub fn new(alloc: Global, keeper: K, limits: Limits) -> Result<Self, K>
+    /// The office of what a keeper has kept, which has to be what a history leaves under these limits. The entries are
+    /// read and replayed, and then the cells compared, in pages of 16 entries. Where it can't be opened, the keeper comes
+    /// back.
+    pub fn open<R: Threads + Sync>(
+        _rt: &R,
+        alloc: Global,
+        mut keeper: K,
+        limits: Limits,
+    ) -> Result<Self, OpenFault<K>>
         requires limits { AreLimits limits }
-        requires empty { IfSome (K.tables keeper) (λ told. told ≡ nothing_kept) }
-        ensures office { IfOk result (λ made. made.office ≡ opened limits) }
-        ensures keeper { IfOk result (λ made. made.keeper ≡ keeper) }
-        ensures err { IfErr result (λ back. back ≡ keeper) }
+        ensures limits { IfOk result (λ opened. opened.office.limits ≡ limits) }
+        ensures legal { IfOk result (λ opened. Legal opened.office) }
+        ensures kept { IfOk result (λ opened. Keeps (K.tables opened.keeper) opened.office) }
+        ensures same { IfOk result (λ opened. Stays (K.tables keeper) (K.tables opened.keeper)) }
+        ensures crash { IfOk result (λ opened. LeavesNoMore (K.leaves keeper) (K.leaves opened.keeper)) }
+        ensures faultless { IfOk result (λ opened. K.faults opened.keeper ≡ K.faults keeper) }
+        ensures refused { IfErr result (IsRefused limits K.tables) }
+        ensures back { IfErr result (λ fault. Stays (K.tables keeper) (K.tables (keeper_back fault))) }
+        ensures back_crash { IfErr result (λ fault. LeavesNoMore (K.leaves keeper) (K.leaves (keeper_back fault))) }
+        ensures failed { IfErr result (λ fault. FaultRose (K.faults keeper) (K.faults (keeper_back fault)) fault) }
     {
-        let Ok((ledger, table)) = parts(alloc) else {
-            return Err(keeper);
-        };
-        Ok(Office {
-            alloc,
-            limits,
-            ledger,
-            table,
-            keeper,
-        })
+        match read_store(alloc, limits, &mut keeper) {
+            Ok(Found::Sound(ledger, table)) => Ok(Office {
+                alloc,
+                limits,
+                ledger,
+                table,
+                keeper,
+            }),
+            Ok(Found::Damaged(damage)) => Err(OpenFault::StoreDamaged(keeper, damage)),
+            Err(KeepFault::Failed) => Err(OpenFault::KeeperFault(keeper)),
+            Err(KeepFault::NoMemory) => Err(OpenFault::NoMemory(keeper)),
+        }
     }
 
     /// What it takes at most. No call changes that.
@@ -145,15 +159,6 @@ fn moment_of(entry: &KeptEntry) -> Option<Moment>
     ensures { IsMoment entry.now.moment → result ≡ Some entry.now.moment }
 {
     Moment::of(entry.moment)
-}
-
-fn parts(alloc: Global) -> Result<(Ledger, Table), NoMemory>
-    ensures ledger { IfOk result (λ made. made.0.entries ≡ []) }
-    ensures held { IfOk result (λ made. made.1.held ≡ empty) }
-    ensures rows { IfOk result (λ made. rows made.1.held ≡ no_rows) }
-    ensures numbers { IfOk result (λ made. (number : ℕ) → IsLater number made.1.held) }
-{
-    Ok((Ledger::new(alloc)?, Table::new(alloc)?))
 }
 
 // The reply to a request, where an entry that is added has this moment.

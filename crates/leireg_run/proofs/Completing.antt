@@ -1,5 +1,5 @@
 -- Where nothing fails and no memory is wanting, all is done.
-use Rattle.std.proofs.Common.{◌≡◌, ◌≢◌, ◌<◌, ◌≤◌, ℕ, List, ◌++◌, length, Option, Some, None, Contains, unwrap_or, inl, inr, ap, sym, subst, ◌∙◌, arith, length-append}
+use Rattle.std.proofs.Common.{◌≡◌, ◌≢◌, ◌⊎◌, ◌<◌, ◌≤◌, ℕ, Ok, List, ◌++◌, length, Option, Some, None, Contains, unwrap_or, inl, inr, ap, sym, subst, ◌∙◌, arith, length-append}
 use Rattle.std.proofs.lemmas.List.{append-nil}
 use Rattle.std.specs.Str.Lines.{lines}
 use Rattle.lei_code.specs.Fault.{fault_of}
@@ -12,11 +12,12 @@ use Rattle.lei_office.specs.Legal.{Session, replies_to}
 use Rattle.lei_office.specs.State.{OfficeState}
 use Rattle.lei_office.proofs.Sessions.{exact}
 use Rattle.leireg_run.specs.Codes.{check_line, digits_fault, digits_line, told_status, TellsLine}
-use Rattle.leireg_run.specs.Ends.{AnswersLines, EndsWith, IsComplete, Does, Completes}
+use Rattle.lei_outside.specs.Keeping.{KeptTables}
+use Rattle.leireg_run.specs.Ends.{AnswersLines, Completes, Does, EndsWith, FailsToOpen, IsComplete, OpensAndRuns, Opens, TellsDamage}
 use Rattle.leireg_run.specs.Faults.{RoseBy, keeper_faults}
 use Rattle.leireg_run.specs.Limits.{input_limit}
 use Rattle.leireg_run.specs.Outside.{Course, Leads, Outside}
-use Rattle.leireg_run.specs.Runs.{asks_of, first_office}
+use Rattle.leireg_run.specs.Runs.{asks_of}
 use Rattle.leireg_run.specs.Words.{Meant, to_answer_lines, to_check, to_make_digits}
 use Rattle.leireg_run.proofs.Counting.{none_told}
 
@@ -31,25 +32,27 @@ told_length bytes read (Some left) loses = let whole : length bytes ≡ length (
     (arith, whole, length-append read left)
 
 -- where the keeper's count didn't rise, and memory was never wanting
-exactly : (bytes : List ℕ) (course : Course) (before now : ℕ) → course.first ≡ first_office
+exactly : (from : OfficeState) (bytes : List ℕ) (course : Course) (before now : ℕ) → course.first ≡ from
     → AnswersLines (lines bytes) course → RoseBy (keeper_faults course.replies) before now → ¬ (Rose before now)
     → ¬ (Contains course.replies (Words NoMemory))
-    → course.replies ≡ replies_to first_office (asks_of (lines bytes)) course.moments
-exactly bytes course before now first answered rose still lacks =
+    → course.replies ≡ replies_to from (asks_of (lines bytes)) course.moments
+exactly from bytes course before now first answered rose still lacks =
     let asks = asks_of (lines bytes) in
     let E : OfficeState → Type 0 = λ office. course.replies ≡ replies_to office asks course.moments in
     subst E first (exact asks course.first course.last course.moments course.replies answered.session lacks
     (none_told course.replies before now rose still))
 
-complete_of : (bytes : List ℕ) (before after : Outside) (course : Course) (status : ℕ) → status ≡ 0
-    → IsAtEnd after.left → course.first ≡ first_office → Leads before course after
-    → AnswersLines (lines bytes) course → IsComplete bytes before after status
-complete_of bytes before after course status is ended first leads answered =
+complete_of : (may : Option KeptTables → Type 0) (from : OfficeState) (bytes : List ℕ) (before after : Outside) (course : Course) (status : ℕ) → status ≡ 0
+    → Opens may before.kept from → IsAtEnd after.left → course.first ≡ from → Leads before course after
+    → AnswersLines (lines bytes) course → IsComplete may bytes before after status
+complete_of may from bytes before after course status is opened ended first leads answered =
     let G : List ℕ → Type 0 = λ texts. Grows before.written after.written texts in
     let S : OfficeState → Type 0 = λ office. Session office (asks_of (lines bytes)) course.moments course.replies
     course.last in
     record {
       ok = is;
+      first = from;
+      opened = opened;
       ended = ended;
       moments = course.moments;
       gives = leads.gives;
@@ -58,23 +61,23 @@ complete_of bytes before after course status is ended first leads answered =
       session = subst S first answered.session;
       writes = subst G answered.texts leads.writes;
       keeps = leads.keeps;
-      exact = exactly bytes course before.faults after.faults first answered leads.refuses;
+      exact = exactly from bytes course before.faults after.faults first answered leads.refuses;
     }
 
-ends_done : (bytes : List ℕ) (before after : Outside) (course : Course) (status : ℕ) → status ≢ 3 → status ≢ 4
-    → status ≢ 6 → length bytes < input_limit
-    → before.left ≡ Some bytes → course.first ≡ first_office → Leads before course after → EndsWith status course after
-    → IsComplete bytes before after status
-ends_done bytes before after course status n3 n4 n6 short told first leads (inl (is, (below, ended, answered))) =
+ends_done : (may : Option KeptTables → Type 0) (from : OfficeState) (bytes : List ℕ) (before after : Outside) (course : Course) (status : ℕ) → status ≢ 3 → status ≢ 4
+    → status ≢ 6 → length bytes < input_limit → Opens may before.kept from
+    → before.left ≡ Some bytes → course.first ≡ from → Leads before course after → EndsWith status course after
+    → IsComplete may bytes before after status
+ends_done may from bytes before after course status n3 n4 n6 short opened told first leads (inl (is, (below, ended, answered))) =
     let L : Option (List ℕ) → Type 0 = λ all. Loses all after.left course.read in
     let A : List ℕ → Type 0 = λ xs. AnswersLines (lines xs) course in
-    complete_of bytes before after course status is ended first leads
+    complete_of may from bytes before after course status is opened ended first leads
     (subst A (told_read bytes course.read after.left (subst L told leads.reads) ended) answered)
-ends_done bytes before after course status n3 n4 n6 short told first leads (inr (inl (is, stops))) = absurd (n3 is)
-ends_done bytes before after course status n3 n4 n6 short told first leads (inr (inr (inl (is, stops)))) = absurd (n4 is)
-ends_done bytes before after course status n3 n4 n6 short told first leads (inr (inr (inr (inl (is, stops))))) = absurd
+ends_done may from bytes before after course status n3 n4 n6 short opened told first leads (inr (inl (is, stops))) = absurd (n3 is)
+ends_done may from bytes before after course status n3 n4 n6 short opened told first leads (inr (inr (inl (is, stops)))) = absurd (n4 is)
+ends_done may from bytes before after course status n3 n4 n6 short opened told first leads (inr (inr (inr (inl (is, stops))))) = absurd
     (n6 is)
-ends_done bytes before after course status n3 n4 n6 short told first leads (inr (inr (inr (inr (is, stops))))) =
+ends_done may from bytes before after course status n3 n4 n6 short opened told first leads (inr (inr (inr (inr (is, stops))))) =
     let L : Option (List ℕ) → Type 0 = λ all. Loses all after.left course.read in
     let within = told_length bytes course.read after.left (subst L told leads.reads) in
     absurd (omega (arith, stops.3, within, short))
@@ -86,25 +89,39 @@ tells_done fault line before after status n4 n6 (inl told) = told.0
 tells_done fault line before after status n4 n6 (inr (inl stopped)) = absurd (n4 stopped.0)
 tells_done fault line before after status n4 n6 (inr (inr stopped)) = absurd (n6 stopped.0)
 
-pub completes : (what : Meant) (before after : Outside) (status : ℕ) → status ≢ 3 → status ≢ 4 → status ≢ 6
-    → Does what before after status
-    → Completes what before after status
-completes to_answer_lines before after status n3 n4 n6 runs =
-    λ bytes told short. ends_done bytes before after runs.course status n3 n4 n6 short told runs.first runs.leads runs.ends
-completes (to_check text) before after status n3 n4 n6 tells =
+-- a store that isn't opened
+unopened_done : (before after : Outside) (status : ℕ) → status ≢ 6 → (status ≡ 7 → TellsDamage {E = Unit {0}} before after (Ok (tt {0})))
+    → FailsToOpen before after status
+    → ((status ≡ 5) × Rose before.faults after.faults) ⊎ ((status ≡ 7) × TellsDamage {E = Unit {0}} before after (Ok (tt {0})))
+unopened_done before after status n6 whole is = elim is.ends [
+  | inl failed ↦ inl (failed.0, failed.1)
+  | inr (inl wanted) ↦ absurd (n6 wanted.0)
+  | inr (inr (inl wanted)) ↦ absurd (n6 wanted.0)
+  | inr (inr (inr damaged)) ↦ inr (damaged.0, whole damaged.0)
+]
+
+pub completes : (may : Option KeptTables → Type 0) (what : Meant) (before after : Outside) (status : ℕ) → status ≢ 3 → status ≢ 4 → status ≢ 6
+    → (status ≡ 7 → TellsDamage {E = Unit {0}} before after (Ok (tt {0}))) → Does may what before after status
+    → Completes may what before after status
+completes may to_answer_lines before after status n3 n4 n6 whole (inl opens) =
+    λ bytes told short. inl (ends_done may opens.first bytes before after opens.runs.course status n3 n4 n6 short opens.opened told opens.runs.first
+    opens.runs.leads opens.runs.ends)
+completes may to_answer_lines before after status n3 n4 n6 whole (inr fails) = λ bytes told short. inr (unopened_done before after status n6 whole fails)
+completes may (to_check text) before after status n3 n4 n6 whole tells =
     tells_done (fault_of text) (check_line text) before.written after.written status n4 n6 tells
-completes (to_make_digits text) before after status n3 n4 n6 tells =
+completes may (to_make_digits text) before after status n3 n4 n6 whole tells =
     tells_done (digits_fault text) (digits_line text) before.written after.written status n4 n6 tells
 
 -- nothing stopped what the words mean
-pub completes_meant : (command what : Meant) (meant : Option Meant) (before after : Outside) (status : ℕ) → status ≡ 0
+pub completes_meant : (may : Option KeptTables → Type 0) (command what : Meant) (meant : Option Meant) (before after : Outside) (status : ℕ) → status ≡ 0
     → Some command ≡ meant → meant ≡ Some what
-    → Does command before after status → Completes what before after 0
-completes_meant command what meant before after status ok is means does =
+    → Does may command before after status → Completes may what before after 0
+completes_meant may command what meant before after status ok is means does =
     let same : command ≡ what = ap (λ o. unwrap_or o command) (is ∙ means) in
-    let D : Meant → Type 0 = λ m. Does m before after 0 in
-    let N : ℕ → Type 0 = λ n. Does command before after n in
+    let D : Meant → Type 0 = λ m. Does may m before after 0 in
+    let N : ℕ → Type 0 = λ n. Does may command before after n in
     let n3 : 0 ≢ 3 = λ is. absurd (omega (arith, is)) in
     let n4 : 0 ≢ 4 = λ is. absurd (omega (arith, is)) in
     let n6 : 0 ≢ 6 = λ is. absurd (omega (arith, is)) in
-    completes what before after 0 n3 n4 n6 (subst D same (subst N ok does))
+    let n7 : 0 ≡ 7 → TellsDamage {E = Unit {0}} before after (Ok (tt {0})) = λ is. absurd (omega (arith, is)) in
+    completes may what before after 0 n3 n4 n6 n7 (subst D same (subst N ok does))

@@ -6,20 +6,18 @@ use Rattle.std.specs.Str.Lines.{lines}
 use Rattle.lei_outside.specs.Told.{Grows, Loses, IsAtEnd, WritesFront}
 use Rattle.lei_outside.specs.declared.faults.SinkFault.{SinkFault}
 use Rattle.lei_outside.proofs.Told.{Grows-none, Loses-none, Loses-join}
-use Rattle.lei_outside.specs.Keeping.{KeptTables, nothing_kept}
+use Rattle.lei_outside.specs.Keeping.{KeptTables}
 use Rattle.lei_office.specs.declared.request.Asked.{Asked}
 use Rattle.lei_office.specs.Kept.{Keeps}
-use Rattle.lei_office.specs.Limits.{standard}
-use Rattle.lei_office.proofs.TableLemmas.{keeps-none}
 use Rattle.std.specs.Prelude.{IfSome}
 use Rattle.lei_office.specs.State.{OfficeState}
-use Rattle.leireg_run.specs.Ends.{AnswersLines, AnswersSome, EndsWith, RunsLines, StopsWriting}
+use Rattle.leireg_run.specs.Ends.{AnswersLines, AnswersSome, EndsWith, RunsFrom, StopsWriting}
 use Rattle.leireg_run.specs.Limits.{input_limit, line_limit, read_limit}
 use Rattle.leireg_run.specs.Lines.{HasNoEnd, IsClosed, Line, whole_part, last_part}
 use Rattle.leireg_run.specs.Outside.{Course, Leads, Outside, outside}
 use Rattle.leireg_run.specs.Reading.{Holds, TakesIn}
 use Rattle.leireg_run.specs.Requests.{asked}
-use Rattle.leireg_run.specs.Runs.{asks_of, first_office, Answers, AnswersInPart, ComesTo, GoesOn, Progress, Ran, Stopped, progress}
+use Rattle.leireg_run.specs.Runs.{asks_of, Answers, AnswersInPart, ComesTo, GoesOn, Progress, Ran, Stopped, progress}
 use Rattle.leireg_run.specs.Window.{Fills, StaysUnread}
 use Rattle.leireg_run.proofs.Counting.{RoseBy-none}
 use Rattle.leireg_run.proofs.Giving.{Gives-none}
@@ -51,11 +49,11 @@ asks_of-last part false is = refl
 -- ---- between two reads
 
 -- a run that begins with this outside, before its first read
-abbrev at_first : Outside → Progress
-at_first begin = progress first_office begin.faults [] begin.given begin.written
+abbrev at_first : OfficeState → Outside → Progress
+at_first from begin = progress from begin.faults [] begin.given begin.written
 
 -- So many bytes were read, of which those in front are whole lines and were answered, and the rest is held.
-pub record Midway (begin : Outside) (left : Option (List ℕ)) (count : ℕ) (now : Progress) (skips : Bool)
+pub record Midway (from : OfficeState) (begin : Outside) (left : Option (List ℕ)) (count : ℕ) (now : Progress) (skips : Bool)
     (held : List ℕ) : Type 0 where
   pub read : List ℕ
   pub front : List ℕ
@@ -65,14 +63,14 @@ pub record Midway (begin : Outside) (left : Option (List ℕ)) (count : ℕ) (no
   pub loses : Loses begin.left left read
   pub parts : read ≡ front ++ part
   pub closed : IsClosed front
-  pub ran : Ran (at_first begin) (asks_of (lines front)) now
+  pub ran : Ran (at_first from begin) (asks_of (lines front)) now
   pub holds : Holds skips held part
 
-pub begins : (begin : Outside) (office : OfficeState) (waits : List ℕ) (skips : Bool) (held : List ℕ)
-    → office ≡ first_office → waits ≡ [] → Holds skips held []
-    → Midway begin begin.left 0 (progress office begin.faults waits begin.given begin.written) skips held
-begins begin office waits skips held first empty holds =
-    let at = at_first begin in
+pub begins : (from : OfficeState) (begin : Outside) (office : OfficeState) (waits : List ℕ) (skips : Bool) (held : List ℕ)
+    → office ≡ from → waits ≡ [] → Holds skips held []
+    → Midway from begin begin.left 0 (progress office begin.faults waits begin.given begin.written) skips held
+begins from begin office waits skips held first empty holds =
+    let at = at_first from begin in
     let A : OfficeState → Type 0 = λ o. Ran at [] (record at { office = o; waits = waits }) in
     let B : List ℕ → Type 0 = λ xs. Ran at [] (record at { waits = xs }) in
     record {
@@ -89,11 +87,11 @@ begins begin office waits skips held first empty holds =
     }
 
 -- what waited was written
-pub flushed : (begin : Outside) (left : Option (List ℕ)) (count : ℕ) (now : Progress) (waits : List ℕ)
+pub flushed : (from : OfficeState) (begin : Outside) (left : Option (List ℕ)) (count : ℕ) (now : Progress) (waits : List ℕ)
     (written : Option (List ℕ)) (skips : Bool) (held : List ℕ)
-    → waits ≡ [] → Midway begin left count now skips held → Grows now.written written now.waits
-    → Midway begin left count (now_so now waits written) skips held
-flushed begin left count now waits written skips held empty at more =
+    → waits ≡ [] → Midway from begin left count now skips held → Grows now.written written now.waits
+    → Midway from begin left count (now_so now waits written) skips held
+flushed from begin left count now waits written skips held empty at more =
     record {
       read = at.read;
       front = at.front;
@@ -103,7 +101,7 @@ flushed begin left count now waits written skips held empty at more =
       loses = at.loses;
       parts = at.parts;
       closed = at.closed;
-      ran = ran_flushed (at_first begin) now (asks_of (lines at.front)) waits written at.ran empty more;
+      ran = ran_flushed (at_first from begin) now (asks_of (lines at.front)) waits written at.ran empty more;
       holds = at.holds;
     }
 
@@ -151,7 +149,7 @@ Goes seen skips window before result after skips_now held =
     → TakesIn {T = Unit {0}} part (drop seen window) before result after skips_now held
 
 -- what a block more makes of a run, whatever the output did
-record Further {E : Type 0} (begin : Outside) (left : Option (List ℕ)) (count : ℕ) (rest : List ℕ)
+record Further {E : Type 0} (from : OfficeState) (begin : Outside) (left : Option (List ℕ)) (count : ℕ) (rest : List ℕ)
     (result : Result (Unit {0}) E) (now : Progress) : Type 0 where
   read : List ℕ
   front : List ℕ
@@ -159,7 +157,7 @@ record Further {E : Type 0} (begin : Outside) (left : Option (List ℕ)) (count 
   loses : Loses begin.left left read
   parts : read ≡ front ++ rest
   closed : IsClosed front
-  done : ComesTo (at_first begin) (asks_of (lines front)) result now
+  done : ComesTo (at_first from begin) (asks_of (lines front)) result now
 
 -- and what it makes of what was answered
 comes_to : {T E : Type 0} (start now then : Progress) (front part : List ℕ) (result : Result T E) → IsClosed front
@@ -170,13 +168,13 @@ comes_to start now then front part result closed ran goes =
     subst C (sym (ap asks_of (lines-closed front part closed) ∙ asks_of-append (lines front) (lines part)))
     (goes start (asks_of (lines front)) ran)
 
-further : {E : Type 0} (begin : Outside) (mid left : Option (List ℕ)) (count n most seen : ℕ) (now then : Progress)
+further : {E : Type 0} (from : OfficeState) (begin : Outside) (mid left : Option (List ℕ)) (count n most seen : ℕ) (now then : Progress)
     (skips : Bool) (held window : List ℕ)
     (result : Result (Unit {0}) E) (part rest : List ℕ) → seen ≡ length held
-    → (at : Midway begin mid count now skips held) → Fills mid left held window n most
+    → (at : Midway from begin mid count now skips held) → Fills mid left held window n most
     → at.part ++ drop seen window ≡ part ++ rest → IsClosed part → GoesOn now (asks_of (lines part)) result then
-    → Further begin left (count + n) rest result then
-further {E} begin mid left count n most seen now then skips held window result part rest same at fills parts closed
+    → Further from begin left (count + n) rest result then
+further {E} from begin mid left count n most seen now then skips held window result part rest same at fills parts closed
     done =
     let more = fills.0 in
     let block = block_of held window more seen same fills.4 in
@@ -188,29 +186,29 @@ further {E} begin mid left count n most seen now then skips held window result p
       parts = whole_parts at.read at.front at.part more part rest at.parts
           (ap (λ xs. at.part ++ xs) (sym block.back) ∙ parts);
       closed = IsClosed-append at.front part at.closed closed;
-      done = comes_to (at_first begin) now then at.front part result at.closed at.ran done;
+      done = comes_to (at_first from begin) now then at.front part result at.closed at.ran done;
     }
 
-goes_so : {E : Type 0} (begin : Outside) (mid left : Option (List ℕ)) (count n most seen : ℕ) (now then : Progress)
+goes_so : {E : Type 0} (from : OfficeState) (begin : Outside) (mid left : Option (List ℕ)) (count n most seen : ℕ) (now then : Progress)
     (skips skips_now : Bool) (held window held_now : List ℕ)
-    (result : Result (Unit {0}) E) → seen ≡ length held → (at : Midway begin mid count now skips held)
+    (result : Result (Unit {0}) E) → seen ≡ length held → (at : Midway from begin mid count now skips held)
     → Fills mid left held window n most
     → Goes seen skips window now result then skips_now held_now
     → TakesIn {T = Unit {0}} at.part (drop seen window) now result then skips_now held_now
-goes_so begin mid left count n most seen now then skips skips_now held window held_now result same at fills goes =
+goes_so from begin mid left count n most seen now then skips skips_now held window held_now result same at fills goes =
     let H : List ℕ → Type 0 = λ xs. Holds skips xs at.part in
     goes at.part (subst H (sym (block_of held window fills.0 seen same fills.4).front) at.holds)
 
-pub takes_in : (begin : Outside) (mid left : Option (List ℕ)) (count n most seen : ℕ) (now then : Progress)
+pub takes_in : (from : OfficeState) (begin : Outside) (mid left : Option (List ℕ)) (count n most seen : ℕ) (now then : Progress)
     (skips skips_now : Bool) (held window held_now : List ℕ)
-    → seen ≡ length held → Midway begin mid count now skips held → Fills mid left held window n most
+    → seen ≡ length held → Midway from begin mid count now skips held → Fills mid left held window n most
     → count + n < input_limit
     → Goes {E = SinkFault} seen skips window now (Ok (tt {0})) then skips_now held_now
-    → Midway begin left (count + n) then skips_now held_now
-takes_in begin mid left count n most seen now then skips skips_now held window held_now same at fills below goes =
-    let went = goes_so {E = SinkFault} begin mid left count n most seen now then skips skips_now held window held_now (Ok (tt {0}))
+    → Midway from begin left (count + n) then skips_now held_now
+takes_in from begin mid left count n most seen now then skips skips_now held window held_now same at fills below goes =
+    let went = goes_so {E = SinkFault} from begin mid left count n most seen now then skips skips_now held window held_now (Ok (tt {0}))
     same at fills goes in
-    let all = further {E = SinkFault} begin mid left count n most seen now then skips held window (Ok (tt {0})) went.0 went.1 same at
+    let all = further {E = SinkFault} from begin mid left count n most seen now then skips held window (Ok (tt {0})) went.0 went.1 same at
     fills went.2 went.3 went.4 in
     record {
       read = all.read;
@@ -259,10 +257,10 @@ stops_so status course after (inl is) stops = inr (inr (inl (is, stops)))
 stops_so status course after (inr is) stops = inr (inr (inr (inl (is, stops))))
 
 -- what a run did that the output stopped
-abbrev stopped_course : (begin : Outside) (read : List ℕ) (asks : List Asked) (now : Progress)
-    → Stopped (at_first begin) asks now → Course
-stopped_course begin read asks now stop = record {
-  first = first_office;
+abbrev stopped_course : (from : OfficeState) (begin : Outside) (read : List ℕ) (asks : List Asked) (now : Progress)
+    → Stopped (at_first from begin) asks now → Course
+stopped_course from begin read asks now stop = record {
+  first = from;
   read = read;
   moments = stop.moments;
   replies = stop.replies;
@@ -270,10 +268,10 @@ stopped_course begin read asks now stop = record {
   last = now.office;
 }
 
-stopped_leads : (begin : Outside) (left : Option (List ℕ)) (kept : Option KeptTables) (read : List ℕ) (asks : List Asked)
-    (now : Progress) → (stop : Stopped (at_first begin) asks now) → Loses begin.left left read → Keeps kept now.office
-    → Leads begin (stopped_course begin read asks now stop) (left_so left kept now now.written)
-stopped_leads begin left kept read asks now stop loses keeps = record {
+stopped_leads : (from : OfficeState) (begin : Outside) (left : Option (List ℕ)) (kept : Option KeptTables) (read : List ℕ) (asks : List Asked)
+    (now : Progress) → (stop : Stopped (at_first from begin) asks now) → Loses begin.left left read → Keeps kept now.office
+    → Leads begin (stopped_course from begin read asks now stop) (left_so left kept now now.written)
+stopped_leads from begin left kept read asks now stop loses keeps = record {
   reads = loses;
   gives = stop.gives;
   writes = stop.grows;
@@ -282,113 +280,69 @@ stopped_leads begin left kept read asks now stop loses keeps = record {
 }
 
 -- it has answered some of all lines
-stopped_some : (begin : Outside) (read : List ℕ) (all : List Line) (asks rest : List Asked) (now : Progress)
-    → asks_of all ≡ asks ++ rest → (stop : Stopped (at_first begin) asks now)
-    → AnswersSome all (stopped_course begin read asks now stop)
-stopped_some begin read all asks rest now is stop =
+stopped_some : (from : OfficeState) (begin : Outside) (read : List ℕ) (all : List Line) (asks rest : List Asked) (now : Progress)
+    → asks_of all ≡ asks ++ rest → (stop : Stopped (at_first from begin) asks now)
+    → AnswersSome all (stopped_course from begin read asks now stop)
+stopped_some from begin read all asks rest now is stop =
     let some = lines_for all stop.told (stop.left ++ rest)
     (is ∙ (ap (λ xs. xs ++ rest) stop.parts ∙ append_assoc stop.told stop.left rest)) in
-    let A : List Asked → Type 0 = λ asks. AnswersInPart first_office asks stop.moments stop.replies stop.texts now.office in
+    let A : List Asked → Type 0 = λ asks. AnswersInPart from asks stop.moments stop.replies stop.texts now.office in
     (some.front, some.rest, some.parts, subst A (sym some.asks) stop.answers)
 
 -- what a run that the output stopped has read, and which of the lines that ended were answered
-stops_within : (begin : Outside) (left : Option (List ℕ)) (kept : Option KeptTables) (now : Progress) (status : ℕ)
+stops_within : (from : OfficeState) (begin : Outside) (left : Option (List ℕ)) (kept : Option KeptTables) (now : Progress) (status : ℕ)
     (read front rest : List ℕ)
     → IsCause status → length read < input_limit → Loses begin.left left read → read ≡ front ++ rest → IsClosed front
-    → Stopped (at_first begin) (asks_of (lines front)) now → Keeps kept now.office
-    → RunsLines begin (left_so left kept now now.written) status
-stops_within begin left kept now status read front rest cause below loses parts closed stop keeps =
+    → Stopped (at_first from begin) (asks_of (lines front)) now → Keeps kept now.office
+    → RunsFrom from begin (left_so left kept now now.written) status
+stops_within from begin left kept now status read front rest cause below loses parts closed stop keeps =
     let all = lines (whole_part read) in
     let asks = asks_of (lines front) in
     let is : asks_of all ≡ asks ++ asks_of (lines (whole_part rest)) =
     ap asks_of (lines-behind read front rest parts closed)
     ∙ asks_of-append (lines front) (lines (whole_part rest)) in
-    let course = stopped_course begin read asks now stop in
-    let some = stopped_some begin read all asks (asks_of (lines (whole_part rest))) now is stop in
+    let course = stopped_course from begin read asks now stop in
+    let some = stopped_some from begin read all asks (asks_of (lines (whole_part rest))) now is stop in
     record {
       course = course;
       first = refl;
-      leads = stopped_leads begin left kept read asks now stop loses keeps;
+      leads = stopped_leads from begin left kept read asks now stop loses keeps;
       ends = stops_so status course (left_so left kept now now.written) cause (below, inl some);
     }
 
--- memory was wanted before anything was read
-pub ends_at_once : (begin : Outside) (status : ℕ) → IsCause status → Keeps begin.kept first_office
-    → RunsLines begin begin status
-ends_at_once begin status cause keeps =
-    let course : Course = record {
-      first = first_office;
-      read = [];
-      moments = [];
-      replies = [];
-      written = [];
-      last = first_office;
-    } in
-    record {
-      course = course;
-      first = refl;
-      leads = record {
-        reads = Loses-none begin.left;
-        gives = Gives-none begin.given;
-        writes = Grows-none begin.written;
-        keeps = keeps;
-        refuses = RoseBy-none begin.faults begin.faults refl;
-      };
-      ends = stops_so status course begin cause (
-        omega arith,
-        inl (
-          [],
-          [],
-          ap lines (whole_part-is [] [] (inl refl) HasNoEnd-nil),
-          record { session = (refl, refl); texts = refl },
-        ),
-      );
-    }
-
--- memory was wanted, and the keeper came back as it was
-pub keeps_nothing_yet : {K : Type 0} (tables : K → Option KeptTables) (faults : K → ℕ) (left : Option (List ℕ))
-    (given : Option (List ℤ)) (written : Option (List ℕ)) (old new : K) → new ≡ old
-    → IfSome (tables old) (λ told. told ≡ nothing_kept)
-    → RunsLines (outside left given written (tables old) (faults old))
-    (outside left given written (tables new) (faults new)) 6
-keeps_nothing_yet {K} tables faults left given written old new same empty =
-    let begin = outside left given written (tables old) (faults old) in
-    let R : K → Type 0 = λ k. RunsLines begin (outside left given written (tables k) (faults k)) 6 in
-    subst R (sym same) (ends_at_once begin 6 (inr refl) (keeps-none standard (tables old) empty))
-
 -- the output refused what waited
-pub stops_waiting : (begin : Outside) (left : Option (List ℕ)) (kept : Option KeptTables) (count : ℕ) (now : Progress)
+pub stops_waiting : (from : OfficeState) (begin : Outside) (left : Option (List ℕ)) (kept : Option KeptTables) (count : ℕ) (now : Progress)
     (written : Option (List ℕ)) (skips : Bool) (held : List ℕ) (status : ℕ) → IsCause status
-    → Midway begin left count now skips held → WritesFront now.written written now.waits → Keeps kept now.office
-    → RunsLines begin (left_so left kept now written) status
-stops_waiting begin left kept count now written skips held status cause at front keeps =
+    → Midway from begin left count now skips held → WritesFront now.written written now.waits → Keeps kept now.office
+    → RunsFrom from begin (left_so left kept now written) status
+stops_waiting from begin left kept count now written skips held status cause at front keeps =
     let below : length at.read < input_limit = omega (arith, at.long, at.below) in
-    stops_within begin left kept (now_so now [] written) status at.read at.front at.part cause below at.loses at.parts
-    at.closed (ran_stops (at_first begin) now (asks_of (lines at.front)) [] written at.ran front) keeps
+    stops_within from begin left kept (now_so now [] written) status at.read at.front at.part cause below at.loses at.parts
+    at.closed (ran_stops (at_first from begin) now (asks_of (lines at.front)) [] written at.ran front) keeps
 
 -- the output refused in a block
-pub stops_in : (begin : Outside) (mid left : Option (List ℕ)) (kept : Option KeptTables) (count n most seen : ℕ)
+pub stops_in : (from : OfficeState) (begin : Outside) (mid left : Option (List ℕ)) (kept : Option KeptTables) (count n most seen : ℕ)
     (now then : Progress) (skips skips_now : Bool) (held window held_now : List ℕ)
-    (fault : SinkFault) (status : ℕ) → IsCause status → seen ≡ length held → Midway begin mid count now skips held
+    (fault : SinkFault) (status : ℕ) → IsCause status → seen ≡ length held → Midway from begin mid count now skips held
     → Fills mid left held window n most → count + n < input_limit
     → Goes seen skips window now (Err fault) then skips_now held_now → Keeps kept then.office
-    → RunsLines begin (left_so left kept then then.written) status
-stops_in begin mid left kept count n most seen now then skips skips_now held window held_now fault status cause same at
+    → RunsFrom from begin (left_so left kept then then.written) status
+stops_in from begin mid left kept count n most seen now then skips skips_now held window held_now fault status cause same at
     fills below goes keeps =
-    let went = goes_so begin mid left count n most seen now then skips skips_now held window held_now (Err fault) same
+    let went = goes_so from begin mid left count n most seen now then skips skips_now held window held_now (Err fault) same
     at fills goes in
-    let all = further begin mid left count n most seen now then skips held window (Err fault) went.0 went.1 same at
+    let all = further from begin mid left count n most seen now then skips held window (Err fault) went.0 went.1 same at
     fills went.2 went.3 went.4 in
     let short : length all.read < input_limit = omega (arith, all.long) in
-    stops_within begin left kept then status all.read all.front went.1 cause short all.loses all.parts all.closed
+    stops_within from begin left kept then status all.read all.front went.1 cause short all.loses all.parts all.closed
     all.done keeps
 
 -- ---- a run after which nothing waits
 
 -- what it did
-abbrev ran_course : (begin : Outside) (read : List ℕ) (asks : List Asked) (now : Progress) → Ran (at_first begin) asks now → Course
-ran_course begin read asks now ran = record {
-  first = first_office;
+abbrev ran_course : (from : OfficeState) (begin : Outside) (read : List ℕ) (asks : List Asked) (now : Progress) → Ran (at_first from begin) asks now → Course
+ran_course from begin read asks now ran = record {
+  first = from;
   read = read;
   moments = ran.moments;
   replies = ran.replies ++ ran.late_replies;
@@ -396,53 +350,53 @@ ran_course begin read asks now ran = record {
   last = now.office;
 }
 
-ran_leads : (begin : Outside) (left : Option (List ℕ)) (kept : Option KeptTables) (read : List ℕ) (asks : List Asked)
-    (now : Progress) → (ran : Ran (at_first begin) asks now) → now.waits ≡ [] → Loses begin.left left read
-    → Keeps kept now.office → Leads begin (ran_course begin read asks now ran) (left_so left kept now now.written)
-ran_leads begin left kept read asks now ran none loses keeps = record {
+ran_leads : (from : OfficeState) (begin : Outside) (left : Option (List ℕ)) (kept : Option KeptTables) (read : List ℕ) (asks : List Asked)
+    (now : Progress) → (ran : Ran (at_first from begin) asks now) → now.waits ≡ [] → Loses begin.left left read
+    → Keeps kept now.office → Leads begin (ran_course from begin read asks now ran) (left_so left kept now now.written)
+ran_leads from begin left kept read asks now ran none loses keeps = record {
   reads = loses;
   gives = ran.gives;
-  writes = all_written (at_first begin) now asks ran none;
+  writes = all_written (at_first from begin) now asks ran none;
   keeps = keeps;
   refuses = ran.refuses;
 }
 
 -- it has answered all lines
-answered_so : (begin : Outside) (now : Progress) (read : List ℕ) (all : List Line) (asks : List Asked)
-    → asks_of all ≡ asks → (ran : Ran (at_first begin) asks now) → AnswersLines all (ran_course begin read asks now ran)
-answered_so begin now read all asks is ran =
-    let A : List Asked → Type 0 = λ asks. Answers first_office asks ran.moments (ran.replies ++ ran.late_replies)
+answered_so : (from : OfficeState) (begin : Outside) (now : Progress) (read : List ℕ) (all : List Line) (asks : List Asked)
+    → asks_of all ≡ asks → (ran : Ran (at_first from begin) asks now) → AnswersLines all (ran_course from begin read asks now ran)
+answered_so from begin now read all asks is ran =
+    let A : List Asked → Type 0 = λ asks. Answers from asks ran.moments (ran.replies ++ ran.late_replies)
     (ran.texts ++ ran.late_texts) now.office in
-    subst A (sym is) (all_answers (at_first begin) now asks ran)
+    subst A (sym is) (all_answers (at_first from begin) now asks ran)
 
 -- the input failed
-pub fails_reading : (begin : Outside) (mid left : Option (List ℕ)) (kept : Option KeptTables) (count : ℕ) (now : Progress)
+pub fails_reading : (from : OfficeState) (begin : Outside) (mid left : Option (List ℕ)) (kept : Option KeptTables) (count : ℕ) (now : Progress)
     (skips : Bool) (held held_now : List ℕ) → now.waits ≡ []
-    → Midway begin mid count now skips held → StaysUnread mid left held held_now → Keeps kept now.office
-    → RunsLines begin (left_so left kept now now.written) 3
-fails_reading begin mid left kept count now skips held held_now empty at unread keeps =
+    → Midway from begin mid count now skips held → StaysUnread mid left held held_now → Keeps kept now.office
+    → RunsFrom from begin (left_so left kept now now.written) 3
+fails_reading from begin mid left kept count now skips held held_now empty at unread keeps =
     let asks = asks_of (lines at.front) in
     let L : List ℕ → Type 0 = λ xs. Loses begin.left left xs in
     let below : length at.read < input_limit = omega (arith, at.long, at.below) in
     let whole = lines-whole at.read at.front at.part at.parts at.closed (holds-none skips held at.part at.holds) in
     let loses = subst L (append-nil at.read) (Loses-join begin.left mid left at.read [] at.loses unread.0) in
     record {
-      course = ran_course begin at.read asks now at.ran;
+      course = ran_course from begin at.read asks now at.ran;
       first = refl;
-      leads = ran_leads begin left kept at.read asks now at.ran empty loses keeps;
+      leads = ran_leads from begin left kept at.read asks now at.ran empty loses keeps;
       ends = inr (inl (
         refl,
-        (below, answered_so begin now at.read (lines (whole_part at.read)) asks (ap asks_of whole) at.ran),
+        (below, answered_so from begin now at.read (lines (whole_part at.read)) asks (ap asks_of whole) at.ran),
       ));
     }
 
 -- so many bytes were read that the run ends
-pub ends_too_long : (begin : Outside) (mid left : Option (List ℕ)) (kept : Option KeptTables) (count n most : ℕ)
+pub ends_too_long : (from : OfficeState) (begin : Outside) (mid left : Option (List ℕ)) (kept : Option KeptTables) (count n most : ℕ)
     (now : Progress) (skips : Bool) (held held_now : List ℕ) → now.waits ≡ []
-    → Midway begin mid count now skips held → Fills mid left held held_now n most → n ≤ read_limit → 0 < n
+    → Midway from begin mid count now skips held → Fills mid left held held_now n most → n ≤ read_limit → 0 < n
     → count + n ≡ input_limit → Keeps kept now.office
-    → RunsLines begin (left_so left kept now now.written) 8
-ends_too_long begin mid left kept count n most now skips held held_now empty at fills within some is keeps =
+    → RunsFrom from begin (left_so left kept now now.written) 8
+ends_too_long from begin mid left kept count n most now skips held held_now empty at fills within some is keeps =
     let more = fills.0 in
     let asks = asks_of (lines at.front) in
     let whole = lines-whole at.read at.front at.part at.parts at.closed (holds-none skips held at.part at.holds) in
@@ -450,9 +404,9 @@ ends_too_long begin mid left kept count n most now skips held held_now empty at 
     ∙ omega (arith, at.long, fills.1, is) in
     let loses = Loses-join begin.left mid left at.read more at.loses fills.3 in
     record {
-      course = ran_course begin (at.read ++ more) asks now at.ran;
+      course = ran_course from begin (at.read ++ more) asks now at.ran;
       first = refl;
-      leads = ran_leads begin left kept (at.read ++ more) asks now at.ran empty loses keeps;
+      leads = ran_leads from begin left kept (at.read ++ more) asks now at.ran empty loses keeps;
       ends = inr (inr (inr (inr (
         refl,
         (
@@ -462,7 +416,7 @@ ends_too_long begin mid left kept count n most now skips held held_now empty at 
           long,
           omega (arith, fills.1),
           omega (arith, fills.1),
-          answered_so begin now (at.read ++ more) (lines (whole_part at.read)) asks (ap asks_of whole) at.ran,
+          answered_so from begin now (at.read ++ more) (lines (whole_part at.read)) asks (ap asks_of whole) at.ran,
         ),
       ))));
     }
@@ -470,16 +424,16 @@ ends_too_long begin mid left kept count n most now skips held held_now empty at 
 -- ---- the input's end
 
 -- the input was read to its end
-pub record AtEnd (begin : Outside) (left : Option (List ℕ)) (now : Progress) (skips : Bool) (held : List ℕ) : Type 0
+pub record AtEnd (from : OfficeState) (begin : Outside) (left : Option (List ℕ)) (now : Progress) (skips : Bool) (held : List ℕ) : Type 0
   where
     pub count : ℕ
-    pub midway : Midway begin left count now skips held
+    pub midway : Midway from begin left count now skips held
     pub ended : IsAtEnd left
 
-pub reaches_end : (begin : Outside) (mid left : Option (List ℕ)) (count n most : ℕ) (now : Progress) (skips : Bool)
+pub reaches_end : (from : OfficeState) (begin : Outside) (mid left : Option (List ℕ)) (count n most : ℕ) (now : Progress) (skips : Bool)
     (held held_now : List ℕ) → n ≡ 0
-    → Midway begin mid count now skips held → Fills mid left held held_now n most → AtEnd begin left now skips held_now
-reaches_end begin mid left count n most now skips held held_now none_read at fills =
+    → Midway from begin mid count now skips held → Fills mid left held held_now n most → AtEnd from begin left now skips held_now
+reaches_end from begin mid left count n most now skips held held_now none_read at fills =
     let none : fills.0 ≡ [] = length-none fills.0 (fills.1 ∙ none_read) in
     let same : held_now ≡ held = fills.4 ∙ (ap (λ xs. held ++ xs) none ∙ append-nil held) in
     let L : List ℕ → Type 0 = λ xs. Loses begin.left left xs in
@@ -508,11 +462,11 @@ AnswersLast skips held now result then = (part : List ℕ) → Holds skips held 
     → GoesOn {T = Unit {0}} now (asks_of (part ∷ [])) result then
 
 -- and with it all lines
-all_answered : {E : Type 0} (begin : Outside) (left : Option (List ℕ)) (now then : Progress) (skips : Bool)
+all_answered : {E : Type 0} (from : OfficeState) (begin : Outside) (left : Option (List ℕ)) (now then : Progress) (skips : Bool)
     (held : List ℕ) (result : Result (Unit {0}) E)
-    (end : AtEnd begin left now skips held) → AnswersLast skips held now result then
-    → ComesTo (at_first begin) (asks_of (lines end.midway.read)) result then
-all_answered begin left now then skips held result end goes =
+    (end : AtEnd from begin left now skips held) → AnswersLast skips held now result then
+    → ComesTo (at_first from begin) (asks_of (lines end.midway.read)) result then
+all_answered from begin left now then skips held result end goes =
     let at = end.midway in
     let last = cond (eqb (length at.part) 0) [] (at.part ∷ []) in
     let whole : lines at.read ≡ lines at.front ++ last = ap lines at.parts
@@ -520,63 +474,63 @@ all_answered begin left now then skips held result end goes =
     let asks : asks_of (lines at.read) ≡ asks_of (lines at.front) ++ asks_of (at.part ∷ []) = ap asks_of whole
     ∙ (asks_of-append (lines at.front) last
     ∙ ap (λ xs. asks_of (lines at.front) ++ xs) (sym (asks_of-last at.part (eqb (length at.part) 0) refl))) in
-    let C : List Asked → Type 0 = λ xs. ComesTo (at_first begin) xs result then in
-    subst C (sym asks) (goes at.part at.holds (at_first begin) (asks_of (lines at.front)) at.ran)
+    let C : List Asked → Type 0 = λ xs. ComesTo (at_first from begin) xs result then in
+    subst C (sym asks) (goes at.part at.holds (at_first from begin) (asks_of (lines at.front)) at.ran)
 
-stops_at_end : (begin : Outside) (left : Option (List ℕ)) (kept : Option KeptTables) (now then : Progress)
-    (skips : Bool) (held : List ℕ) (status : ℕ) → IsCause status → (end : AtEnd begin left now skips held)
-    → Stopped (at_first begin) (asks_of (lines end.midway.read)) then → Keeps kept then.office
-    → RunsLines begin (left_so left kept then then.written) status
-stops_at_end begin left kept now then skips held status cause end stop keeps =
+stops_at_end : (from : OfficeState) (begin : Outside) (left : Option (List ℕ)) (kept : Option KeptTables) (now then : Progress)
+    (skips : Bool) (held : List ℕ) (status : ℕ) → IsCause status → (end : AtEnd from begin left now skips held)
+    → Stopped (at_first from begin) (asks_of (lines end.midway.read)) then → Keeps kept then.office
+    → RunsFrom from begin (left_so left kept then then.written) status
+stops_at_end from begin left kept now then skips held status cause end stop keeps =
     let at = end.midway in
     let all = lines at.read in
     let asks = asks_of all in
     let below : length at.read < input_limit = omega (arith, at.long, at.below) in
-    let course = stopped_course begin at.read asks then stop in
-    let some = stopped_some begin at.read all asks [] then (sym (append-nil asks)) stop in
+    let course = stopped_course from begin at.read asks then stop in
+    let some = stopped_some from begin at.read all asks [] then (sym (append-nil asks)) stop in
     record {
       course = course;
       first = refl;
-      leads = stopped_leads begin left kept at.read asks then stop at.loses keeps;
+      leads = stopped_leads from begin left kept at.read asks then stop at.loses keeps;
       ends = stops_so status course (left_so left kept then then.written) cause (below, inr (end.ended, some));
     }
 
 -- the output refused the last reply
-pub stops_last : (begin : Outside) (left : Option (List ℕ)) (kept : Option KeptTables) (now then : Progress)
+pub stops_last : (from : OfficeState) (begin : Outside) (left : Option (List ℕ)) (kept : Option KeptTables) (now then : Progress)
     (skips : Bool) (held : List ℕ) (fault : SinkFault) (status : ℕ) → IsCause status
-    → AtEnd begin left now skips held → AnswersLast skips held now (Err fault) then → Keeps kept then.office
-    → RunsLines begin (left_so left kept then then.written) status
-stops_last begin left kept now then skips held fault status cause end goes keeps =
-    stops_at_end begin left kept now then skips held status cause end
-    (all_answered begin left now then skips held (Err fault) end goes) keeps
+    → AtEnd from begin left now skips held → AnswersLast skips held now (Err fault) then → Keeps kept then.office
+    → RunsFrom from begin (left_so left kept then then.written) status
+stops_last from begin left kept now then skips held fault status cause end goes keeps =
+    stops_at_end from begin left kept now then skips held status cause end
+    (all_answered from begin left now then skips held (Err fault) end goes) keeps
 
 -- the output refused what waited at the end
-pub stops_sending : (begin : Outside) (left : Option (List ℕ)) (kept : Option KeptTables) (now then : Progress)
+pub stops_sending : (from : OfficeState) (begin : Outside) (left : Option (List ℕ)) (kept : Option KeptTables) (now then : Progress)
     (written : Option (List ℕ)) (skips : Bool) (held : List ℕ) (status : ℕ) → IsCause status
-    → AtEnd begin left now skips held → AnswersLast {E = SinkFault} skips held now (Ok (tt {0})) then
+    → AtEnd from begin left now skips held → AnswersLast {E = SinkFault} skips held now (Ok (tt {0})) then
     → WritesFront then.written written then.waits → Keeps kept then.office
-    → RunsLines begin (left_so left kept then written) status
-stops_sending begin left kept now then written skips held status cause end goes front keeps =
-    let all = all_answered {E = SinkFault} begin left now then skips held (Ok (tt {0})) end goes in
-    stops_at_end begin left kept now (now_so then [] written) skips held status cause end
-    (ran_stops (at_first begin) then (asks_of (lines end.midway.read)) [] written all front) keeps
+    → RunsFrom from begin (left_so left kept then written) status
+stops_sending from begin left kept now then written skips held status cause end goes front keeps =
+    let all = all_answered {E = SinkFault} from begin left now then skips held (Ok (tt {0})) end goes in
+    stops_at_end from begin left kept now (now_so then [] written) skips held status cause end
+    (ran_stops (at_first from begin) then (asks_of (lines end.midway.read)) [] written all front) keeps
 
 -- all was written
-pub ends_well : (begin : Outside) (left : Option (List ℕ)) (kept : Option KeptTables) (now then : Progress)
+pub ends_well : (from : OfficeState) (begin : Outside) (left : Option (List ℕ)) (kept : Option KeptTables) (now then : Progress)
     (written : Option (List ℕ)) (skips : Bool) (held : List ℕ)
-    → AtEnd begin left now skips held → AnswersLast {E = SinkFault} skips held now (Ok (tt {0})) then
+    → AtEnd from begin left now skips held → AnswersLast {E = SinkFault} skips held now (Ok (tt {0})) then
     → Grows then.written written then.waits → Keeps kept then.office
-    → RunsLines begin (left_so left kept then written) 0
-ends_well begin left kept now then written skips held end goes more keeps =
+    → RunsFrom from begin (left_so left kept then written) 0
+ends_well from begin left kept now then written skips held end goes more keeps =
     let at = end.midway in
     let asks = asks_of (lines at.read) in
-    let all = all_answered {E = SinkFault} begin left now then skips held (Ok (tt {0})) end goes in
+    let all = all_answered {E = SinkFault} from begin left now then skips held (Ok (tt {0})) end goes in
     let done = now_so then [] written in
-    let ran = ran_flushed (at_first begin) then asks [] written all refl more in
+    let ran = ran_flushed (at_first from begin) then asks [] written all refl more in
     let below : length at.read < input_limit = omega (arith, at.long, at.below) in
     record {
-      course = ran_course begin at.read asks done ran;
+      course = ran_course from begin at.read asks done ran;
       first = refl;
-      leads = ran_leads begin left kept at.read asks done ran refl at.loses keeps;
-      ends = inl (refl, (below, end.ended, answered_so begin done at.read (lines at.read) asks refl ran));
+      leads = ran_leads from begin left kept at.read asks done ran refl at.loses keeps;
+      ends = inl (refl, (below, end.ended, answered_so from begin done at.read (lines at.read) asks refl ran));
     }

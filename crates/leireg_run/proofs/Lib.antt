@@ -13,3 +13,4 @@ pub mod Reading
 pub mod Ending
 pub mod Stopping
 pub mod Completing
+pub mod Unopened

@@ -1,22 +1,29 @@
 -- How a run ends, by its command and its status.
-use Rattle.std.specs.Prelude.{◌≡◌, ◌<◌, ◌≤◌, ℕ, ℤ, List, ◌++◌, ◌⊎◌, length, Contains, Some}
+use Rattle.std.specs.Prelude.{◌≡◌, ◌<◌, ◌≤◌, ℕ, ℤ, List, ◌++◌, ◌⊎◌, length, codes, decimal, Contains, Option, Some, IfSome, Result, Ok, Err}
 use Rattle.std.specs.Str.Lines.{lines}
 use Rattle.lei_outside.specs.Count.{Rose}
-use Rattle.lei_outside.specs.Told.{Grows, IsAtEnd}
+use Rattle.lei_outside.specs.Keeping.{KeptTables, Stays}
+use Rattle.lei_outside.specs.Told.{Grows, IsAtEnd, WritesFront}
 use Rattle.lei_code.specs.Fault.{fault_of}
+use Rattle.lei_code.specs.Texts.{Text}
 use Rattle.lei_office.specs.declared.reply.Refusal.TheVariants.{NoMemory}
 use Rattle.lei_office.specs.declared.reply.Reply.{Reply}
 use Rattle.lei_office.specs.declared.reply.Reply.TheVariants.{Words}
+use Rattle.lei_office.specs.declared.damage.Damage.{Damage}
+use Rattle.lei_office.specs.Damage.{IsDamage}
 use Rattle.lei_office.specs.Kept.{Keeps}
 use Rattle.lei_office.specs.State.{OfficeState}
-use Rattle.lei_office.specs.Legal.{Session, replies_to}
-use Rattle.leireg_run.specs.Codes.{check_line, digits_fault, digits_line, told_status, TellsLine}
+use Rattle.lei_office.specs.Legal.{Legal, Session, replies_to}
+use Rattle.lei_office.specs.Limits.{standard}
+use Rattle.leireg_run.specs.Codes.{check_line, digits_fault, digits_line, told_status, IsWritten, TellsLine}
 use Rattle.leireg_run.specs.Limits.{input_limit, read_limit}
 use Rattle.leireg_run.specs.Lines.{Line, whole_part}
 use Rattle.leireg_run.specs.Moments.{Gives}
 use Rattle.leireg_run.specs.Outside.{Course, Leads, Outside}
 use Rattle.leireg_run.specs.Replies.{reply_texts}
-use Rattle.leireg_run.specs.Runs.{asks_of, first_office, Answers, AnswersInPart}
+use Rattle.leireg_run.specs.Runs.{asks_of, Answers, AnswersInPart}
+use Rattle.leireg_run.specs.declared.status.Stop.{Stop}
+use Rattle.leireg_run.specs.declared.status.Stop.TheVariants as stops
 use Rattle.leireg_run.specs.Words.{Meant, to_answer_lines, to_check, to_make_digits}
 
 -- ---- a run over lines, status by status
@@ -70,44 +77,116 @@ EndsWith status course after =
     ⊎ ((status ≡ 6) × StopsWriting course after)
     ⊎ ((status ≡ 8) × StopsAtLimit course)
 
--- What a run over lines does to the outside, and how it ends. Its first office is one without entries.
-pub record RunsLines (before after : Outside) (status : ℕ) : Type 0 where
+-- What a run over lines does to the outside from this office on, and how it ends.
+pub record RunsFrom (from : OfficeState) (before after : Outside) (status : ℕ) : Type 0 where
   pub course : Course
-  pub first : course.first ≡ first_office
+  pub first : course.first ≡ from
   pub leads : Leads before course after
   pub ends : EndsWith status course after
 
+-- ---- the office that a run begins with
+
+-- The office of what a keeper tells: it has the standard limits and a legal history, and where the keeper tells its tables,
+-- they are those of this office.
+pub record IsOpened (told : Option KeptTables) (office : OfficeState) : Type 0 where
+  pub limits : office.limits ≡ standard
+  pub legal : Legal office
+  pub keeps : Keeps told office
+
+-- A keeper of this kind may tell this.
+abbrev pub MayTell : {K : Type 0} → (K → Option KeptTables) → Option KeptTables → Type 0
+MayTell {K} tables told = (keeper : K) × (tables keeper ≡ told)
+
+-- The office was opened of what the keeper told before: there was a state of the keeper in which it told that, or nothing
+-- any more, and the office is that of what it told then.
+pub record Opens (may : Option KeptTables → Type 0) (before : Option KeptTables) (office : OfficeState) : Type 0 where
+  pub told : Option KeptTables
+  pub met : may told
+  pub stays : Stays before told
+  pub is : IsOpened told office
+
+-- Lines were answered from the office that was opened on.
+pub record OpensAndRuns (may : Option KeptTables → Type 0) (before after : Outside) (status : ℕ) : Type 0 where
+  pub first : OfficeState
+  pub opened : Opens may before.kept first
+  pub runs : RunsFrom first before after status
+
+-- The first difference between what the keeper has and what its entries come to, as it is written: its entry's number,
+-- what is kept and what the replay makes, each in a line.
+abbrev pub damage_text : Damage → Text
+damage_text damage = codes "STORE_DAMAGED " ++ (decimal damage.entry
+    ++ (codes "\nkept " ++ (damage.kept ++ (codes "\nreplayed " ++ (damage.replayed ++ codes "\n")))))
+
+-- The first difference, where the keeper tells its tables, was written whole; or the output took a front of its text.
+pub record TellsDamage {E : Type 0} (before after : Outside) (result : Result (Unit {0}) E) : Type 0 where
+  pub damage : Damage
+  pub is : IfSome after.kept (λ tables. IsDamage standard tables damage)
+  pub written : IsWritten before.written after.written (damage_text damage) result
+
+-- Nothing was read, and the keeper has what it had. Status 5: a call of the keeper failed. Status 6: memory was wanted.
+-- Status 7: what the keeper has is damaged, and that is told.
+pub record FailsToOpen (before after : Outside) (status : ℕ) : Type 0 where
+  pub unread : after.left ≡ before.left
+  pub unasked : after.given ≡ before.given
+  pub kept : Stays before.kept after.kept
+  pub ends : ((status ≡ 5) × Rose before.faults after.faults × (after.written ≡ before.written))
+      ⊎ ((status ≡ 6) × (after.written ≡ before.written))
+      ⊎ ((status ≡ 6) × TellsDamage {E = Unit {0}} before after (Err (tt {0})))
+      ⊎ ((status ≡ 7) × (told : Result (Unit {0}) (Unit {0})) × TellsDamage before after told)
+
+-- A run that ends with this status has opened no store: 5 and 7.
+abbrev pub IsUnopened : ℕ → Type 0
+IsUnopened status = (status ≡ 5) ⊎ (status ≡ 7)
+
+-- What is written of damage, and what the command is stopped as then: the output took the text or refused it, or found no
+-- memory.
+abbrev pub IsDamageTold : Option (List ℕ) → Option (List ℕ) → Text → Stop → Type 0
+IsDamageTold before after text stop =
+    ((stop ≡ stops.StoreDamaged) × (told : Result (Unit {0}) (Unit {0})) × IsWritten before after text told)
+    ⊎ ((stop ≡ stops.NoMemory) × WritesFront before after text)
+
+-- What a run over lines does: the store is opened and the lines are answered, or it isn't.
+abbrev pub RunsLines : (Option KeptTables → Type 0) → Outside → Outside → ℕ → Type 0
+RunsLines may before after status = OpensAndRuns may before after status ⊎ FailsToOpen before after status
+
 -- ---- any command
 
--- What was meant was done, with this status: the lines of the input were answered, or the line of a text was
--- written.
-abbrev pub Does : Meant → Outside → Outside → ℕ → Type 0
-Does to_answer_lines before after status = RunsLines before after status
-Does (to_check text) before after status =
+-- What was meant was done, with this status: a store was opened, where the keeper may tell so, and the lines of the input
+-- were answered, or the line of a text was written.
+abbrev pub Does : (Option KeptTables → Type 0) → Meant → Outside → Outside → ℕ → Type 0
+Does may to_answer_lines before after status = RunsLines may before after status
+Does may (to_check text) before after status =
     TellsLine (fault_of text) (check_line text) before.written after.written status
-Does (to_make_digits text) before after status =
+Does may (to_make_digits text) before after status =
     TellsLine (digits_fault text) (digits_line text) before.written after.written status
 
--- All of these bytes were read, their lines answered at moments of the clock, and the replies written, with status
--- 0. Where the keeper doesn't fail and memory is never wanting, the replies are those that the lines and the moments
--- determine.
-pub record IsComplete (bytes : List ℕ) (before after : Outside) (status : ℕ) : Type 0 where
+-- All of these bytes were read, their lines answered at moments of the clock from the office that was opened on, and the
+-- replies written, with status 0. Where the keeper doesn't fail and memory is never wanting, the replies are those that
+-- the lines and the moments determine.
+pub record IsComplete (may : Option KeptTables → Type 0) (bytes : List ℕ) (before after : Outside) (status : ℕ) : Type 0
+    where
   pub ok : status ≡ 0
+  pub first : OfficeState
+  pub opened : Opens may before.kept first
   pub ended : IsAtEnd after.left
   pub moments : List ℤ
   pub gives : Gives before.given after.given moments
   pub replies : List Reply
   pub office : OfficeState
-  pub session : Session first_office (asks_of (lines bytes)) moments replies office
+  pub session : Session first (asks_of (lines bytes)) moments replies office
   pub writes : Grows before.written after.written (reply_texts (asks_of (lines bytes)) replies)
   pub keeps : Keeps after.kept office
   pub exact : ¬ (Rose before.faults after.faults) → ¬ (Contains replies (Words NoMemory))
-      → replies ≡ replies_to first_office (asks_of (lines bytes)) moments
+      → replies ≡ replies_to first (asks_of (lines bytes)) moments
 
--- Where nothing fails and no memory is wanting, all is done: an input that is told and short enough is answered
--- whole, and a text is told, with status 0 or 2.
-abbrev pub Completes : Meant → Outside → Outside → ℕ → Type 0
-Completes to_answer_lines before after status =
-    (bytes : List ℕ) → before.left ≡ Some bytes → length bytes < input_limit → IsComplete bytes before after status
-Completes (to_check text) before after status = status ≡ told_status (fault_of text)
-Completes (to_make_digits text) before after status = status ≡ told_status (digits_fault text)
+-- Where no source and no sink fails and no memory is wanting, all is done: an input that is told and short enough is
+-- answered whole, unless a call of the keeper failed while its store was opened, or the store is damaged, which is told
+-- whole; and a text is told, with status 0 or 2.
+abbrev pub Completes : (Option KeptTables → Type 0) → Meant → Outside → Outside → ℕ → Type 0
+Completes may to_answer_lines before after status =
+    (bytes : List ℕ) → before.left ≡ Some bytes → length bytes < input_limit
+    → IsComplete may bytes before after status
+    ⊎ ((status ≡ 5) × Rose before.faults after.faults)
+    ⊎ ((status ≡ 7) × TellsDamage {E = Unit {0}} before after (Ok (tt {0})))
+Completes may (to_check text) before after status = status ≡ told_status (fault_of text)
+Completes may (to_make_digits text) before after status = status ≡ told_status (digits_fault text)

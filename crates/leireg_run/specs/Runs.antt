@@ -4,8 +4,7 @@ use Rattle.std.specs.Str.Lines.{lines}
 use Rattle.lei_outside.specs.Told.{Grows}
 use Rattle.lei_office.specs.declared.reply.Reply.{Reply}
 use Rattle.lei_office.specs.declared.request.Asked.{Asked}
-use Rattle.lei_office.specs.Limits.{standard}
-use Rattle.lei_office.specs.State.{OfficeState, opened}
+use Rattle.lei_office.specs.State.{OfficeState}
 use Rattle.lei_office.specs.Legal.{Session}
 use Rattle.leireg_run.specs.Faults.{RoseBy, keeper_faults}
 use Rattle.leireg_run.specs.Lines.{HasNoEnd, IsClosed, Line}
@@ -13,10 +12,6 @@ use Rattle.leireg_run.specs.Moments.{Gives}
 use Rattle.leireg_run.specs.Outbox.{Sends}
 use Rattle.leireg_run.specs.Requests.{asked}
 use Rattle.leireg_run.specs.Replies.{reply_text, reply_texts}
-
--- The office that a run begins with: it has the standard limits, and took nothing yet.
-abbrev pub first_office : OfficeState
-first_office = opened standard
 
 -- What lines ask, in order; an empty line asks nothing.
 abbrev pub asks_of : List Line → List Asked

@@ -11,7 +11,9 @@ abbrev pub stop_status : Stop → ℕ
 stop_status stop.Refused = 2
 stop_status stop.ReadFault = 3
 stop_status stop.WriteFault = 4
+stop_status stop.KeeperFault = 5
 stop_status stop.NoMemory = 6
+stop_status stop.StoreDamaged = 7
 stop_status stop.InputTooLong = 8
 
 -- What a fault of the output stops a command as.

@@ -1,5 +1,5 @@
 -- What the words behind the program's name ask for. This project's profile.
-use Rattle.std.specs.Prelude.{◌≡◌, List, [], ◌∷◌, codes, map, string_bytes, String, if◌then◌else◌, Option, None, Some}
+use Rattle.std.specs.Prelude.{◌≡◌, List, [], ◌∷◌, ◌&&◌, codes, map, string_bytes, String, if◌then◌else◌, is_some, Option, None, Some}
 use Rattle.std.specs.Global.{Global}
 use Rattle.std.specs.Str.{bytes_eq}
 use Rattle.lei_code.specs.Texts.{Text}
@@ -21,12 +21,26 @@ abbrev pub meant_with : Text → Text → Option Meant
 meant_with word text = if bytes_eq word (codes "check") then Some (to_check text)
     else (if bytes_eq word (codes "digits") then Some (to_make_digits text) else None)
 
+-- Three words: `lines`, `--store` and the path of a store, the empty one too.
+abbrev pub meant_over : Text → Text → Text → Option Meant
+meant_over word option path = if bytes_eq word (codes "lines") && bytes_eq option (codes "--store")
+    then Some to_answer_lines else None
+
 -- What the words ask for, and nothing where they are no command.
 abbrev pub meant : List Text → Option Meant
 meant [] = None
 meant (word ∷ []) = meant_alone word
 meant (word ∷ text ∷ []) = meant_with word text
-meant (word ∷ text ∷ other ∷ others) = None
+meant (word ∷ option ∷ path ∷ []) = meant_over word option path
+meant (word ∷ option ∷ path ∷ other ∷ others) = None
+
+-- The path of the store that the words name, and none where they are no command over a store.
+abbrev pub store_path : List Text → Option Text
+store_path [] = None
+store_path (word ∷ []) = None
+store_path (word ∷ option ∷ []) = None
+store_path (word ∷ option ∷ path ∷ []) = if is_some (meant_over word option path) then Some path else None
+store_path (word ∷ option ∷ path ∷ other ∷ others) = None
 
 -- The words of a command line mean this.
 abbrev pub Mean : List (String Global) → Meant → Type 0

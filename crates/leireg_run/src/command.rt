@@ -1,6 +1,7 @@
 //! What the words behind the program's name ask for.
 ghost use Rattle.std.specs.Prelude.{◌≡◌, map, option_map, string_bytes};
-ghost use Rattle.leireg_run.specs.Words.{meant, meant_alone, meant_with, meaning};
+ghost use Rattle.leireg_run.specs.Words.{meant, meant_alone, meant_over, meant_with, meaning, store_path};
+ghost use Rattle.lei_code.specs.Texts.{Text};
 
 /// A command of the program, with its text. This project's profile.
 #[derive(Clone, Copy)]
@@ -20,6 +21,20 @@ pub fn command_of(words: &[String]) -> Option<Command<'_>>
     match words {
         [word] => command_alone(word.as_str()),
         [word, text] => command_with(word.as_str(), text.as_str()),
+        [word, option, _] => command_over(word.as_str(), option.as_str()),
+        _ => None,
+    }
+}
+
+/// The path of the store that these words name. None where they are no command over a store.
+pub fn store_path(words: &[String]) -> Option<&str>
+    ensures { option_map (λ path. path.now) result ≡ store_path (map string_bytes words.now) }
+{
+    match words {
+        [word, option, path] => match command_over(word.as_str(), option.as_str()) {
+            Some(_) => Some(path.as_str()),
+            None => None,
+        },
         _ => None,
     }
 }
@@ -28,6 +43,16 @@ fn command_alone(word: &str) -> Option<Command<'_>>
     ensures { option_map meaning result ≡ meant_alone word.now }
 {
     if word == "lines" {
+        Some(Command::Lines)
+    } else {
+        None
+    }
+}
+
+fn command_over<'a>(word: &str, option: &str) -> Option<Command<'a>>
+    ensures { (path : Text) → option_map meaning result ≡ meant_over word.now option.now path }
+{
+    if word == "lines" && option == "--store" {
         Some(Command::Lines)
     } else {
         None

@@ -4,6 +4,7 @@
 mod answering;
 mod codes;
 mod command;
+mod damage;
 pub mod laws;
 mod outbox;
 mod program;
@@ -13,4 +14,5 @@ pub mod status;
 mod window;
 mod writing;
 
+pub use command::store_path;
 pub use program::{MAX_INPUT, run};

@@ -1,22 +1,24 @@
 //! The program's run, from its words, its input, its output, its keeper and its clock to its status.
-ghost use Rattle.std.specs.Prelude.{◌≡◌, ◌≢◌, ◌↔◌, [], None, Option, map, string_bytes, IfSome, IsErrOf};
+ghost use Rattle.std.specs.Prelude.{◌≡◌, ◌≢◌, ◌↔◌, [], None, Ok, Option, map, string_bytes, IsErrOf};
 ghost use Rattle.lei_outside.specs.Count.{Rose};
 ghost use Rattle.lei_outside.specs.Faults.{FailsLast};
-ghost use Rattle.lei_outside.specs.Keeping.{KeptTables, nothing_kept};
+ghost use Rattle.lei_outside.specs.Keeping.{KeptTables};
+ghost use Rattle.lei_outside.specs.Told.{Grows};
 ghost use Rattle.lei_office.specs.Kept.{Keeps};
-ghost use Rattle.leireg_run.specs.Ends.{RunsLines, Does, Completes};
+ghost use Rattle.leireg_run.specs.Ends.{RunsFrom, RunsLines, Does, Completes, IsDamageTold, IsUnopened, MayTell, TellsDamage, damage_text};
 ghost use Rattle.leireg_run.specs.Outside.{outside};
 ghost use Rattle.leireg_run.specs.Reading.{Holds};
-ghost use Rattle.leireg_run.specs.Runs.{first_office};
 ghost use Rattle.leireg_run.specs.Status.{end_status};
 ghost use Rattle.leireg_run.specs.Words.{Meant, to_answer_lines, meant, meaning, Mean};
 
 use crate::codes::{check, digits};
 use crate::command::{Command, command_of};
+use crate::damage::write_damage;
 use crate::outbox::BLOCK;
 use crate::reader::Reader;
 use crate::status::{OK, Stop, USAGE};
-use lei_outside::{Clock, Keeper, Sink, Source};
+use lei_office::{Damage, OpenFault};
+use lei_outside::{Clock, Keeper, Sink, SinkFault, Source};
 use std::alloc::Global;
 use std::thread::Threads;
 
@@ -24,8 +26,8 @@ use std::thread::Threads;
 pub const MAX_INPUT: usize = 4_294_967_296;
 
 /// Does what the words ask for, which are the program's words without its name. Says the status that it ends with, and
-/// gives the keeper back. Lines are answered from an office without entries, so the keeper has to have kept nothing. The
-/// clock is asked for one moment for each line that asks something, after the line was read.
+/// gives the keeper back. Lines are answered from the office of what the keeper has. The clock is asked for one moment for
+/// each line that asks something, after the line was read.
 pub fn run<R: Threads + Sync, S: Source, W: Sink, K: Keeper, C: Clock>(
     rt: &R,
     alloc: Global,
@@ -35,23 +37,24 @@ pub fn run<R: Threads + Sync, S: Source, W: Sink, K: Keeper, C: Clock>(
     keeper: K,
     clock: &mut C,
 ) -> (u8, K)
-    requires empty { IfSome (K.tables keeper) (λ told. told ≡ nothing_kept) }
     ensures usage { result.0 ≡ 1 ↔ (meant (map string_bytes words.now) ≡ None) }
     ensures untouched { result.0 ≡ 1 → out.new ≡ out.old }
     ensures unread { ¬ (Mean words.now to_answer_lines) → input.new ≡ input.old }
     ensures unasked { ¬ (Mean words.now to_answer_lines) → clock.new ≡ clock.old }
     ensures unkept { ¬ (Mean words.now to_answer_lines) → result.1 ≡ keeper }
-    ensures does { (what : Meant) → Mean words.now what → Does what
+    ensures unopened { IsUnopened result.0 → (input.new ≡ input.old) × (clock.new ≡ clock.old) }
+    ensures does { (what : Meant) → Mean words.now what → Does (MayTell K.tables) what
         (outside (S.left input.old) (C.given clock.old) (W.written out.old) (K.tables keeper) (K.faults keeper))
         (outside (S.left input.new) (C.given clock.new) (W.written out.new) (K.tables result.1) (K.faults result.1))
         result.0 }
     ensures read_fault { result.0 ≡ 3 → FailsLast S.left S.faults input.old input.new }
     ensures no_read_fault { result.0 ≢ 3 → S.faults input.new ≡ S.faults input.old }
     ensures write_fault { result.0 ≡ 4 → FailsLast W.written W.faults out.old out.new }
-    ensures no_write_fault { result.0 ≢ 4 → W.faults out.new ≡ W.faults out.old }
+    ensures no_write_fault { result.0 ≢ 4 → result.0 ≢ 7 → W.faults out.new ≡ W.faults out.old }
+    ensures damage_fault { result.0 ≡ 7 → Rose (W.faults out.old) (W.faults out.new) → FailsLast W.written W.faults out.old out.new }
     ensures complete { (what : Meant) → Mean words.now what → result.0 ≢ 6
         → ¬ (Rose (S.faults input.old) (S.faults input.new)) → ¬ (Rose (W.faults out.old) (W.faults out.new))
-        → Completes what
+        → Completes (MayTell K.tables) what
         (outside (S.left input.old) (C.given clock.old) (W.written out.old) (K.tables keeper) (K.faults keeper))
         (outside (S.left input.new) (C.given clock.new) (W.written out.new) (K.tables result.1) (K.faults result.1))
         result.0 }
@@ -74,18 +77,26 @@ fn run_command<R: Threads + Sync, S: Source, W: Sink, K: Keeper, C: Clock>(
     keeper: K,
     clock: &mut C,
 ) -> (Result<(), Stop>, K)
-    requires empty { IfSome (K.tables keeper) (λ told. told ≡ nothing_kept) }
     ensures unread { ¬ (meaning command.now ≡ to_answer_lines) → input.new ≡ input.old }
     ensures unasked { ¬ (meaning command.now ≡ to_answer_lines) → clock.new ≡ clock.old }
     ensures unkept { ¬ (meaning command.now ≡ to_answer_lines) → result.1 ≡ keeper }
-    ensures does { Does (meaning command.now)
+    ensures unopened { IsUnopened (end_status result.0) → (input.new ≡ input.old) × (clock.new ≡ clock.old) }
+    ensures does { Does (MayTell K.tables) (meaning command.now)
         (outside (S.left input.old) (C.given clock.old) (W.written out.old) (K.tables keeper) (K.faults keeper))
         (outside (S.left input.new) (C.given clock.new) (W.written out.new) (K.tables result.1) (K.faults result.1))
         (end_status result.0) }
     ensures read_fault { IsErrOf result.0 Stop.ReadFault → FailsLast S.left S.faults input.old input.new }
     ensures no_read_fault { ¬ (IsErrOf result.0 Stop.ReadFault) → S.faults input.new ≡ S.faults input.old }
     ensures write_fault { IsErrOf result.0 Stop.WriteFault → FailsLast W.written W.faults out.old out.new }
-    ensures no_write_fault { ¬ (IsErrOf result.0 Stop.WriteFault) → W.faults out.new ≡ W.faults out.old }
+    ensures no_write_fault { ¬ (IsErrOf result.0 Stop.WriteFault) → ¬ (IsErrOf result.0 Stop.StoreDamaged)
+        → W.faults out.new ≡ W.faults out.old }
+    ensures damage_fault { IsErrOf result.0 Stop.StoreDamaged → Rose (W.faults out.old) (W.faults out.new)
+        → FailsLast W.written W.faults out.old out.new }
+    ensures damage_told { IsErrOf result.0 Stop.StoreDamaged → ¬ (Rose (W.faults out.old) (W.faults out.new))
+        → TellsDamage {E = Unit {0}}
+        (outside (S.left input.old) (C.given clock.old) (W.written out.old) (K.tables keeper) (K.faults keeper))
+        (outside (S.left input.new) (C.given clock.new) (W.written out.new) (K.tables result.1) (K.faults result.1))
+        (Ok (tt {0})) }
 {
     match command {
         Command::Lines => run_lines(rt, alloc, input, out, keeper, clock),
@@ -102,22 +113,46 @@ fn run_lines<R: Threads + Sync, S: Source, W: Sink, K: Keeper, C: Clock>(
     keeper: K,
     clock: &mut C,
 ) -> (Result<(), Stop>, K)
-    requires empty { IfSome (K.tables keeper) (λ told. told ≡ nothing_kept) }
-    ensures runs { RunsLines
+    ensures unopened { IsUnopened (end_status result.0) → (input.new ≡ input.old) × (clock.new ≡ clock.old) }
+    ensures runs { RunsLines (MayTell K.tables)
         (outside (S.left input.old) (C.given clock.old) (W.written out.old) (K.tables keeper) (K.faults keeper))
         (outside (S.left input.new) (C.given clock.new) (W.written out.new) (K.tables result.1) (K.faults result.1))
         (end_status result.0) }
     ensures read_fault { IsErrOf result.0 Stop.ReadFault → FailsLast S.left S.faults input.old input.new }
     ensures no_read_fault { ¬ (IsErrOf result.0 Stop.ReadFault) → S.faults input.new ≡ S.faults input.old }
     ensures write_fault { IsErrOf result.0 Stop.WriteFault → FailsLast W.written W.faults out.old out.new }
-    ensures no_write_fault { ¬ (IsErrOf result.0 Stop.WriteFault) → W.faults out.new ≡ W.faults out.old }
+    ensures no_write_fault { ¬ (IsErrOf result.0 Stop.WriteFault) → ¬ (IsErrOf result.0 Stop.StoreDamaged)
+        → W.faults out.new ≡ W.faults out.old }
+    ensures damage_fault { IsErrOf result.0 Stop.StoreDamaged → Rose (W.faults out.old) (W.faults out.new)
+        → FailsLast W.written W.faults out.old out.new }
+    ensures damage_told { IsErrOf result.0 Stop.StoreDamaged → ¬ (Rose (W.faults out.old) (W.faults out.new))
+        → TellsDamage {E = Unit {0}}
+        (outside (S.left input.old) (C.given clock.old) (W.written out.old) (K.tables keeper) (K.faults keeper))
+        (outside (S.left input.new) (C.given clock.new) (W.written out.new) (K.tables result.1) (K.faults result.1))
+        (Ok (tt {0})) }
 {
-    match Reader::new(alloc, keeper) {
+    match Reader::open(rt, alloc, keeper) {
         Ok(mut reader) => {
             let ended = answer_input(rt, &mut reader, input, out, clock);
             (ended, reader.close())
         }
-        Err(keeper) => (Err(Stop::NoMemory), keeper),
+        Err(OpenFault::KeeperFault(keeper)) => (Err(Stop::KeeperFault), keeper),
+        Err(OpenFault::StoreDamaged(keeper, damage)) => (Err(tell_damage(&damage, out)), keeper),
+        Err(OpenFault::NoMemory(keeper)) => (Err(Stop::NoMemory), keeper),
+    }
+}
+
+// Tells that a store is damaged, and says what the command is stopped as: where the output refuses, that stays so.
+fn tell_damage<W: Sink>(damage: &Damage, out: &mut W) -> Stop
+    ensures stop { IsDamageTold (W.written out.old) (W.written out.new) (damage_text damage.now) result }
+    ensures kept { result ≡ Stop.NoMemory → W.faults out.new ≡ W.faults out.old }
+    ensures whole { result ≡ Stop.StoreDamaged → ¬ (Rose (W.faults out.old) (W.faults out.new))
+        → Grows (W.written out.old) (W.written out.new) (damage_text damage.now) }
+    ensures failed { Rose (W.faults out.old) (W.faults out.new) → FailsLast W.written W.faults out.old out.new }
+{
+    match write_damage(damage, out) {
+        Err(SinkFault::NoMemory) => Stop::NoMemory,
+        Ok(()) | Err(SinkFault::Failed) => Stop::StoreDamaged,
     }
 }
 
@@ -129,10 +164,9 @@ fn answer_input<R: Threads + Sync, S: Source, W: Sink, K: Keeper, C: Clock>(
     out: &mut W,
     clock: &mut C,
 ) -> Result<(), Stop>
-    requires office { reader.old.office.office ≡ first_office }
     requires held { Holds reader.old.skips reader.old.window [] }
     requires waits { reader.old.outbox ≡ [] }
-    ensures runs { (kept : Option KeptTables) → Keeps kept reader.new.office.office → RunsLines
+    ensures runs { (kept : Option KeptTables) → Keeps kept reader.new.office.office → RunsFrom reader.old.office.office
         (outside (S.left input.old) (C.given clock.old) (W.written out.old)
         (K.tables reader.old.office.keeper) (K.faults reader.old.office.keeper))
         (outside (S.left input.new) (C.given clock.new) (W.written out.new) kept (K.faults reader.new.office.keeper))

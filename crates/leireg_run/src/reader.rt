@@ -1,18 +1,21 @@
 //! The reader of lines: it answers those that are whole, and holds the one that has no end yet.
-ghost use Rattle.std.specs.Prelude.{◌≤◌, [], ◌∷◌, ◌++◌, ◌≡◌, List, ℕ, length, take, drop, IfErr, IfOk, IfSome, IsErrOf};
+ghost use Rattle.std.specs.Prelude.{◌≤◌, [], ◌∷◌, ◌++◌, ◌≡◌, List, ℕ, length, take, drop, IfErr, IfOk, IsErrOf};
 ghost use Rattle.lei_outside.specs.Faults.{FailsLast};
-ghost use Rattle.lei_outside.specs.Keeping.{nothing_kept};
+ghost use Rattle.lei_outside.specs.Keeping.{Stays};
 ghost use Rattle.lei_office.specs.Kept.{Keeps};
+ghost use Rattle.lei_office.specs.Limits.{standard};
+ghost use Rattle.lei_office.specs.Offices.{FaultRose, IsRefused, keeper_back};
+ghost use Rattle.leireg_run.specs.Ends.{IsOpened};
 ghost use Rattle.leireg_run.specs.Lines.{HasNoEnd};
 ghost use Rattle.leireg_run.specs.Reading.{Holds, TakesIn};
-ghost use Rattle.leireg_run.specs.Runs.{asks_of, first_office, progress, GoesOn};
+ghost use Rattle.leireg_run.specs.Runs.{asks_of, progress, GoesOn};
 
 use crate::answering::{answer_line, answer_lines};
 use crate::outbox::Outbox;
 use crate::requests::MAX_LINE;
 use crate::window::Window;
 use crate::writing::put_refusal;
-use lei_office::{Limits, Office, Refusal};
+use lei_office::{Limits, Office, OpenFault, Refusal};
 use lei_outside::{Clock, Keeper, NoMemory, Sink, SinkFault};
 use std::alloc::Global;
 use std::thread::Threads;
@@ -29,19 +32,22 @@ pub struct Reader<K: Keeper> {
 }
 
 impl<K: Keeper> Reader<K> {
-    /// A reader that has read nothing, over an office without entries. Where memory is wanting the keeper comes back.
-    pub fn new(alloc: Global, keeper: K) -> Result<Self, K>
-        requires { IfSome (K.tables keeper) (λ told. told ≡ nothing_kept) }
-        ensures office { IfOk result (λ reader. reader.office.office ≡ first_office) }
-        ensures keeper { IfOk result (λ reader. reader.office.keeper ≡ keeper) }
+    /// A reader that has read nothing, over the office of what the keeper has. Where it can't be opened, the keeper comes
+    /// back.
+    pub fn open<R: Threads + Sync>(rt: &R, alloc: Global, keeper: K) -> Result<Self, OpenFault<K>>
+        ensures opened { IfOk result (λ reader. IsOpened (K.tables reader.office.keeper) reader.office.office) }
+        ensures told { IfOk result (λ reader. Stays (K.tables keeper) (K.tables reader.office.keeper)) }
+        ensures faultless { IfOk result (λ reader. K.faults reader.office.keeper ≡ K.faults keeper) }
         ensures held { IfOk result (λ reader. Holds reader.skips reader.window []) }
         ensures waits { IfOk result (λ reader. reader.outbox ≡ []) }
-        ensures err { IfErr result (λ back. back ≡ keeper) }
+        ensures refused { IfErr result (IsRefused standard K.tables) }
+        ensures same { IfErr result (λ fault. Stays (K.tables keeper) (K.tables (keeper_back fault))) }
+        ensures failed { IfErr result (λ fault. FaultRose (K.faults keeper) (K.faults (keeper_back fault)) fault) }
     {
         let Ok((window, outbox)) = parts(alloc) else {
-            return Err(keeper);
+            return Err(OpenFault::NoMemory(keeper));
         };
-        let office = Office::new(alloc, keeper, Limits::standard())?;
+        let office = Office::open(rt, alloc, keeper, Limits::standard())?;
         Ok(Reader {
             alloc,
             office,

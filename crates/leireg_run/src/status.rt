@@ -14,8 +14,12 @@ pub const REFUSED: u8 = 2;
 pub const READ_FAULT: u8 = 3;
 /// The sink failed.
 pub const WRITE_FAULT: u8 = 4;
+/// A call of the keeper failed while its store was opened.
+pub const KEEPER_FAULT: u8 = 5;
 /// Memory was wanted.
 pub const NO_MEMORY: u8 = 6;
+/// What the keeper has isn't what a history leaves, and the first difference was written.
+pub const STORE_DAMAGED: u8 = 7;
 /// The input has as many bytes as no input may have.
 pub const INPUT_TOO_LONG: u8 = 8;
 
@@ -24,7 +28,9 @@ pub enum Stop {
     Refused,
     ReadFault,
     WriteFault,
+    KeeperFault,
     NoMemory,
+    StoreDamaged,
     InputTooLong,
 }
 
@@ -36,7 +42,9 @@ impl Stop {
             Stop::Refused => REFUSED,
             Stop::ReadFault => READ_FAULT,
             Stop::WriteFault => WRITE_FAULT,
+            Stop::KeeperFault => KEEPER_FAULT,
             Stop::NoMemory => NO_MEMORY,
+            Stop::StoreDamaged => STORE_DAMAGED,
             Stop::InputTooLong => INPUT_TOO_LONG,
         }
     }

@@ -1,6 +1,6 @@
 use Rattle.std.proofs.Common.{◌<◌, ◌+◌, ℕ, Err, length, refl, sym, ap, subst, ◌∙◌, arith}
 use Rattle.lei_outside.proofs.Faulting.{fails_later}
-use Rattle.leireg_run.specs.Ends.{RunsLines}
+use Rattle.leireg_run.specs.Ends.{RunsFrom}
 use Rattle.leireg_run.specs.Limits.{input_limit}
 use Rattle.leireg_run.specs.Outside.{outside}
 use Rattle.leireg_run.proofs.Ending.{begins, ends_too_long, ends_well, fails_reading, flushed, reaches_end, stops_in, stops_last, stops_sending, stops_waiting, takes_in, unseen}
@@ -11,7 +11,7 @@ pub returns-in_err-flush-clause-runs : goal.returns-in_err-flush-clause-runs
 returns-in_err-flush-clause-runs g c kept keeps =
     let fault = c.in_err-flush.field-0.0 in
     let cause = sink_cause fault c.from_residual.result c.from_residual.ensures.1 in
-    stops_waiting _ _ kept _ _ _ _ _ _ cause c.loop-held.invariant.midway c.in_err-flush.ensures.err keeps
+    stops_waiting _ _ _ kept _ _ _ _ _ _ cause c.loop-held.invariant.midway c.in_err-flush.ensures.err keeps
 
 pub returns-in_err-count-clause-runs : goal.returns-in_err-count-clause-runs
 returns-in_err-count-clause-runs g c kept keeps =
@@ -25,18 +25,18 @@ returns-in_err-count-clause-runs g c kept keeps =
     (faults keeper) in
     let after = outside (left c.read_from.new.input) (given c.loop-held.clock) (written c.flush.new.out) kept
     (faults c.loop-held.reader.office.keeper) in
-    let R : ℕ → Type 0 = λ status. RunsLines begin after status in
-    let at = flushed _ _ _ _ _ _ _ _ c.in_ok-flush.ensures.empty c.loop-held.invariant.midway
+    let R : ℕ → Type 0 = λ status. RunsFrom c.args.reader.now.office.office begin after status in
+    let at = flushed _ _ _ _ _ _ _ _ _ c.in_ok-flush.ensures.empty c.loop-held.invariant.midway
     c.in_ok-flush.ensures.ok in
     subst R (sym (read_status c.from_residual-in_err-count.result c.from_residual-in_err-count.ensures.1))
-    (fails_reading _ _ _ kept _ _ _ _ _ c.in_ok-flush.ensures.empty at c.in_err-count.ensures.err keeps)
+    (fails_reading _ _ _ _ kept _ _ _ _ _ c.in_ok-flush.ensures.empty at c.in_err-count.ensures.err keeps)
 
 pub returns-then-read-eq-MAX_INPUT-clause-runs : goal.returns-then-read-eq-MAX_INPUT-clause-runs
 returns-then-read-eq-MAX_INPUT-clause-runs g c kept keeps =
-    let at = flushed _ _ _ _ _ _ _ _ c.in_ok-flush.ensures.empty c.loop-held.invariant.midway
+    let at = flushed _ _ _ _ _ _ _ _ _ c.in_ok-flush.ensures.empty c.loop-held.invariant.midway
     c.in_ok-flush.ensures.ok in
     let some : 0 < c.in_ok-count.count = omega (arith, c.if-count-eq0.false) in
-    ends_too_long _ _ _ kept _ _ _ _ _ _ _ c.in_ok-flush.ensures.empty at c.in_ok-count.ensures.ok
+    ends_too_long _ _ _ _ kept _ _ _ _ _ _ _ c.in_ok-flush.ensures.empty at c.in_ok-count.ensures.ok
     c.in_ok-count.ensures.block some c.if-read-eq-MAX_INPUT.true keeps
 
 pub take_in-requires-clause-seen : goal.take_in-requires-clause-seen
@@ -46,13 +46,13 @@ take_in-requires-clause-seen g c =
 
 pub loop-held-preserved : goal.loop-held-preserved
 loop-held-preserved g c =
-    let at = flushed _ _ _ _ _ _ _ _ c.in_ok-flush.ensures.empty c.loop-held.invariant.midway
+    let at = flushed _ _ _ _ _ _ _ _ _ c.in_ok-flush.ensures.empty c.loop-held.invariant.midway
     c.in_ok-flush.ensures.ok in
     let fills = c.in_ok-count.ensures.ok in
     let below : c.loop-held.read + c.in_ok-count.count < input_limit = omega
     (arith, fills.2, at.below, c.if-read-eq-MAX_INPUT.false) in
     record {
-      midway = takes_in _ _ _ _ _ _ _ _ _ _ _ _ _ _ (ap length c.bytes-held.ensures) at fills below
+      midway = takes_in _ _ _ _ _ _ _ _ _ _ _ _ _ _ _ (ap length c.bytes-held.ensures) at fills below
           c.in_ok-take_in.ensures.answered;
       input_kept = c.in_ok-count.ensures.kept ∙ c.loop-held.invariant.input_kept;
       out_kept = c.in_ok-take_in.ensures.kept (λ is. cc)
@@ -61,42 +61,42 @@ loop-held-preserved g c =
 
 pub returns-in_err-take_in-clause-runs : goal.returns-in_err-take_in-clause-runs
 returns-in_err-take_in-clause-runs g c kept keeps =
-    let at = flushed _ _ _ _ _ _ _ _ c.in_ok-flush.ensures.empty c.loop-held.invariant.midway
+    let at = flushed _ _ _ _ _ _ _ _ _ c.in_ok-flush.ensures.empty c.loop-held.invariant.midway
     c.in_ok-flush.ensures.ok in
     let fills = c.in_ok-count.ensures.ok in
     let fault = c.in_err-take_in.field-0.0 in
     let below : c.loop-held.read + c.in_ok-count.count < input_limit = omega
     (arith, fills.2, at.below, c.if-read-eq-MAX_INPUT.false) in
     let cause = sink_cause fault c.from_residual-in_err-take_in.result c.from_residual-in_err-take_in.ensures.1 in
-    stops_in _ _ _ kept _ _ _ _ _ _ _ c.take_in.new.self.skips _ _ c.take_in.new.self.window fault _ cause
+    stops_in _ _ _ _ kept _ _ _ _ _ _ _ c.take_in.new.self.skips _ _ c.take_in.new.self.window fault _ cause
     (ap length c.bytes-held.ensures) at fills below c.in_err-take_in.ensures.answered keeps
 
 pub returns-in_err-answer_last-clause-runs : goal.returns-in_err-answer_last-clause-runs
 returns-in_err-answer_last-clause-runs g c kept keeps =
-    let at = flushed _ _ _ _ _ _ _ _ c.in_ok-flush.ensures.empty c.loop-held.invariant.midway
+    let at = flushed _ _ _ _ _ _ _ _ _ c.in_ok-flush.ensures.empty c.loop-held.invariant.midway
     c.in_ok-flush.ensures.ok in
     let fault = c.in_err-answer_last.field-0.0 in
-    let end = reaches_end _ _ _ _ _ _ _ _ _ _ c.if-count-eq0.true at c.in_ok-count.ensures.ok in
+    let end = reaches_end _ _ _ _ _ _ _ _ _ _ _ c.if-count-eq0.true at c.in_ok-count.ensures.ok in
     let cause = sink_cause fault c.from_residual-in_err-answer_last.result
     c.from_residual-in_err-answer_last.ensures.1 in
-    stops_last _ _ kept _ _ _ _ fault _ cause end c.in_err-answer_last.ensures.answered keeps
+    stops_last _ _ _ kept _ _ _ _ fault _ cause end c.in_err-answer_last.ensures.answered keeps
 
 pub returns-in_err-flush-2-clause-runs : goal.returns-in_err-flush-2-clause-runs
 returns-in_err-flush-2-clause-runs g c kept keeps =
-    let at = flushed _ _ _ _ _ _ _ _ c.in_ok-flush.ensures.empty c.loop-held.invariant.midway
+    let at = flushed _ _ _ _ _ _ _ _ _ c.in_ok-flush.ensures.empty c.loop-held.invariant.midway
     c.in_ok-flush.ensures.ok in
     let fault = c.in_err-flush-2.field-0.0 in
-    let end = reaches_end _ _ _ _ _ _ _ _ _ _ c.if-count-eq0.true at c.in_ok-count.ensures.ok in
+    let end = reaches_end _ _ _ _ _ _ _ _ _ _ _ c.if-count-eq0.true at c.in_ok-count.ensures.ok in
     let cause = sink_cause fault c.from_residual-in_err-flush-2.result c.from_residual-in_err-flush-2.ensures.1 in
-    stops_sending _ _ kept _ _ _ _ _ _ cause end c.in_ok-answer_last.ensures.answered c.in_err-flush-2.ensures.err
+    stops_sending _ _ _ kept _ _ _ _ _ _ cause end c.in_ok-answer_last.ensures.answered c.in_err-flush-2.ensures.err
     keeps
 
 pub returns-clause-runs : goal.returns-clause-runs
 returns-clause-runs g c kept keeps =
-    let at = flushed _ _ _ _ _ _ _ _ c.in_ok-flush.ensures.empty c.loop-held.invariant.midway
+    let at = flushed _ _ _ _ _ _ _ _ _ c.in_ok-flush.ensures.empty c.loop-held.invariant.midway
     c.in_ok-flush.ensures.ok in
-    let end = reaches_end _ _ _ _ _ _ _ _ _ _ c.if-count-eq0.true at c.in_ok-count.ensures.ok in
-    ends_well _ _ kept _ _ _ _ _ end c.in_ok-answer_last.ensures.answered c.in_ok-flush-2.ensures.ok keeps
+    let end = reaches_end _ _ _ _ _ _ _ _ _ _ _ c.if-count-eq0.true at c.in_ok-count.ensures.ok in
+    ends_well _ _ _ kept _ _ _ _ _ end c.in_ok-answer_last.ensures.answered c.in_ok-flush-2.ensures.ok keeps
 
 -- ---- what failed
 
@@ -135,7 +135,7 @@ returns-in_err-flush-2-clause-write_fault g c is =
 
 pub loop-held-init : goal.loop-held-init
 loop-held-init g c = record {
-  midway = begins _ _ _ _ _ c.requires.office c.requires.waits c.requires.held;
+  midway = begins _ _ _ _ _ _ refl c.requires.waits c.requires.held;
   input_kept = refl;
   out_kept = refl;
 }

@@ -15,7 +15,7 @@ invariant-loop-held g l =
     let input_faults = g.S.Source.faults in
     let out_faults = g.W.Sink.faults in
     record {
-      midway : Midway (outside (left l.fn.input) (given l.fn.clock) (written l.fn.out) (tables l.fn.reader.office.keeper)
+      midway : Midway l.fn.reader.office.office (outside (left l.fn.input) (given l.fn.clock) (written l.fn.out) (tables l.fn.reader.office.keeper)
           (keeper_faults l.fn.reader.office.keeper)) (left l.input) l.read
           (progress l.reader.office.office (keeper_faults l.reader.office.keeper) l.reader.outbox (given l.clock)
           (written l.out)) l.reader.skips l.reader.window;

@@ -1,0 +1,26 @@
+use Rattle.std.proofs.Common.{◌≡◌, ◌≤◌, ◌-◌, length}
+use Rattle.std.specs.Prelude.{IfSome}
+use Rattle.lei_outside.specs.Keeping.{LeavesNoMore, Stays}
+use Rattle.lei_office.specs.Legal.{Legal}
+use Rattle.lei_office.specs.Register.{IsKeptAfter}
+use Rattle.lei_office.specs.State.{office_of}
+use Rattle.lei_office.proofs.ReplayedPages.{Reached}
+use Rattle.lei_office.proofs.opening.replay_entries.Given as goal
+
+abbrev pub invariant-loop-after : goal.invariant-loop-after
+invariant-loop-after g l =
+    let tables = g.K.Keeper.tables in
+    let leaves = g.K.Keeper.leaves in
+    let faults = g.K.Keeper.faults in
+    record {
+      legal : Legal (office_of l.limits l.ledger.entries);
+      table : IsKeptAfter l.limits l.ledger.entries l.table;
+      within : l.after ≤ l.last;
+      stays : Stays (tables l.fn.keeper) (tables l.keeper);
+      crash : LeavesNoMore (leaves l.fn.keeper) (leaves l.keeper);
+      faultless : faults l.keeper ≡ faults l.fn.keeper;
+      reached : IfSome (tables l.keeper) (Reached l.last l.after l.ledger.entries);
+    }
+
+abbrev pub decreases-loop-after : goal.decreases-loop-after
+decreases-loop-after g l = l.last - l.after

@@ -1,0 +1,125 @@
+//! A store is opened: its entries are replayed, and its cells are compared with those that they leave.
+ghost use Rattle.std.specs.Prelude.{◌≡◌, ◌≤◌, ◌<◌, ◌+◌, ℕ, [], IfOk, IfSome, IsErrOf, OnOk, length};
+ghost use Rattle.std.specs.FinMap.{empty};
+ghost use Rattle.lei_outside.specs.Count.{Rose};
+ghost use Rattle.lei_outside.specs.Keeping.{AreKept, LeavesNoMore, Stays, last_number};
+ghost use Rattle.register_table.specs.Held.{no_rows, rows};
+ghost use Rattle.register_table.specs.Undos.{IsLater};
+ghost use Rattle.lei_office.specs.Legal.{Legal};
+ghost use Rattle.lei_office.specs.Limits.{AreLimits};
+ghost use Rattle.lei_office.specs.Opening.{AllReplay, IsFound};
+ghost use Rattle.lei_office.specs.Register.{IsKeptAfter};
+ghost use Rattle.lei_office.specs.State.{office_of};
+
+use crate::comparing::compare_cells;
+use crate::damage::Damage;
+use crate::limits::Limits;
+use crate::replaying::replay_page;
+use lei_outside::{KeepFault, Keeper, NoMemory};
+use register_table::Table;
+use std::alloc::Global;
+use upload_ledger::Ledger;
+
+/// So many entries are read at once, and the cells of so many are compared at once.
+pub const PAGE: u64 = 16;
+
+/// Why an office can't be opened. The keeper comes back with its tables as they were.
+#[derive(Drop)]
+pub enum OpenFault<K> {
+    /// A call of the keeper failed.
+    KeeperFault(K),
+    /// What the keeper has isn't what a history leaves under these limits; this is the first difference.
+    StoreDamaged(K, Damage),
+    /// Memory was wanted.
+    NoMemory(K),
+}
+
+/// What a store has: the history of its entries, with the table that they leave, or damage.
+#[derive(Drop)]
+pub enum Found {
+    Sound(Ledger, Table),
+    Damaged(Damage),
+}
+
+/// Reads what a keeper has.
+pub fn read_store<K: Keeper>(
+    alloc: Global,
+    limits: Limits,
+    keeper: &mut K,
+) -> Result<Found, KeepFault>
+    requires limits { AreLimits limits }
+    ensures found { IfOk result (IsFound limits (K.tables keeper.new)) }
+    ensures same { Stays (K.tables keeper.old) (K.tables keeper.new) }
+    ensures crash { LeavesNoMore (K.leaves keeper.old) (K.leaves keeper.new) }
+    ensures count { K.faults keeper.old ≤ K.faults keeper.new }
+    ensures faultless { ¬ (IsErrOf result KeepFault.Failed) → K.faults keeper.new ≡ K.faults keeper.old }
+    ensures failed { IsErrOf result KeepFault.Failed → Rose (K.faults keeper.old) (K.faults keeper.new) }
+{
+    let last = keeper.last()?;
+    let (mut ledger, mut table) = parts(alloc)?;
+    match replay_entries(alloc, limits, keeper, last, &mut ledger, &mut table)? {
+        Some(damage) => return Ok(Found::Damaged(damage)),
+        None => {}
+    }
+    let last = ledger.totals().entries;
+    match compare_cells(alloc, keeper, last, &table)? {
+        Some(damage) => Ok(Found::Damaged(damage)),
+        None => Ok(Found::Sound(ledger, table)),
+    }
+}
+
+// A ledger without entries, and a table without cells.
+fn parts(alloc: Global) -> Result<(Ledger, Table), NoMemory>
+    ensures ledger { IfOk result (λ made. made.0.entries ≡ []) }
+    ensures held { IfOk result (λ made. made.1.held ≡ empty) }
+    ensures rows { IfOk result (λ made. rows made.1.held ≡ no_rows) }
+    ensures numbers { IfOk result (λ made. (number : ℕ) → IsLater number made.1.held) }
+{
+    Ok((Ledger::new(alloc)?, Table::new(alloc)?))
+}
+
+// Replays all stored entries, of which the last has this number, page by page.
+fn replay_entries<K: Keeper>(
+    alloc: Global,
+    limits: Limits,
+    keeper: &mut K,
+    last: u64,
+    ledger: &mut Ledger,
+    table: &mut Table,
+) -> Result<Option<Damage>, KeepFault>
+    requires limits { AreLimits limits }
+    requires kept { IfSome (K.tables keeper.old) AreKept }
+    requires last { IfSome (K.tables keeper.old) (λ told. last ≡ last_number told) }
+    requires empty { ledger.old.entries ≡ [] }
+    requires table { IsKeptAfter limits [] table.old }
+    ensures replays { IfOk result (AllReplay limits (K.tables keeper.new) ledger.new.entries table.new) }
+    ensures same { Stays (K.tables keeper.old) (K.tables keeper.new) }
+    ensures crash { LeavesNoMore (K.leaves keeper.old) (K.leaves keeper.new) }
+    ensures count { K.faults keeper.old ≤ K.faults keeper.new }
+    ensures faultless { ¬ (IsErrOf result KeepFault.Failed) → K.faults keeper.new ≡ K.faults keeper.old }
+    ensures failed { IsErrOf result KeepFault.Failed → Rose (K.faults keeper.old) (K.faults keeper.new) }
+{
+    let mut after = 0;
+    while after < last {
+        let upto = page_end(after, last);
+        let page = keeper.entries(after, upto)?;
+        match replay_page(alloc, limits, ledger, table, page.as_slice(), upto)? {
+            Some(damage) => return Ok(Some(damage)),
+            None => after = upto,
+        }
+    }
+    Ok(None)
+}
+
+// The last number of a page that begins behind a number.
+fn page_end(after: u64, last: u64) -> u64
+    requires { after < last }
+    ensures more { after < result }
+    ensures most { result ≤ last }
+{
+    if last - after > PAGE {
+        after + PAGE
+    } else {
+        last
+    }
+}

@@ -1,0 +1,215 @@
+//! Stored entries are replayed: each is asked again as its own request, at its own moment.
+ghost use Rattle.std.specs.Prelude.{◌≡◌, ◌+◌, ◌++◌, ◌∷◌, [], IfOk, IfSome, IsTrue, OnOk, Some, option_map};
+ghost use Rattle.lei_records.specs.Tables.{put_all};
+ghost use Rattle.lei_shapes.specs.Moment.{IsMoment};
+ghost use Rattle.register_table.specs.Held.{rows};
+ghost use Rattle.register_table.specs.Undos.{IsLater, MayApply, touch_all};
+ghost use Rattle.upload_ledger.specs.History.{stamp};
+ghost use Rattle.upload_ledger.specs.Limits.{AreFew};
+ghost use Rattle.lei_office.specs.Damage.{asked_by, missing, request_in};
+ghost use Rattle.lei_office.specs.Legal.{IsNumbered, Legal};
+ghost use Rattle.lei_office.specs.Limits.{AreLimits};
+ghost use Rattle.lei_office.specs.Opening.{PageReplays, Replays};
+ghost use Rattle.lei_office.specs.Register.{IsKeptAfter};
+ghost use Rattle.lei_office.specs.State.{office_of};
+ghost use Rattle.lei_office.specs.Words.{reply_words};
+
+use crate::damage::{Damage, entry_line};
+use crate::deciding::{Decision, decide};
+use crate::entries::stamp;
+use crate::limits::Limits;
+use crate::reply::Reply;
+use crate::request::{Call, Request, is_upload_number};
+use lei_code::Lei;
+use lei_outside::{Bytes, KeptEntry, NoMemory};
+use lei_records::Writes;
+use lei_shapes::Moment;
+use register_table::Table;
+use std::alloc::Global;
+use upload_ledger::{ACCREDIT, Ledger, UPLOAD};
+
+/// Replays the stored entries of a page, which are to be those up to the number `upto`. Says the first that differs.
+pub fn replay_page(
+    alloc: Global,
+    limits: Limits,
+    ledger: &mut Ledger,
+    table: &mut Table,
+    page: &[KeptEntry],
+    upto: u64,
+) -> Result<Option<Damage>, NoMemory>
+    requires limits { AreLimits limits }
+    requires legal { Legal (office_of limits ledger.old.entries) }
+    requires table { IsKeptAfter limits ledger.old.entries table.old }
+    ensures { IfOk result (PageReplays limits ledger.old.entries page.now upto ledger.new.entries table.new) }
+{
+    for stored in page {
+        let number = ledger.entries().len() as u64 + 1;
+        if stored.seq != number {
+            return Ok(Some(missing(alloc, number)?));
+        }
+        match replay(alloc, limits, ledger, table, stored)? {
+            Some(replayed) => {
+                let kept = entry_line(alloc, stored)?;
+                return Ok(Some(Damage {
+                    entry: number,
+                    kept,
+                    replayed,
+                }));
+            }
+            None => {}
+        }
+    }
+    let number = ledger.entries().len() as u64 + 1;
+    if number <= upto {
+        return Ok(Some(missing(alloc, number)?));
+    }
+    Ok(None)
+}
+
+// No entry of this number is stored.
+fn missing(alloc: Global, number: u64) -> Result<Damage, NoMemory>
+    ensures { IfOk result (λ damage. damage ≡ missing number) }
+{
+    Ok(Damage {
+        entry: number,
+        kept: Bytes::copy_of(alloc, b"none")?,
+        replayed: Bytes::copy_of(alloc, b"NOT_AN_ENTRY")?,
+    })
+}
+
+// Replays a stored entry. Where it is what the replay makes, it is added; else that is told.
+fn replay(
+    alloc: Global,
+    limits: Limits,
+    ledger: &mut Ledger,
+    table: &mut Table,
+    stored: &KeptEntry,
+) -> Result<Option<Bytes>, NoMemory>
+    requires limits { AreLimits limits }
+    requires legal { Legal (office_of limits ledger.old.entries) }
+    requires table { IsKeptAfter limits ledger.old.entries table.old }
+    ensures { IfOk result (Replays limits ledger.old.entries stored.now ledger.new.entries table.new) }
+{
+    match asked_by(alloc, stored)? {
+        Some((request, moment)) => {
+            let moment = stamp(ledger.entries(), moment);
+            replay_request(alloc, limits, ledger, table, &request, moment, stored)
+        }
+        None => Ok(Some(Bytes::copy_of(alloc, b"NOT_AN_ENTRY")?)),
+    }
+}
+
+// Replays a stored entry that was taken for this request, where the next entry has this moment.
+fn replay_request(
+    alloc: Global,
+    limits: Limits,
+    ledger: &mut Ledger,
+    table: &mut Table,
+    request: &Request,
+    moment: i64,
+    stored: &KeptEntry,
+) -> Result<Option<Bytes>, NoMemory>
+    requires limits { AreLimits limits }
+    requires numbered { IsNumbered request.now }
+    requires moment { IsMoment moment }
+    requires stored_moment { IsMoment stored.now.moment }
+    requires stamp { moment ≡ stamp ledger.old.entries stored.now.moment }
+    requires asked { asked_by stored.now ≡ Some request.now }
+    requires table { IsKeptAfter limits ledger.old.entries table.old }
+    ensures { IfOk result (Replays limits ledger.old.entries stored.now ledger.new.entries table.new) }
+{
+    match decide(alloc, limits, ledger, table, request, moment)? {
+        Decision::Stays(reply) => Ok(Some(reply_words(alloc, reply)?)),
+        Decision::Adds(entry, writes) => {
+            if !is_same(&entry, stored) {
+                return Ok(Some(entry_line(alloc, &entry)?));
+            }
+            put(ledger, table, entry, &writes)?;
+            Ok(None)
+        }
+    }
+}
+
+// Whether two entries are the same.
+fn is_same(entry: &KeptEntry, other: &KeptEntry) -> bool
+    ensures same { IsTrue result → entry.now ≡ other.now }
+    ensures apart { entry.now ≡ other.now → IsTrue result }
+{
+    entry == other
+}
+
+// Puts an entry that is kept already, with its writes.
+fn put(
+    ledger: &mut Ledger,
+    table: &mut Table,
+    entry: KeptEntry,
+    writes: &Writes,
+) -> Result<(), NoMemory>
+    requires may { MayApply writes.now (rows table.old.held) }
+    requires later { IsLater entry.seq table.old.held }
+    requires few { AreFew (ledger.old.entries ++ entry ∷ []) }
+    ensures entries { OnOk result (ledger.new.entries ≡ ledger.old.entries ++ entry ∷ []) }
+    ensures held { OnOk result (table.new.held ≡ touch_all entry.seq writes.now table.old.held) }
+    ensures rows { OnOk result (rows table.new.held ≡ put_all writes.now (rows table.old.held)) }
+    ensures numbers { OnOk result (IsLater (entry.seq + 1) table.new.held) }
+{
+    table.apply(writes, entry.seq)?;
+    ledger.reserve(&entry)?;
+    ledger.push_reserved(entry);
+    Ok(())
+}
+
+// What is told in a reply.
+fn reply_words(alloc: Global, reply: Reply) -> Result<Bytes, NoMemory>
+    ensures { IfOk result (λ text. text ≡ reply_words reply) }
+{
+    match reply {
+        Reply::Text { text, .. } => Ok(text),
+        Reply::Words(refusal) => {
+            let words = format!(in alloc; "{refusal}")?;
+            Bytes::copy_of(alloc, words.as_bytes())
+        }
+    }
+}
+
+// The request that a stored entry was taken for, with its moment. None where its values are those of no request, or its
+// moment isn't one.
+#[tactic(auto, unfolding(crate::specs::Damage::asked_by))]
+fn asked_by(alloc: Global, stored: &KeptEntry) -> Result<Option<(Request, Moment)>, NoMemory>
+    ensures request { IfOk result (λ asked. option_map (λ one. one.0) asked ≡ asked_by stored.now) }
+    ensures moment { IfOk result (λ asked. IfSome asked (λ one. one.1 ≡ stored.now.moment)) }
+    ensures in_range { IfOk result (λ asked. IfSome asked (λ one. IsMoment stored.now.moment)) }
+    ensures numbered { IfOk result (λ asked. IfSome asked (λ one. IsNumbered one.0)) }
+{
+    let Some(moment) = Moment::of(stored.moment) else {
+        return Ok(None);
+    };
+    match request_in(alloc, stored)? {
+        Some(request) => Ok(Some((request, moment))),
+        None => Ok(None),
+    }
+}
+
+// The request that an entry of its kind was taken for.
+fn request_in(alloc: Global, stored: &KeptEntry) -> Result<Option<Request>, NoMemory>
+    ensures request { IfOk result (λ request. request ≡ request_in stored.now) }
+    ensures numbered { IfOk result (λ request. IfSome request IsNumbered) }
+{
+    let Ok(issuer) = Lei::read(stored.office.as_slice()) else {
+        return Ok(None);
+    };
+    match stored.kind {
+        ACCREDIT if stored.number == 0 && stored.body.is_empty() => Ok(Some(Request::Accredit(
+            issuer,
+        ))),
+        UPLOAD if is_upload_number(stored.number) => {
+            let body = Bytes::copy_of(alloc, stored.body.as_slice())?;
+            Ok(Some(Request::Upload(Call {
+                office: issuer,
+                number: stored.number,
+                body,
+            })))
+        }
+        _ => Ok(None),
+    }
+}

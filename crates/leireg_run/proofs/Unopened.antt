@@ -1,0 +1,92 @@
+-- Runs over lines whose store is opened, and those whose store isn't.
+use Rattle.std.proofs.Common.{◌≡◌, ◌⊎◌, ℕ, ℤ, List, Option, Result, Ok, Err, inl, inr, refl, sym, ap, subst, ◌∙◌, arith}
+use Rattle.std.specs.Prelude.{IfSome}
+use Rattle.lei_outside.specs.Count.{Rose}
+use Rattle.lei_outside.specs.Keeping.{KeptTables, Stays}
+use Rattle.lei_outside.specs.Told.{Grows, WritesFront}
+use Rattle.lei_office.specs.declared.damage.Damage.{Damage}
+use Rattle.lei_office.specs.Damage.{IsDamage}
+use Rattle.lei_office.specs.Limits.{standard}
+use Rattle.lei_office.specs.State.{OfficeState}
+use Rattle.leireg_run.specs.Ends.{EndsWith, FailsToOpen, IsDamageTold, IsOpened, IsUnopened, MayTell, OpensAndRuns, RunsFrom, RunsLines, TellsDamage, damage_text}
+use Rattle.leireg_run.specs.Faults.{RoseBy, keeper_faults}
+use Rattle.leireg_run.specs.Outside.{Course, Outside, outside}
+use Rattle.leireg_run.specs.Status.{end_status, stop_status}
+use Rattle.leireg_run.specs.declared.status.Stop.{Stop}
+use Rattle.leireg_run.specs.declared.status.Stop.TheVariants as stops
+
+-- what a run does doesn't depend on what the keeper told before
+runs_so : (from : OfficeState) (left : Option (List ℕ)) (given : Option (List ℤ)) (written : Option (List ℕ)) (old new : Option KeptTables) (before now : ℕ) (after : Outside) (status : ℕ)
+    → now ≡ before → RunsFrom from (outside left given written new now) after status → RunsFrom from (outside left given written old before) after status
+runs_so from left given written old new before now after status same runs = record {
+  course = runs.course;
+  first = runs.first;
+  leads = record {
+    reads = runs.leads.reads;
+    gives = runs.leads.gives;
+    writes = runs.leads.writes;
+    keeps = runs.leads.keeps;
+    refuses = subst (λ n. RoseBy (keeper_faults runs.course.replies) n after.faults) same runs.leads.refuses;
+  };
+  ends = runs.ends;
+}
+
+-- the store was opened
+pub opens_runs : {K : Type 0} (tables : K → Option KeptTables) (faults : K → ℕ) (left : Option (List ℕ)) (given : Option (List ℤ)) (written : Option (List ℕ)) (keeper opened : K)
+    (first : OfficeState) (after : Outside) (status : ℕ) → Stays (tables keeper) (tables opened) → faults opened ≡ faults keeper → IsOpened (tables opened) first
+    → RunsFrom first (outside left given written (tables opened) (faults opened)) after status
+    → RunsLines (MayTell tables) (outside left given written (tables keeper) (faults keeper)) after status
+opens_runs {K} tables faults left given written keeper opened first after status stays same is runs = inl (record {
+  first = first;
+  opened = record { told = tables opened; met = (opened, refl); stays = stays; is = is };
+  runs = runs_so first left given written (tables keeper) (tables opened) (faults keeper) (faults opened) after status same runs;
+})
+
+-- then the status isn't one of a store that isn't opened
+pub opened_status : (from : OfficeState) (before after : Outside) (status : ℕ) → RunsFrom from before after status → IsUnopened status → ⊥
+opened_status from before after status runs unopened = by_end status runs.course runs.ends unopened
+  where
+    apart : (status n : ℕ) → status ≡ n → IsUnopened status → (n ≡ 5 → ⊥) → (n ≡ 7 → ⊥) → ⊥
+    apart status n is (inl five) not5 not7 = not5 (sym is ∙ five)
+    apart status n is (inr seven) not5 not7 = not7 (sym is ∙ seven)
+    by_end : (status : ℕ) (course : Course) → EndsWith status course after → IsUnopened status → ⊥
+    by_end status course (inl e) u = apart status 0 e.0 u (λ is. omega (arith, is)) (λ is. omega (arith, is))
+    by_end status course (inr (inl e)) u = apart status 3 e.0 u (λ is. omega (arith, is)) (λ is. omega (arith, is))
+    by_end status course (inr (inr (inl e))) u = apart status 4 e.0 u (λ is. omega (arith, is)) (λ is. omega (arith, is))
+    by_end status course (inr (inr (inr (inl e)))) u = apart status 6 e.0 u (λ is. omega (arith, is)) (λ is. omega (arith, is))
+    by_end status course (inr (inr (inr (inr e)))) u = apart status 8 e.0 u (λ is. omega (arith, is)) (λ is. omega (arith, is))
+
+-- a call of the keeper failed
+pub fails_opening : (may : Option KeptTables → Type 0) (left : Option (List ℕ)) (given : Option (List ℤ)) (written : Option (List ℕ)) (old new : Option KeptTables) (before now : ℕ)
+    → Stays old new → Rose before now → RunsLines may (outside left given written old before) (outside left given written new now) 5
+fails_opening may left given written old new before now stays rose = inr (record { unread = refl; unasked = refl; kept = stays; ends = inl (refl, rose, refl) })
+
+-- memory was wanted
+pub wants_opening : (may : Option KeptTables → Type 0) (left : Option (List ℕ)) (given : Option (List ℤ)) (written : Option (List ℕ)) (old new : Option KeptTables) (before now : ℕ)
+    → Stays old new → RunsLines may (outside left given written old before) (outside left given written new now) 6
+wants_opening may left given written old new before now stays = inr (record { unread = refl; unasked = refl; kept = stays; ends = inr (inl (refl, refl)) })
+
+-- the store is damaged
+pub damaged_opening : (may : Option KeptTables → Type 0) (left : Option (List ℕ)) (given : Option (List ℤ)) (written written' : Option (List ℕ)) (old new : Option KeptTables) (before now : ℕ)
+    (damage : Damage) (stop : Stop) → Stays old new → IfSome new (λ tables. IsDamage standard tables damage) → IsDamageTold written written' (damage_text damage) stop
+    → RunsLines may (outside left given written old before) (outside left given written' new now) (stop_status stop)
+damaged_opening may left given written written' old new before now damage stop stays is (inl told) =
+    inr (record {
+      unread = refl;
+      unasked = refl;
+      kept = stays;
+      ends = inr (inr (inr (ap stop_status told.0, told.1, record { damage = damage; is = is; written = told.2 })));
+    })
+damaged_opening may left given written written' old new before now damage stop stays is (inr wanted) =
+    inr (record {
+      unread = refl;
+      unasked = refl;
+      kept = stays;
+      ends = inr (inr (inl (ap stop_status wanted.0, record { damage = damage; is = is; written = wanted.1 })));
+    })
+
+-- it is told whole
+pub damage_whole : (left left' : Option (List ℕ)) (given given' : Option (List ℤ)) (written written' : Option (List ℕ)) (old new : Option KeptTables) (before now : ℕ) (damage : Damage)
+    → IfSome new (λ tables. IsDamage standard tables damage) → Grows written written' (damage_text damage)
+    → TellsDamage {E = Unit {0}} (outside left given written old before) (outside left' given' written' new now) (Ok (tt {0}))
+damage_whole left left' given given' written written' old new before now damage is grows = record { damage = damage; is = is; written = grows }

@@ -1,0 +1,25 @@
+//! What is told of a store that can't be opened.
+ghost use Rattle.std.specs.Prelude.{◌≡◌, ◌⊎◌, ◌×◌, IsErrOf};
+ghost use Rattle.lei_outside.specs.Count.{Rose};
+ghost use Rattle.lei_outside.specs.Faults.{FailsLast};
+ghost use Rattle.leireg_run.specs.Codes.{IsWritten};
+ghost use Rattle.leireg_run.specs.Ends.{damage_text};
+
+use crate::codes::write_pieces;
+use lei_office::Damage;
+use lei_outside::{Sink, SinkFault};
+
+/// Writes the first difference between what a keeper has and what its entries come to, in three lines.
+pub fn write_damage<W: Sink>(damage: &Damage, out: &mut W) -> Result<(), SinkFault>
+    ensures written { IsWritten (W.written out.old) (W.written out.new) (damage_text damage.now) result }
+    ensures kept { ¬ (IsErrOf result SinkFault.Failed) → W.faults out.new ≡ W.faults out.old }
+    ensures failed { IsErrOf result SinkFault.Failed → FailsLast W.written W.faults out.old out.new }
+{
+    let mut number = itoa::Buffer::new();
+    let number = number.format(damage.entry).as_bytes();
+    let (kept, replayed) = (damage.kept.as_slice(), damage.replayed.as_slice());
+    write_pieces(
+        out,
+        &[b"STORE_DAMAGED ", number, b"\nkept ", kept, b"\nreplayed ", replayed, b"\n"],
+    )
+}
