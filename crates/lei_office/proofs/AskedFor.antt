@@ -1,17 +1,15 @@
 -- Stored entries and the requests that they were taken for.
-use Rattle.std.proofs.Common.{◌≡◌, ◌⊎◌, ◌≤◌, inl, inr, nat_lt, ℕ, ◌+◌, ℤ, List, [], ◌∷◌, ◌++◌, length, codes, Bool, true, false, cond, not, ◌&&◌, ◌||◌, ◌==◌, nat_le, is_some, is_none, Option, Some, None, Result, Ok, Err, refl, sym, ap, subst, ◌∙◌, arith}
+use Rattle.std.proofs.Common.{◌≡◌, ◌⊎◌, inl, inr, nat_lt, ℕ, ◌+◌, ℤ, List, [], length, codes, Bool, true, false, cond, ◌&&◌, ◌||◌, ◌==◌, is_none, Option, Some, None, Result, Ok, Err, refl, sym, ap, subst, ◌∙◌, arith}
 use Rattle.std.proofs.lemmas.Bool.Decides.{nat_tests}
 use Rattle.std.proofs.lemmas.Int.{ints}
 use Rattle.lei_code.specs.Code.{IsValid}
-use Rattle.lei_code.specs.Fault.{fault_of}
-use Rattle.lei_code.specs.declared.fault.LeiFault.{LeiFault}
-use Rattle.lei_code.proofs.Faults.{IsValid-from_fault_of, fault_of-IsValid}
+use Rattle.lei_code.proofs.Faults.{fault_of-IsValid}
 use Rattle.lei_shapes.specs.Moment.{IsMoment, is_moment}
 use Rattle.lei_outside.specs.declared.entry.KeptEntry.{KeptEntry}
 use Rattle.upload_format.specs.Bodies.{upload}
 use Rattle.upload_format.specs.declared.fault.Malformed.{Malformed}
 use Rattle.lei_records.specs.declared.item.RawItem.{RawItem}
-use Rattle.upload_ledger.specs.History.{History, accredited, ahead, fresh, kept, number_taken, Place, place, repeat_of, stamp, unknown_issuer}
+use Rattle.upload_ledger.specs.History.{History, accredited, ahead, fresh, number_taken, Place, place, repeat_of, stamp, unknown_issuer}
 use Rattle.lei_office.specs.declared.limits.Limits.{Limits}
 use Rattle.register_table.specs.Undos.{WriteList}
 use Rattle.lei_office.specs.Deciding.{Decides}
@@ -20,12 +18,11 @@ use Rattle.lei_office.specs.declared.deciding.Decision.TheVariants.{Adds}
 use Rattle.lei_office.specs.Damage.{accreditation_in, asked_by, entry_line, is_lei, is_number, outcome_text, replayed, request_in, request_text, upload_in}
 use Rattle.lei_office.specs.declared.reply.Reply.{Reply}
 use Rattle.lei_office.specs.declared.reply.Reply.TheVariants.{Words}
-use Rattle.lei_office.specs.declared.reply.Refusal.TheVariants.{IssuerUnknown, LedgerFull, TooLong}
+use Rattle.lei_office.specs.declared.reply.Refusal.TheVariants.{LedgerFull, TooLong}
 use Rattle.lei_office.specs.declared.request.Call.{Call}
 use Rattle.lei_office.specs.declared.request.Request.{Request}
-use Rattle.lei_office.specs.declared.request.Request.TheVariants.{Accredit, Kept, Show, Status, Upload}
+use Rattle.lei_office.specs.declared.request.Request.TheVariants.{Accredit, Upload}
 use Rattle.lei_office.specs.Legal.{IsNext, IsRequest, IsUploadNumber, request_of}
-use Rattle.lei_office.specs.Limits.{number_limit}
 use Rattle.lei_office.specs.Replies.{Outcome, accredit_outcome, accreditation, adds, body_outcome, is_full, is_too_much, outcome, outcome_at, place_outcome, stays, taken_upload, upload_outcome}
 use Rattle.lei_office.specs.State.{OfficeState, office_of}
 use Rattle.lei_office.specs.Words.{reply_words}

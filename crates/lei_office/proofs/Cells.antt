@@ -1,5 +1,5 @@
 -- The cells of a register in their places, as a keeper has them.
-use Rattle.std.proofs.Common.{◌≡◌, ℕ, ◌<◌, ◌≤◌, ◌+◌, ◌*◌, ◌&&◌, nat_le, nat_lt, Bool, true, false, cond, List, [], ◌∷◌, ◌++◌, filter, map, Option, Some, None, option_map, refl, sym, ap, subst, ◌∙◌, T, arith}
+use Rattle.std.proofs.Common.{◌≡◌, ℕ, ◌≤◌, ◌&&◌, nat_le, nat_lt, Bool, true, false, cond, List, [], ◌∷◌, filter, map, Option, Some, None, option_map, refl, sym, ap, subst, ◌∙◌, T, arith}
 use Rattle.std.proofs.lemmas.Cmp.{nat_list_cmp_total}
 use Rattle.std.specs.Cmp.Lexicographic.{slice_cmp}
 use Rattle.std.specs.FinMap.{entries, entries_sorted, get, get-entries, nat_cmp-IsAntisymmetric, slice_cmp-IsAntisymmetric}
@@ -8,9 +8,9 @@ use Rattle.std.specs.List.{AllByRecursion}
 use Rattle.std.specs.Ordering.{eq_by_cmp, is_eq, is_lt, nat_cmp}
 use Rattle.authority_rules.proofs.HolderLemmas.{same_key, some_apart}
 use Rattle.authority_rules.proofs.KeyLemmas.{key_itself}
-use Rattle.lei_outside.specs.Keeping.{CellContent, CellPlace, Cells, KeptTables, cell_at, cells_between}
+use Rattle.lei_outside.specs.Keeping.{CellContent, CellPlace, Cells, KeptTables, cell_at}
 use Rattle.lei_outside.specs.declared.keeper.KeptCell.{KeptCell}
-use Rattle.lei_outside.proofs.CellLemmas.{itself, tied}
+use Rattle.lei_outside.proofs.CellLemmas.{tied}
 use Rattle.lei_records.specs.declared.view.RowKey.{RowKey}
 use Rattle.lei_records.specs.Tables.{KeyTexts, key_cmp}
 use Rattle.copy_forms.specs.Json.{json_record}
@@ -18,7 +18,7 @@ use Rattle.copy_csv.specs.Sheets.{row_of}
 use Rattle.register_table.specs.Held.{Cell, Held, cell_key}
 use Rattle.register_table.specs.declared.touched.Touched.{Touched}
 use Rattle.register_table.specs.Cells.{IsItemOf}
-use Rattle.register_table.specs.Touched.{is_touched, shown, touched}
+use Rattle.register_table.specs.Touched.{is_touched, shown}
 use Rattle.register_table.specs.Undos.{cell_of}
 use Rattle.lei_office.specs.Damage.{kept_of, kept_page, kind_in, made_page, sheet_at}
 use Rattle.lei_office.specs.Kept.{AreCellsOf, IsKey, content, kept_cell, kind_of, name_of, place_in}

@@ -1,12 +1,12 @@
 -- Pages of cells that are compared, over a keeper that may tell its tables.
-use Rattle.std.proofs.Common.{◌≡◌, ℕ, ◌<◌, ◌≤◌, ◌+◌, ◌*◌, Bool, true, false, nat_lt, List, Option, Some, None, refl, sym, ap, subst, ◌∙◌, arith}
+use Rattle.std.proofs.Common.{◌≡◌, ℕ, ◌≤◌, ◌+◌, ◌*◌, Bool, true, false, nat_lt, List, Option, Some, None, refl, sym, subst, ◌∙◌, arith}
 use Rattle.std.proofs.lemmas.Bool.{ltb-false, ltb-true}
 use Rattle.std.specs.Prelude.{IfSome}
-use Rattle.lei_outside.specs.Keeping.{AreKept, Becomes, KeptTables, LeavesNoMore, Stays, cells_between}
+use Rattle.lei_outside.specs.Keeping.{AreKept, KeptTables, LeavesNoMore, Stays, cells_between}
 use Rattle.lei_outside.specs.declared.keeper.KeptCell.{KeptCell}
 use Rattle.register_table.specs.Held.{Held}
 use Rattle.lei_office.specs.declared.damage.Damage.{Damage}
-use Rattle.lei_office.specs.Damage.{DifferFirst, IsCellDamage, kept_page, made_page, page_bounds}
+use Rattle.lei_office.specs.Damage.{IsCellDamage, kept_page, made_page, page_bounds}
 use Rattle.lei_office.specs.Kept.{AreCellsOf}
 use Rattle.lei_office.specs.Opening.{AllStand, Compares}
 use Rattle.lei_office.proofs.Pages.{PagesAgree, pages-cells}

@@ -1,11 +1,11 @@
 -- What has damage isn't what a history leaves.
-use Rattle.std.proofs.Common.{◌≡◌, ℕ, List, [], ◌∷◌, ◌++◌, length, sym, ap, subst, ◌∙◌, inl, inr}
+use Rattle.std.proofs.Common.{◌≡◌, List, [], ◌∷◌, ◌++◌, length, sym, subst, ◌∙◌, inl, inr}
 use Rattle.lei_outside.specs.Keeping.{KeptTables}
 use Rattle.lei_outside.specs.declared.keeper.KeptCell.{KeptCell}
 use Rattle.upload_ledger.specs.History.{History}
 use Rattle.lei_office.specs.declared.damage.Damage.{Damage}
 use Rattle.lei_office.specs.declared.limits.Limits.{Limits}
-use Rattle.lei_office.specs.Damage.{AreOfHistory, CellDiffers, DamageExcludes, DifferFirst, IsEntryDamage, kept_page, made_page, page_bounds}
+use Rattle.lei_office.specs.Damage.{CellDiffers, DamageExcludes, DifferFirst, IsEntryDamage, kept_page, made_page, page_bounds}
 use Rattle.lei_office.specs.Legal.{Legal, LegalAfter}
 use Rattle.lei_office.specs.Register.{held_after}
 use Rattle.lei_office.specs.State.{office_of}

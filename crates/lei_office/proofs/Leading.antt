@@ -1,6 +1,6 @@
 -- Stored entries that are read page by page.
-use Rattle.std.proofs.Common.{◌≡◌, ◌⊎◌, ℕ, ◌<◌, ◌≤◌, ◌+◌, ◌-◌, ◌&&◌, nat_le, nat_lt, Bool, true, false, cond, List, [], ◌∷◌, ◌++◌, length, filter, Option, Some, None, refl, sym, ap, subst, ◌∙◌, arith, inl, inr, append-nil, append_assoc, length-append, slice_get, zero, suc, get_or, take, drop, drop-cons, take-append-drop, add-one}
-use Rattle.std.specs.Prelude.{IfSome, ◌≢◌}
+use Rattle.std.proofs.Common.{◌≡◌, ℕ, ◌<◌, ◌≤◌, ◌+◌, ◌-◌, ◌&&◌, nat_le, nat_lt, Bool, true, false, cond, [], ◌∷◌, ◌++◌, length, filter, refl, sym, ap, subst, ◌∙◌, arith, inr, append-nil, append_assoc, length-append, slice_get, zero, suc, get_or, take, drop, drop-cons, take-append-drop, add-one}
+use Rattle.std.specs.Prelude.{◌≢◌}
 use Rattle.std.proofs.lemmas.Bool.{leb-false, leb-true, ltb-true}
 use Rattle.std.proofs.lemmas.Bool.Decides.{nat_tests}
 use Rattle.lei_outside.specs.Keeping.{AreKept, KeptTables, RiseFrom, entries_between, last_number, number_of}

@@ -1,15 +1,14 @@
 -- Pages of entries that are replayed, over a keeper that may tell its tables.
-use Rattle.std.proofs.Common.{◌≡◌, ℕ, ◌<◌, ◌≤◌, ◌&&◌, nat_le, nat_lt, Bool, true, false, cond, filter, List, [], ◌∷◌, ◌++◌, length, arith, Option, Some, None, refl, sym, ap, subst, ◌∙◌}
+use Rattle.std.proofs.Common.{◌≡◌, ℕ, ◌≤◌, ◌&&◌, nat_le, nat_lt, true, false, cond, filter, [], ◌∷◌, ◌++◌, arith, Option, Some, None, refl, sym, ap, subst, ◌∙◌}
 use Rattle.std.specs.Prelude.{IfSome}
 use Rattle.std.proofs.lemmas.Bool.Decides.{nat_tests}
-use Rattle.lei_outside.specs.Keeping.{AreKept, KeptTables, RiseFrom, Stays, entries_between, last_number}
-use Rattle.lei_outside.specs.declared.entry.KeptEntry.{KeptEntry}
+use Rattle.lei_outside.specs.Keeping.{AreKept, KeptTables, RiseFrom, entries_between, last_number}
 use Rattle.upload_ledger.specs.History.{History}
 use Rattle.lei_office.specs.declared.damage.Damage.{Damage}
 use Rattle.lei_office.specs.declared.limits.Limits.{Limits}
 use Rattle.lei_office.specs.Damage.{IsEntryDamage}
 use Rattle.lei_office.specs.Opening.{IsPageDamage}
-use Rattle.lei_office.proofs.ComparedPages.{both-told, stays-told}
+use Rattle.lei_office.proofs.ComparedPages.{both-told}
 use Rattle.lei_office.proofs.Leading.{all-entries, page-behind, page-damage}
 
 -- the tables are kept, their last number is this, and these are their entries up to a number

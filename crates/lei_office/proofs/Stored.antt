@@ -1,5 +1,5 @@
 -- The cells of a register stand under keys of rows, and were touched by its entries.
-use Rattle.std.proofs.Common.{◌≡◌, ℕ, ◌≤◌, ◌+◌, ℤ, List, [], ◌∷◌, ◌++◌, fold, length, Bool, true, false, cond, ◌==◌, Option, Some, None, refl, sym, ap, subst, ◌∙◌, arith, append-nil, append_assoc, length-append}
+use Rattle.std.proofs.Common.{◌≡◌, ℕ, ◌≤◌, ◌+◌, ℤ, List, [], ◌∷◌, ◌++◌, fold, length, true, false, cond, ◌==◌, Option, Some, None, refl, sym, ap, subst, ◌∙◌, arith, append-nil, append_assoc, length-append}
 use Rattle.std.specs.FinMap.{empty, get, get-empty, get-insert}
 use Rattle.std.specs.List.{AllByRecursion}
 use Rattle.std.specs.Ordering.{eq_by_cmp}
@@ -7,12 +7,12 @@ use Rattle.authority_rules.proofs.HolderLemmas.{keys_total, same_key, some_apart
 use Rattle.lei_outside.specs.declared.entry.KeptEntry.{KeptEntry}
 use Rattle.lei_shapes.specs.Moment.{day_of}
 use Rattle.lei_records.specs.Checks.{FailedCheck, first_failing}
-use Rattle.lei_records.specs.Tables.{KeyTexts, Table, key_cmp, put_all, put_write, row_key}
+use Rattle.lei_records.specs.Tables.{Table, key_cmp, put_all, put_write, row_key}
 use Rattle.lei_records.specs.declared.item.Item.{Item}
 use Rattle.lei_records.specs.declared.item.Readied.{Readied}
 use Rattle.lei_records.specs.declared.view.RowKey.{RowKey}
 use Rattle.register_judge.specs.Taking.{HasRow, HaveRows, Taken, in_front, is_new, item_checks, take, verdict_of, writes_of, written}
-use Rattle.register_table.specs.Held.{Cell, Held, cell_key, rows}
+use Rattle.register_table.specs.Held.{Held, cell_key, rows}
 use Rattle.register_table.specs.Undos.{WriteList, cell_of, touch, touch_all}
 use Rattle.upload_format.specs.Bodies.{upload}
 use Rattle.upload_ledger.specs.History.{History}

@@ -21,9 +21,9 @@ abbrev pub meant_with : Text → Text → Option Meant
 meant_with word text = if bytes_eq word (codes "check") then Some (to_check text)
     else (if bytes_eq word (codes "digits") then Some (to_make_digits text) else None)
 
--- Three words: `lines`, `--store` and the path of a store, the empty one too.
-abbrev pub meant_over : Text → Text → Text → Option Meant
-meant_over word option path = if bytes_eq word (codes "lines") && bytes_eq option (codes "--store")
+-- Three words: `lines`, `--store` and the path of a store, which may be any text, the empty one too.
+abbrev pub meant_over : Text → Text → Option Meant
+meant_over word option = if bytes_eq word (codes "lines") && bytes_eq option (codes "--store")
     then Some to_answer_lines else None
 
 -- What the words ask for, and nothing where they are no command.
@@ -31,7 +31,7 @@ abbrev pub meant : List Text → Option Meant
 meant [] = None
 meant (word ∷ []) = meant_alone word
 meant (word ∷ text ∷ []) = meant_with word text
-meant (word ∷ option ∷ path ∷ []) = meant_over word option path
+meant (word ∷ option ∷ path ∷ []) = meant_over word option
 meant (word ∷ option ∷ path ∷ other ∷ others) = None
 
 -- The path of the store that the words name, and none where they are no command over a store.
@@ -39,7 +39,7 @@ abbrev pub store_path : List Text → Option Text
 store_path [] = None
 store_path (word ∷ []) = None
 store_path (word ∷ option ∷ []) = None
-store_path (word ∷ option ∷ path ∷ []) = if is_some (meant_over word option path) then Some path else None
+store_path (word ∷ option ∷ path ∷ []) = if is_some (meant_over word option) then Some path else None
 store_path (word ∷ option ∷ path ∷ other ∷ others) = None
 
 -- The words of a command line mean this.

@@ -1,7 +1,6 @@
 //! What the words behind the program's name ask for.
 ghost use Rattle.std.specs.Prelude.{◌≡◌, map, option_map, string_bytes};
 ghost use Rattle.leireg_run.specs.Words.{meant, meant_alone, meant_over, meant_with, meaning, store_path};
-ghost use Rattle.lei_code.specs.Texts.{Text};
 
 /// A command of the program, with its text. This project's profile.
 #[derive(Clone, Copy)]
@@ -50,7 +49,7 @@ fn command_alone(word: &str) -> Option<Command<'_>>
 }
 
 fn command_over<'a>(word: &str, option: &str) -> Option<Command<'a>>
-    ensures { (path : Text) → option_map meaning result ≡ meant_over word.now option.now path }
+    ensures { option_map meaning result ≡ meant_over word.now option.now }
 {
     if word == "lines" && option == "--store" {
         Some(Command::Lines)

@@ -1,6 +1,5 @@
 //! What is told of a store that can't be opened.
-ghost use Rattle.std.specs.Prelude.{◌≡◌, ◌⊎◌, ◌×◌, IsErrOf};
-ghost use Rattle.lei_outside.specs.Count.{Rose};
+ghost use Rattle.std.specs.Prelude.{◌≡◌, IsErrOf};
 ghost use Rattle.lei_outside.specs.Faults.{FailsLast};
 ghost use Rattle.leireg_run.specs.Codes.{IsWritten};
 ghost use Rattle.leireg_run.specs.Ends.{damage_text};

@@ -151,8 +151,9 @@ fn tell_damage<W: Sink>(damage: &Damage, out: &mut W) -> Stop
     ensures failed { Rose (W.faults out.old) (W.faults out.new) → FailsLast W.written W.faults out.old out.new }
 {
     match write_damage(damage, out) {
+        Ok(()) => Stop::StoreDamaged,
+        Err(SinkFault::Failed) => Stop::StoreDamaged,
         Err(SinkFault::NoMemory) => Stop::NoMemory,
-        Ok(()) | Err(SinkFault::Failed) => Stop::StoreDamaged,
     }
 }
 

@@ -1,4 +1,4 @@
-use Rattle.std.proofs.Common.{◌≡◌, None, ap, of_z, rules, subst, sym, to_z, w64, ◌∙◌}
+use Rattle.std.proofs.Common.{◌≡◌, of_z, rules, subst, sym, to_z, w64, ◌∙◌}
 use Rattle.lei_shapes.specs.Moment.{IsMoment}
 use Rattle.upload_ledger.specs.History.{stamp}
 use Rattle.lei_office.specs.State.{office_of}

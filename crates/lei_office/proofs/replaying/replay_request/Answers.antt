@@ -2,7 +2,6 @@ use Rattle.std.proofs.Common.{◌≡◌, ◌≤◌, ◌++◌, ◌∷◌, [], ap,
 use mathlib.Core.Bool.{true≢false}
 use Rattle.register_table.specs.Held.{rows}
 use Rattle.register_table.specs.Undos.{IsLater}
-use Rattle.upload_ledger.specs.History.{stamp}
 use Rattle.lei_office.specs.Register.{IsKeptAfter, after, entry_writes}
 use Rattle.lei_office.specs.Replies.{outcome_at}
 use Rattle.lei_office.specs.State.{office_of}
