@@ -1,0 +1,217 @@
+// Entries and cells as rows of the tables, and back.
+ghost use Rattle.std.specs.Prelude.{◌≡◌, ◌≢◌, ◌<◌, ◌≤◌, ◌^◌, ℕ, ℤ, pos, List, [], ◌∷◌, length, map, Any, IfOk, IsErrOf};
+ghost use Rattle.sqlite_value.specs.declared.value.Value.TheVariants.{Null, Int, Text, Blob};
+ghost use Rattle.sqlite_value.specs.Order.{column};
+ghost use Rattle.sqlite_value.specs.Value.{owned};
+ghost use Rattle.sqlite.specs.Values.{or_null};
+ghost use Rattle.keeper_sqlite.specs.Rows.{IsCellRow, IsEntryRow, cell_row, entry_row};
+
+use crate::faults::fault_of;
+use lei_outside::{Bytes, KeepFault, KeptCell, KeptEntry, List};
+use sqlite::Row;
+use sqlite::types::ValueRef;
+use std::alloc::Global;
+
+// The values of an entry, for a statement.
+pub fn entry_values<'a>(entry: &'a KeptEntry) -> [ValueRef<'a>; 8]
+    requires { entry.now.seq ≤ 9223372036854775807 }
+    ensures { map owned result ≡ entry_row entry.now }
+{
+    [
+        ValueRef::Int(entry.seq as i64),
+        ValueRef::Int(i64::from(entry.kind)),
+        ValueRef::Text(entry.office.as_slice()),
+        ValueRef::Int(i64::from(entry.number)),
+        ValueRef::Int(entry.moment),
+        ValueRef::Int(i64::from(entry.rules)),
+        ValueRef::Blob(entry.body.as_slice()),
+        ValueRef::Blob(entry.answer.as_slice()),
+    ]
+}
+
+// The values of a cell, for a statement.
+pub fn cell_values<'a>(cell: &'a KeptCell) -> [ValueRef<'a>; 4]
+    requires { cell.now.touched ≤ 9223372036854775807 }
+    ensures { map owned result ≡ cell_row cell.now }
+{
+    [
+        ValueRef::Int(i64::from(cell.kind)),
+        ValueRef::Text(cell.name.as_slice()),
+        ValueRef::Int(cell.touched as i64),
+        row_value(&cell.row),
+    ]
+}
+
+fn row_value<'a>(row: &'a Option<Bytes>) -> ValueRef<'a>
+    ensures { owned result ≡ or_null Blob row.now }
+{
+    match row {
+        Some(row) => ValueRef::Blob(row.as_slice()),
+        None => ValueRef::Null,
+    }
+}
+
+// The entry that a row has. A row that has none, as where a kind is above 255 or a number is negative, is a failure.
+pub fn entry_of(alloc: Global, row: &Row) -> Result<KeptEntry, KeepFault>
+    ensures ok { IfOk result (λ e. row.now ≡ entry_row e) }
+    ensures err { IsErrOf result KeepFault.Failed → ¬ (IsEntryRow row.now) }
+{
+    if row.column_count() != 8 {
+        return Err(KeepFault::Failed);
+    }
+    Ok(KeptEntry {
+        seq: u64_at(row, 0)?,
+        kind: u8_at(row, 1)?,
+        office: text_at(alloc, row, 2)?,
+        number: u32_at(row, 3)?,
+        moment: i64_at(row, 4)?,
+        rules: u16_at(row, 5)?,
+        body: blob_at(alloc, row, 6)?,
+        answer: blob_at(alloc, row, 7)?,
+    })
+}
+
+// The cell that a row has. A row that has none is a failure.
+pub fn cell_of(alloc: Global, row: &Row) -> Result<KeptCell, KeepFault>
+    ensures ok { IfOk result (λ c. row.now ≡ cell_row c) }
+    ensures err { IsErrOf result KeepFault.Failed → ¬ (IsCellRow row.now) }
+{
+    if row.column_count() != 4 {
+        return Err(KeepFault::Failed);
+    }
+    Ok(KeptCell {
+        kind: u8_at(row, 0)?,
+        name: text_at(alloc, row, 1)?,
+        touched: u64_at(row, 2)?,
+        row: blob_or_null_at(alloc, row, 3)?,
+    })
+}
+
+// The entries that rows have, or a failure where one has none.
+pub fn entries_of(alloc: Global, rows: &[Row]) -> Result<List<KeptEntry>, KeepFault>
+    ensures ok { IfOk result (λ list. rows.now ≡ map entry_row list) }
+    ensures err { IsErrOf result KeepFault.Failed → Any (λ row. ¬ (IsEntryRow row)) rows.now }
+{
+    let mut list = Vec::with_capacity(alloc, rows.len())?;
+    for row in rows {
+        list.push(entry_of(alloc, row)?)?;
+    }
+    Ok(List::from(list))
+}
+
+// The cells that rows have, or a failure where one has none.
+pub fn cells_of(alloc: Global, rows: &[Row]) -> Result<List<KeptCell>, KeepFault>
+    ensures ok { IfOk result (λ list. rows.now ≡ map cell_row list) }
+    ensures err { IsErrOf result KeepFault.Failed → Any (λ row. ¬ (IsCellRow row)) rows.now }
+{
+    let mut list = Vec::with_capacity(alloc, rows.len())?;
+    for row in rows {
+        list.push(cell_of(alloc, row)?)?;
+    }
+    Ok(List::from(list))
+}
+
+// The number that a row of one column has.
+pub fn number_of(row: &Row) -> Result<u64, KeepFault>
+    ensures ok { IfOk result (λ n. row.now ≡ Int (pos n) ∷ []) }
+    ensures err { IsErrOf result KeepFault.Failed → (n : ℕ) → row.now ≢ Int (pos n) ∷ [] }
+{
+    if row.column_count() != 1 {
+        return Err(KeepFault::Failed);
+    }
+    u64_at(row, 0)
+}
+
+// The number in a column, where it isn't negative.
+fn u64_at(row: &Row, at: usize) -> Result<u64, KeepFault>
+    requires { at < length row.now }
+    ensures ok { IfOk result (λ n. column row.now at ≡ Int (pos n)) }
+    ensures err { IsErrOf result KeepFault.Failed → (n : ℕ) → column row.now at ≢ Int (pos n) }
+{
+    match row.get(at) {
+        Ok(number) => Ok(number),
+        Err(error) => Err(fault_of(error)),
+    }
+}
+
+fn u32_at(row: &Row, at: usize) -> Result<u32, KeepFault>
+    requires { at < length row.now }
+    ensures ok { IfOk result (λ n. column row.now at ≡ Int (pos n)) }
+    ensures err { IsErrOf result KeepFault.Failed → (n : ℕ) → n < 2 ^ 32 → column row.now at ≢ Int (pos n) }
+{
+    match u32::try_from(u64_at(row, at)?) {
+        Ok(number) => Ok(number),
+        Err(_) => Err(KeepFault::Failed),
+    }
+}
+
+fn u16_at(row: &Row, at: usize) -> Result<u16, KeepFault>
+    requires { at < length row.now }
+    ensures ok { IfOk result (λ n. column row.now at ≡ Int (pos n)) }
+    ensures err { IsErrOf result KeepFault.Failed → (n : ℕ) → n < 2 ^ 16 → column row.now at ≢ Int (pos n) }
+{
+    match u16::try_from(u64_at(row, at)?) {
+        Ok(number) => Ok(number),
+        Err(_) => Err(KeepFault::Failed),
+    }
+}
+
+fn u8_at(row: &Row, at: usize) -> Result<u8, KeepFault>
+    requires { at < length row.now }
+    ensures ok { IfOk result (λ n. column row.now at ≡ Int (pos n)) }
+    ensures err { IsErrOf result KeepFault.Failed → (n : ℕ) → n < 2 ^ 8 → column row.now at ≢ Int (pos n) }
+{
+    match u8::try_from(u64_at(row, at)?) {
+        Ok(number) => Ok(number),
+        Err(_) => Err(KeepFault::Failed),
+    }
+}
+
+// The number in a column, of either sign.
+fn i64_at(row: &Row, at: usize) -> Result<i64, KeepFault>
+    requires { at < length row.now }
+    ensures ok { IfOk result (λ n. column row.now at ≡ Int n) }
+    ensures err { IsErrOf result KeepFault.Failed → (n : ℤ) → column row.now at ≢ Int n }
+{
+    match row.get(at) {
+        Ok(number) => Ok(number),
+        Err(error) => Err(fault_of(error)),
+    }
+}
+
+// The bytes of the text in a column.
+fn text_at(alloc: Global, row: &Row, at: usize) -> Result<Bytes, KeepFault>
+    requires { at < length row.now }
+    ensures ok { IfOk result (λ bytes. column row.now at ≡ Text bytes) }
+    ensures err { IsErrOf result KeepFault.Failed → (bytes : List ℕ) → column row.now at ≢ Text bytes }
+{
+    match row.get_ref(at) {
+        Ok(ValueRef::Text(bytes)) => Ok(Bytes::copy_of(alloc, bytes)?),
+        _ => Err(KeepFault::Failed),
+    }
+}
+
+// The blob in a column.
+fn blob_at(alloc: Global, row: &Row, at: usize) -> Result<Bytes, KeepFault>
+    requires { at < length row.now }
+    ensures ok { IfOk result (λ bytes. column row.now at ≡ Blob bytes) }
+    ensures err { IsErrOf result KeepFault.Failed → (bytes : List ℕ) → column row.now at ≢ Blob bytes }
+{
+    match row.get_ref(at) {
+        Ok(ValueRef::Blob(bytes)) => Ok(Bytes::copy_of(alloc, bytes)?),
+        _ => Err(KeepFault::Failed),
+    }
+}
+
+// The blob in a column, or none where it has NULL.
+fn blob_or_null_at(alloc: Global, row: &Row, at: usize) -> Result<Option<Bytes>, KeepFault>
+    requires { at < length row.now }
+    ensures ok { IfOk result (λ bytes. column row.now at ≡ or_null Blob bytes) }
+    ensures err { IsErrOf result KeepFault.Failed → (column row.now at ≢ Null) × ((bytes : List ℕ) → column row.now at ≢ Blob bytes) }
+{
+    match row.get_ref(at) {
+        Ok(ValueRef::Null) => Ok(None),
+        Ok(ValueRef::Blob(bytes)) => Ok(Some(Bytes::copy_of(alloc, bytes)?)),
+        _ => Err(KeepFault::Failed),
+    }
+}
