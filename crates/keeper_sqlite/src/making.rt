@@ -2,13 +2,27 @@
 use sqlite::{Alter, Connection, Error};
 
 // An entry a row, by its number.
-const MAKE_ENTRIES: &'static str =
-    "CREATE TABLE IF NOT EXISTS entry (seq INTEGER PRIMARY KEY CHECK (seq >= 1), kind INTEGER NOT NULL, office TEXT NOT NULL, number INTEGER NOT NULL, moment INTEGER NOT NULL, rules INTEGER NOT NULL, body BLOB NOT NULL, answer BLOB NOT NULL) STRICT";
+const MAKE_ENTRIES: &'static str = "CREATE TABLE IF NOT EXISTS entry (
+  seq INTEGER PRIMARY KEY CHECK (seq >= 1),
+  kind INTEGER NOT NULL,
+  office TEXT NOT NULL,
+  number INTEGER NOT NULL,
+  moment INTEGER NOT NULL,
+  rules INTEGER NOT NULL,
+  body BLOB NOT NULL,
+  answer BLOB NOT NULL
+) STRICT";
 
 // A cell a row, by its kind and its name, and beside that in the order of the entries that touched them last, so that the
 // cells of a few entries are found without looking at all.
-const MAKE_CELLS: &'static str =
-    "CREATE TABLE IF NOT EXISTS cell (kind INTEGER NOT NULL, name TEXT NOT NULL, touched INTEGER NOT NULL CHECK (touched >= 1), row BLOB, PRIMARY KEY (kind, name), UNIQUE (touched, kind, name)) STRICT";
+const MAKE_CELLS: &'static str = "CREATE TABLE IF NOT EXISTS cell (
+  kind INTEGER NOT NULL,
+  name TEXT NOT NULL,
+  touched INTEGER NOT NULL CHECK (touched >= 1),
+  row BLOB,
+  PRIMARY KEY (kind, name),
+  UNIQUE (touched, kind, name)
+) STRICT";
 
 // Makes the table of entries.
 pub fn make_entries<S: Alter>(conn: &mut Connection<S>) -> Result<usize, Error> {

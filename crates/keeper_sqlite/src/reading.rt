@@ -11,11 +11,11 @@ const GREATEST: u64 = 9_223_372_036_854_775_807;
 
 const LAST: &'static str = "SELECT seq FROM entry ORDER BY seq DESC LIMIT 1";
 
-const ENTRIES: &'static str =
-    "SELECT seq, kind, office, number, moment, rules, body, answer FROM entry WHERE seq > ?1 AND seq <= ?2 ORDER BY seq";
+const ENTRIES: &'static str = "SELECT seq, kind, office, number, moment, rules, body, answer
+FROM entry WHERE seq > ?1 AND seq <= ?2 ORDER BY seq";
 
-const CELLS: &'static str =
-    "SELECT kind, name, touched, row FROM cell WHERE touched > ?1 AND touched <= ?2 ORDER BY kind, name";
+const CELLS: &'static str = "SELECT kind, name, touched, row
+FROM cell WHERE touched > ?1 AND touched <= ?2 ORDER BY kind, name";
 
 // The row of the greatest number of an entry, or none where there is no entry.
 pub fn last_rows<S: Alter>(conn: &mut Connection<S>) -> Result<Vec<Row>, Error> {

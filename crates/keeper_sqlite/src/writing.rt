@@ -7,10 +7,11 @@ use lei_outside::{Batch, KeptCell, KeptEntry};
 use sqlite::{Alter, Connection, Error, ErrorCode, Transaction};
 
 const INSERT: &'static str =
-    "INSERT INTO entry (seq, kind, office, number, moment, rules, body, answer) VALUES (?1, ?2, ?3, ?4, ?5, ?6, ?7, ?8)";
+    "INSERT INTO entry (seq, kind, office, number, moment, rules, body, answer)
+VALUES (?1, ?2, ?3, ?4, ?5, ?6, ?7, ?8)";
 
-const PUT: &'static str =
-    "INSERT INTO cell (kind, name, touched, row) VALUES (?1, ?2, ?3, ?4) ON CONFLICT (kind, name) DO UPDATE SET touched = excluded.touched, row = excluded.row";
+const PUT: &'static str = "INSERT INTO cell (kind, name, touched, row) VALUES (?1, ?2, ?3, ?4)
+ON CONFLICT (kind, name) DO UPDATE SET touched = excluded.touched, row = excluded.row";
 
 // Puts an entry behind the others. It is refused where one with its number is there.
 pub fn insert_entry<S: Alter>(
