@@ -1,4 +1,9 @@
 // The tables, where they aren't there yet.
+ghost use Rattle.std.specs.Prelude.{[]};
+ghost use Rattle.sqlite.specs.Held.{state};
+ghost use Rattle.sqlite.specs.State.{Executes, HasCleanDisk};
+ghost use Rattle.keeper_sqlite.specs.Statements.{cell_table_text, entry_table_text};
+
 use sqlite::{Alter, Connection, Error};
 
 // An entry a row, by its number.
@@ -25,12 +30,18 @@ const MAKE_CELLS: &'static str = "CREATE TABLE IF NOT EXISTS cell (
 ) STRICT";
 
 // Makes the table of entries.
-pub fn make_entries<S: Alter>(conn: &mut Connection<S>) -> Result<usize, Error> {
+pub fn make_entries<S: Alter>(conn: &mut Connection<S>) -> Result<usize, Error>
+    ensures { HasCleanDisk (state S.Store conn.new)
+        → Executes entry_table_text [] (state S.Store conn.old) (state S.Store conn.new) result }
+{
     conn.execute(MAKE_ENTRIES, &[])
 }
 
 // Makes the table of cells.
-pub fn make_cells<S: Alter>(conn: &mut Connection<S>) -> Result<usize, Error> {
+pub fn make_cells<S: Alter>(conn: &mut Connection<S>) -> Result<usize, Error>
+    ensures { HasCleanDisk (state S.Store conn.new)
+        → Executes cell_table_text [] (state S.Store conn.old) (state S.Store conn.new) result }
+{
     conn.execute(MAKE_CELLS, &[])
 }
 

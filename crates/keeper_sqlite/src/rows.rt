@@ -3,7 +3,7 @@ ghost use Rattle.std.specs.Prelude.{◌≡◌, ◌≢◌, ◌<◌, ◌≤◌, �
 ghost use Rattle.sqlite_value.specs.declared.value.Value.TheVariants.{Null, Int, Text, Blob};
 ghost use Rattle.sqlite_value.specs.Order.{column};
 ghost use Rattle.sqlite_value.specs.Value.{owned};
-ghost use Rattle.sqlite.specs.Values.{or_null};
+ghost use Rattle.sqlite.specs.Values.{bound, bound_value, or_null};
 ghost use Rattle.keeper_sqlite.specs.Rows.{IsCellRow, IsEntryRow, cell_row, entry_row};
 
 use crate::faults::fault_of;
@@ -15,7 +15,7 @@ use std::alloc::Global;
 // The values of an entry, for a statement.
 pub fn entry_values<'a>(entry: &'a KeptEntry) -> [ValueRef<'a>; 8]
     requires { entry.now.seq ≤ 9223372036854775807 }
-    ensures { map owned result ≡ entry_row entry.now }
+    ensures { bound result ≡ entry_row entry.now }
 {
     [
         ValueRef::Int(entry.seq as i64),
@@ -32,7 +32,7 @@ pub fn entry_values<'a>(entry: &'a KeptEntry) -> [ValueRef<'a>; 8]
 // The values of a cell, for a statement.
 pub fn cell_values<'a>(cell: &'a KeptCell) -> [ValueRef<'a>; 4]
     requires { cell.now.touched ≤ 9223372036854775807 }
-    ensures { map owned result ≡ cell_row cell.now }
+    ensures { bound result ≡ cell_row cell.now }
 {
     [
         ValueRef::Int(i64::from(cell.kind)),
@@ -43,7 +43,7 @@ pub fn cell_values<'a>(cell: &'a KeptCell) -> [ValueRef<'a>; 4]
 }
 
 fn row_value<'a>(row: &'a Option<Bytes>) -> ValueRef<'a>
-    ensures { owned result ≡ or_null Blob row.now }
+    ensures { bound_value (owned result) ≡ or_null Blob row.now }
 {
     match row {
         Some(row) => ValueRef::Blob(row.as_slice()),

@@ -1,6 +1,10 @@
 // What is written into the tables, inside a transaction.
-ghost use Rattle.std.specs.Prelude.{◌≤◌};
+ghost use Rattle.std.specs.Prelude.{◌≤◌, IsTrue};
+ghost use Rattle.sqlite.specs.Held.{state};
+ghost use Rattle.sqlite.specs.State.{ExecutesInside, HasCleanDisk};
 ghost use Rattle.lei_outside.specs.Keeping.{IsBatch};
+ghost use Rattle.keeper_sqlite.specs.Rows.{cell_row, entry_row};
+ghost use Rattle.keeper_sqlite.specs.Statements.{insert_text, put_text};
 
 use crate::rows::{cell_values, entry_values};
 use lei_outside::{Batch, KeptCell, KeptEntry};
@@ -19,6 +23,8 @@ pub fn insert_entry<S: Alter>(
     entry: &KeptEntry,
 ) -> Result<usize, Error>
     requires { entry.now.seq ≤ 9223372036854775807 }
+    ensures { HasCleanDisk (state S.Store tx.new.conn.now) → IsTrue (state S.Store tx.old.conn.now).in_transaction
+        → ExecutesInside 0 insert_text (entry_row entry.now) (state S.Store tx.old.conn.now) (state S.Store tx.new.conn.now) result }
 {
     tx.execute(INSERT, &entry_values(entry))
 }
@@ -26,6 +32,8 @@ pub fn insert_entry<S: Alter>(
 // Puts a cell in its place, where another one may stand.
 pub fn put_cell<S: Alter>(tx: &mut Transaction<'_, S>, cell: &KeptCell) -> Result<usize, Error>
     requires { cell.now.touched ≤ 9223372036854775807 }
+    ensures { HasCleanDisk (state S.Store tx.new.conn.now) → IsTrue (state S.Store tx.old.conn.now).in_transaction
+        → ExecutesInside 0 put_text (cell_row cell.now) (state S.Store tx.old.conn.now) (state S.Store tx.new.conn.now) result }
 {
     tx.execute(PUT, &cell_values(cell))
 }

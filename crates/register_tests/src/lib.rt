@@ -13,4 +13,6 @@ mod moments;
 #[cfg(test)]
 mod runs;
 #[cfg(test)]
+mod sqlite_keeper;
+#[cfg(test)]
 mod tables;
