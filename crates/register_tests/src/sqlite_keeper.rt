@@ -77,53 +77,69 @@ fn commit(keeper: &mut FileKeeper, batch: &Batch) -> &'static str {
     }
 }
 
-// What a call answers, in a word.
-fn word<T: Drop>(answer: Result<T, KeepFault>) -> &'static str {
-    match answer {
-        Ok(_) => "answered",
-        Err(KeepFault::Failed) => "failed",
-        Err(KeepFault::NoMemory) => "no memory",
-    }
-}
-
 // The numbers of the entries of a range, each with a mark where the entry isn't the one that was kept.
-fn entries<K: Keeper>(
-    keeper: &mut K,
+fn put_entries(
+    text: &mut String,
+    keeper: &mut FileKeeper,
     alloc: Global,
     after: u64,
     upto: u64,
-) -> Result<String, Fail> {
-    let mut text = String::new(alloc);
+) -> Result<(), Fail> {
     let list = keeper.entries(after, upto)?;
     for told in list.as_slice() {
-        let mark = if *told == entry(alloc, told.seq)? { "" } else { "?" };
+        let mark = if *told == entry(alloc, told.seq)? {
+            ""
+        } else {
+            "?"
+        };
         write!(text, "{}{mark} ", told.seq)?;
     }
-    Ok(text)
-}
-
-fn text_of(bytes: &Bytes) -> &str {
-    std::str::from_utf8(bytes.as_slice()).unwrap_or("?")
+    Ok(())
 }
 
 // The cells of a range, each by its kind, its name, its entry and its row.
-fn cells<K: Keeper>(
-    keeper: &mut K,
-    alloc: Global,
+fn put_cells(
+    text: &mut String,
+    keeper: &mut FileKeeper,
     after: u64,
     upto: u64,
-) -> Result<String, Fail> {
-    let mut text = String::new(alloc);
+) -> Result<(), Fail> {
     let list = keeper.cells(after, upto)?;
     for told in list.as_slice() {
         let row = match &told.row {
             Some(row) => text_of(row),
             None => "-",
         };
-        write!(text, "{} {} {} {row},", told.kind, text_of(&told.name), told.touched)?;
+        write!(
+            text,
+            "{} {} {} {row} ",
+            told.kind,
+            text_of(&told.name),
+            told.touched
+        )?;
     }
+    Ok(())
+}
+
+fn text_of(bytes: &Bytes) -> &str {
+    std::str::from_utf8(bytes.as_slice()).unwrap_or("?")
+}
+
+// The last number, all entries and those of a range, all cells and those of the range, and the count of faults.
+fn told(keeper: &mut FileKeeper, alloc: Global) -> Result<String, Fail> {
+    let mut text = String::new(alloc);
+    write!(text, "{}: ", keeper.last()?)?;
+    put_entries(&mut text, keeper, alloc, 0, u64::MAX)?;
+    text.push_str("of which ")?;
+    put_entries(&mut text, keeper, alloc, 1, 2)?;
+    put_cells(&mut text, keeper, 0, u64::MAX)?;
+    text.push_str("of which ")?;
+    put_cells(&mut text, keeper, 1, 2)?;
+    write!(text, "faults {}", keeper.faults())?;
     Ok(text)
 }
+
+const KEPT: &str = "3: 1 2 3 of which 2 1 A B 3 [1] 1 B 2 - of which 1 B 2 - faults ";
 
 // Keeps three batches, of which the second takes the row of the first one's cell away.
 fn keep_three(keeper: &mut FileKeeper, alloc: Global) -> Result<bool, Fail> {
@@ -133,46 +149,75 @@ fn keep_three(keeper: &mut FileKeeper, alloc: Global) -> Result<bool, Fail> {
     Ok(first && second && third)
 }
 
+// A keeper is let go once in a function: each place where it is costs a proof of its own.
+fn first_session(rt: &HostRuntime) -> Result<bool, Fail> {
+    let mut keeper = SqliteKeeper::on_file(rt, "kept.db");
+    keep_three(&mut keeper, rt.alloc())
+}
+
+fn later_session(rt: &HostRuntime) -> Result<String, Fail> {
+    let mut keeper = SqliteKeeper::on_file(rt, "kept.db");
+    told(&mut keeper, rt.alloc())
+}
+
+// Commits the last entry once more, with another cell.
+fn refused_then_told(keeper: &mut FileKeeper, alloc: Global) -> Result<String, Fail> {
+    let again = batch(alloc, 3, 1, "C", "{}")?;
+    if commit(keeper, &again) != "failed" {
+        return Err(Fail::from("a commit that fails"));
+    }
+    told(keeper, alloc)
+}
+
+fn refused_session(rt: &HostRuntime) -> Result<String, Fail> {
+    let mut keeper = SqliteKeeper::on_file(rt, "kept.db");
+    refused_then_told(&mut keeper, rt.alloc())
+}
+
 #[test]
 fn what_was_kept_is_there_after_opening_again(rt: HostRuntime) -> Result<(), Fail> {
-    let mut keeper = SqliteKeeper::on_file(&rt, "kept.db");
-    assert!(rt; keep_three(&mut keeper, rt.alloc())?);
-    drop(keeper);
-    let mut keeper = SqliteKeeper::on_file(&rt, "kept.db");
-    assert_eq!(rt; keeper.last()?, 3);
-    let all = entries(&mut keeper, rt.alloc(), 0, u64::MAX)?;
-    assert_eq!(rt; all.as_str(), "1 2 3 ");
-    let some = entries(&mut keeper, rt.alloc(), 1, 2)?;
-    assert_eq!(rt; some.as_str(), "2 ");
-    let all = cells(&mut keeper, rt.alloc(), 0, u64::MAX)?;
-    assert_eq!(rt; all.as_str(), "1 A B 3 [1],1 B 2 -,");
-    let some = cells(&mut keeper, rt.alloc(), 1, 2)?;
-    assert_eq!(rt; some.as_str(), "1 B 2 -,");
+    assert!(rt; first_session(&rt)?);
+    let again = later_session(&rt)?;
+    assert_eq!(rt; again.strip_prefix(KEPT), Some("0"));
     Ok(())
 }
 
 #[test]
 fn a_number_that_is_there_is_refused_whole(rt: HostRuntime) -> Result<(), Fail> {
-    let mut keeper = SqliteKeeper::on_file(&rt, "kept.db");
-    assert!(rt; keep_three(&mut keeper, rt.alloc())?);
-    let again = batch(rt.alloc(), 3, 1, "C", "{}")?;
-    assert_eq!(rt; commit(&mut keeper, &again), "failed");
-    assert_eq!(rt; keeper.faults(), 1);
-    let all = entries(&mut keeper, rt.alloc(), 0, u64::MAX)?;
-    assert_eq!(rt; all.as_str(), "1 2 3 ");
-    let all = cells(&mut keeper, rt.alloc(), 0, u64::MAX)?;
-    assert_eq!(rt; all.as_str(), "1 A B 3 [1],1 B 2 -,");
+    assert!(rt; first_session(&rt)?);
+    let refused = refused_session(&rt)?;
+    assert_eq!(rt; refused.strip_prefix(KEPT), Some("1"));
     Ok(())
+}
+
+// How many of the four calls fail.
+fn failing(keeper: &mut FileKeeper, batch: &Batch) -> u64 {
+    let mut count = 0u64;
+    if keeper.last() == Err(KeepFault::Failed) {
+        count = count.saturating_add(1);
+    }
+    if keeper.entries(0, 1) == Err(KeepFault::Failed) {
+        count = count.saturating_add(1);
+    }
+    if keeper.cells(0, 1) == Err(KeepFault::Failed) {
+        count = count.saturating_add(1);
+    }
+    if commit(keeper, batch) == "failed" {
+        count = count.saturating_add(1);
+    }
+    count
+}
+
+// How many calls fail where there is no such folder, and how many were counted.
+fn failing_session(rt: &HostRuntime, batch: &Batch) -> (u64, u64) {
+    let mut keeper = SqliteKeeper::on_file(rt, "no folder/kept.db");
+    let failed = failing(&mut keeper, batch);
+    (failed, keeper.faults())
 }
 
 #[test]
 fn each_call_fails_where_the_file_cannot_be_opened(rt: HostRuntime) -> Result<(), Fail> {
-    let mut keeper = SqliteKeeper::on_file(&rt, "no folder/kept.db");
-    assert_eq!(rt; word(keeper.last()), "failed");
-    assert_eq!(rt; word(keeper.entries(0, 1)), "failed");
-    assert_eq!(rt; word(keeper.cells(0, 1)), "failed");
     let first = batch(rt.alloc(), 1, 1, "A", "{}")?;
-    assert_eq!(rt; commit(&mut keeper, &first), "failed");
-    assert_eq!(rt; keeper.faults(), 4);
+    assert_eq!(rt; failing_session(&rt, &first), (4, 4));
     Ok(())
 }
