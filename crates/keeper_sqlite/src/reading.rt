@@ -37,8 +37,8 @@ pub fn entry_rows<S: Alter>(
 ) -> Result<Vec<Row>, Error>
     ensures { HasCleanDisk (state S.Store conn.new)
         → IfOk result (λ rows. Shown entries_text
-            (Int (pos (min after 9223372036854775807)) ∷ Int (pos (min upto 9223372036854775807)) ∷ [])
-            (state S.Store conn.old) (state S.Store conn.new) rows.items) }
+        (Int (pos (min after 9223372036854775807)) ∷ Int (pos (min upto 9223372036854775807)) ∷ [])
+        (state S.Store conn.old) (state S.Store conn.new) rows.items) }
 {
     conn.query_all(ENTRIES, &[number(after), number(upto)])
 }
@@ -52,8 +52,8 @@ pub fn cell_rows<S: Alter>(
 ) -> Result<Vec<Row>, Error>
     ensures { HasCleanDisk (state S.Store conn.new)
         → IfOk result (λ rows. Shown cells_text
-            (Int (pos (min after 9223372036854775807)) ∷ Int (pos (min upto 9223372036854775807)) ∷ [])
-            (state S.Store conn.old) (state S.Store conn.new) rows.items) }
+        (Int (pos (min after 9223372036854775807)) ∷ Int (pos (min upto 9223372036854775807)) ∷ [])
+        (state S.Store conn.old) (state S.Store conn.new) rows.items) }
 {
     conn.query_all(CELLS, &[number(after), number(upto)])
 }
