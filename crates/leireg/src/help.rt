@@ -1,10 +1,12 @@
 //! What helps a person where a run ends with another status than `OK`.
-use leireg_run::status::{INPUT_TOO_LONG, NO_MEMORY, READ_FAULT, REFUSED, USAGE, WRITE_FAULT};
+use leireg_run::status::{
+    INPUT_TOO_LONG, KEEPER_FAULT, NO_MEMORY, READ_FAULT, REFUSED, STORE_DAMAGED, USAGE, WRITE_FAULT,
+};
 
 const COMMANDS: &'static str = "usage:
-  leireg lines        answers each line of the standard input, as in ACCREDIT OFFICE, UPLOAD OFFICE NUMBER BODY, KEPT OFFICE NUMBER, SHOW LEI or STATUS
-  leireg check CODE   tells whether CODE is a Legal Entity Identifier
-  leireg digits TEXT  makes the check digits of TEXT, the first 18 characters of a code";
+  leireg lines [--store PATH]  answers each line of the standard input, as in ACCREDIT OFFICE, UPLOAD OFFICE NUMBER BODY, KEPT OFFICE NUMBER, SHOW LEI or STATUS, and keeps the register in the file PATH
+  leireg check CODE            tells whether CODE is a Legal Entity Identifier
+  leireg digits TEXT           makes the check digits of TEXT, the first 18 characters of a code";
 
 /// What helps a person, printed after the word of a status: how the program is called, or one line.
 pub fn help_text(status: u8) -> &'static str {
@@ -15,7 +17,11 @@ pub fn help_text(status: u8) -> &'static str {
             "the standard input could not be read; the lines that had ended were answered",
         WRITE_FAULT =>
             "the standard output could not be written; what it took may end inside a reply",
+        KEEPER_FAULT =>
+            "the store could not be read; see that its folder is there and that no other program has it open",
         NO_MEMORY => "there was too little memory; what was written may end inside a reply",
+        STORE_DAMAGED =>
+            "the standard output tells the first difference in the store; put back a copy of it from before",
         INPUT_TOO_LONG => "the standard input has 4294967296 bytes or more; cut it into several",
         _ => "the program ended early",
     }

@@ -6,40 +6,51 @@ mod clock;
 mod fakes;
 mod help;
 mod streams;
+mod watched;
 
 use clock::SystemClock;
 use help::help_text;
-use lei_outside::SureKeeper;
-use leireg_run::run;
+use keeper_sqlite::SqliteKeeper;
+use lei_outside::{Keeper, SureKeeper};
 use leireg_run::status::{NO_MEMORY, OK, USAGE, status_text};
+use leireg_run::{run, store_path};
 use std::process::ExitCode;
 use std::{env, io};
 use streams::{StdSink, StdSource};
+use watched::Watched;
 
 fn main(rt: HostRuntime) -> io::Result<ExitCode> {
     let status = match words(&rt) {
-        Ok(words) => {
-            let mut input = StdSource::new(rt.stdin());
-            let mut out = StdSink::new(rt.stdout());
-            let mut clock = SystemClock::new(&rt);
-            let keeper = SureKeeper::new(rt.alloc());
-            let (status, _) = run(
-                &rt,
-                rt.alloc(),
-                &words,
-                &mut input,
-                &mut out,
-                keeper,
-                &mut clock,
-            );
-            status
-        }
+        Ok(words) => match store_path(&words) {
+            Some(path) => {
+                let keeper = SqliteKeeper::on_file(&rt, path);
+                run_over(&rt, &words, Watched::new(&rt, keeper))
+            }
+            None => run_over(&rt, &words, SureKeeper::new(rt.alloc())),
+        },
         Err(status) => status,
     };
     if status != OK {
         eprintln!(rt; "{}\n{}", status_text(status), help_text(status))?;
     }
     Ok(ExitCode::from(status))
+}
+
+// Does what the words ask for, over this keeper, the standard streams and the machine's clock.
+fn run_over<K: Keeper + Drop>(rt: &HostRuntime, words: &[String], keeper: K) -> u8 {
+    let mut input = StdSource::new(rt.stdin());
+    let mut out = StdSink::new(rt.stdout());
+    let mut clock = SystemClock::new(rt);
+    let (status, _) = run(
+        rt,
+        rt.alloc(),
+        words,
+        &mut input,
+        &mut out,
+        keeper,
+        &mut clock,
+    );
+    status
 }
 
 // The words after the program's name. Otherwise the status to end with: a word that is no text is no command's.

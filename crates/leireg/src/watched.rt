@@ -1,18 +1,73 @@
-//! A keeper that tells a person how far an opening is.
-ghost use Rattle.std.specs.Prelude.{◌≡◌};
+//! A keeper that tells a person how far the opening of its store is.
+ghost use Rattle.std.specs.Prelude.{◌≡◌, ◌≤◌, IfOk, IfSome, IsErrOf, OnOk};
+ghost use Rattle.lei_outside.specs.Count.{Rose};
+ghost use Rattle.lei_outside.specs.Keeping.{AreKept, CommitLeaves, Commits, IsBatch, IsNextOf, LeavesNoMore, Stays, cells_between, entries_between, last_number};
 
 use lei_outside::{Batch, KeepFault, Keeper, KeptCell, KeptEntry, List};
-use std::rt::Stderr;
 
-// A store of fewer entries is opened in less than a second, and nothing is told of it.
+// A store of fewer entries is opened at once, and nothing is told of it.
 const MANY: u64 = 10_000;
 
-/// A keeper, of whose entries it is told on the standard error how many of all were read, in at most ten lines. Contracts
-/// see the keeper alone.
+/// A keeper, of whose store it is told on the standard error how many of its entries were read, in at most ten lines.
+/// What it keeps and tells is the keeper's own.
 #[derive(Drop)]
-pub struct Watched<'a, R, K: Keeper> {
+pub struct Watched<'a, K: Keeper> {
     pub keeper: K,
-    rt: &'a R,
+    rt: &'a HostRuntime,
+    // The number of the last entry.
     last: u64,
-    next: u64,
+    // The next tenth of them that is told.
+    tenth: u64,
+}
+
+impl<'a, K: Keeper> Watched<'a, K> {
+    /// A keeper whose reads are told.
+    pub fn new(rt: &'a HostRuntime, keeper: K) -> Self
+        ensures { result.keeper ≡ keeper }
+    {
+        Watched {
+            keeper,
+            rt,
+            last: 0,
+            tenth: 1,
+        }
+    }
+
+    // Tells how many entries were read, where these are another tenth of all.
+    fn tell(&mut self, read: u64)
+        ensures { self.new.keeper ≡ self.old.keeper }
+    {
+        let step = self.last / 10;
+        if self.last >= MANY && self.tenth < 10 && read / step >= self.tenth {
+            let _ = eprintln!(self.rt; "{read} of {} entries were read", self.last);
+            self.tenth = read / step + 1;
+        }
+    }
+}
+
+impl<'a, K: Keeper> Keeper for Watched<'a, K> {
+    ghost tables = { λ w. K.tables w.keeper };
+
+    ghost faults = { λ w. K.faults w.keeper };
+
+    ghost leaves = { λ w left. K.leaves w.keeper left };
+
+    fn last(&mut self) -> Result<u64, KeepFault> {
+        let last = self.keeper.last()?;
+        self.last = last;
+        Ok(last)
+    }
+
+    fn entries(&mut self, after: u64, upto: u64) -> Result<List<KeptEntry>, KeepFault> {
+        self.tell(after);
+        self.keeper.entries(after, upto)
+    }
+
+    fn cells(&mut self, after: u64, upto: u64) -> Result<List<KeptCell>, KeepFault> {
+        self.keeper.cells(after, upto)
+    }
+
+    fn commit(&mut self, batch: &Batch) -> Result<(), KeepFault> {
+        self.keeper.commit(batch)
+    }
 }

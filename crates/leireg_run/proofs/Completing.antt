@@ -13,7 +13,7 @@ use Rattle.lei_office.specs.State.{OfficeState}
 use Rattle.lei_office.proofs.Sessions.{exact}
 use Rattle.leireg_run.specs.Codes.{check_line, digits_fault, digits_line, told_status, TellsLine}
 use Rattle.lei_outside.specs.Keeping.{KeptTables}
-use Rattle.leireg_run.specs.Ends.{AnswersLines, Completes, Does, EndsWith, FailsToOpen, IsComplete, OpensAndRuns, Opens, TellsDamage}
+use Rattle.leireg_run.specs.Ends.{AnswersLines, Completes, Does, EndsWith, FailsToOpen, IsComplete, Opens, TellsDamage}
 use Rattle.leireg_run.specs.Faults.{RoseBy, keeper_faults}
 use Rattle.leireg_run.specs.Limits.{input_limit}
 use Rattle.leireg_run.specs.Outside.{Course, Leads, Outside}

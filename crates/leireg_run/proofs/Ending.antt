@@ -1,15 +1,14 @@
 -- Runs over lines: what they have done between two reads, and how they end.
-use Rattle.std.proofs.Common.{◌≡◌, ℕ, ℤ, ◌+◌, ◌<◌, ◌≤◌, List, [], ◌∷◌, ◌++◌, length, take, drop, Bool, true, false, cond, eqb, Option, Result, Ok, Err, ◌⊎◌, inl, inr, refl, sym, ap, ◌∙◌, subst, append_assoc, arith, length-append}
+use Rattle.std.proofs.Common.{◌≡◌, ℕ, ◌+◌, ◌<◌, ◌≤◌, List, [], ◌∷◌, ◌++◌, length, take, drop, Bool, true, false, cond, eqb, Option, Result, Ok, Err, ◌⊎◌, inl, inr, refl, sym, ap, ◌∙◌, subst, append_assoc, arith, length-append}
 use Rattle.std.proofs.lemmas.List.{append-nil, take-append-le}
 use Rattle.std.proofs.Math.Seq.{take-length}
 use Rattle.std.specs.Str.Lines.{lines}
 use Rattle.lei_outside.specs.Told.{Grows, Loses, IsAtEnd, WritesFront}
 use Rattle.lei_outside.specs.declared.faults.SinkFault.{SinkFault}
-use Rattle.lei_outside.proofs.Told.{Grows-none, Loses-none, Loses-join}
+use Rattle.lei_outside.proofs.Told.{Loses-none, Loses-join}
 use Rattle.lei_outside.specs.Keeping.{KeptTables}
 use Rattle.lei_office.specs.declared.request.Asked.{Asked}
 use Rattle.lei_office.specs.Kept.{Keeps}
-use Rattle.std.specs.Prelude.{IfSome}
 use Rattle.lei_office.specs.State.{OfficeState}
 use Rattle.leireg_run.specs.Ends.{AnswersLines, AnswersSome, EndsWith, RunsFrom, StopsWriting}
 use Rattle.leireg_run.specs.Limits.{input_limit, line_limit, read_limit}
@@ -19,8 +18,6 @@ use Rattle.leireg_run.specs.Reading.{Holds, TakesIn}
 use Rattle.leireg_run.specs.Requests.{asked}
 use Rattle.leireg_run.specs.Runs.{asks_of, Answers, AnswersInPart, ComesTo, GoesOn, Progress, Ran, Stopped, progress}
 use Rattle.leireg_run.specs.Window.{Fills, StaysUnread}
-use Rattle.leireg_run.proofs.Counting.{RoseBy-none}
-use Rattle.leireg_run.proofs.Giving.{Gives-none}
 use Rattle.leireg_run.proofs.Going.{Ran-nothing, all_answers, all_written, now_so, ran_flushed, ran_stops}
 use Rattle.leireg_run.proofs.Joining.{asks_of-append, lines_for}
 use Rattle.leireg_run.proofs.LineLemmas.{IsClosed-append, IsClosed-whole_part, HasNoEnd-last_part, HasNoEnd-nil, parts_of, whole_part-is, lines-end, lines-closed}

@@ -1,19 +1,18 @@
 -- Runs over lines whose store is opened, and those whose store isn't.
-use Rattle.std.proofs.Common.{◌≡◌, ◌⊎◌, ℕ, ℤ, List, Option, Result, Ok, Err, inl, inr, refl, sym, ap, subst, ◌∙◌, arith}
+use Rattle.std.proofs.Common.{◌≡◌, ℕ, ℤ, List, Option, Ok, inl, inr, refl, sym, ap, subst, ◌∙◌, arith}
 use Rattle.std.specs.Prelude.{IfSome}
 use Rattle.lei_outside.specs.Count.{Rose}
 use Rattle.lei_outside.specs.Keeping.{KeptTables, Stays}
-use Rattle.lei_outside.specs.Told.{Grows, WritesFront}
+use Rattle.lei_outside.specs.Told.{Grows}
 use Rattle.lei_office.specs.declared.damage.Damage.{Damage}
 use Rattle.lei_office.specs.Damage.{IsDamage}
 use Rattle.lei_office.specs.Limits.{standard}
 use Rattle.lei_office.specs.State.{OfficeState}
-use Rattle.leireg_run.specs.Ends.{EndsWith, FailsToOpen, IsDamageTold, IsOpened, IsUnopened, MayTell, OpensAndRuns, RunsFrom, RunsLines, TellsDamage, damage_text}
+use Rattle.leireg_run.specs.Ends.{EndsWith, IsDamageTold, IsOpened, IsUnopened, MayTell, RunsFrom, RunsLines, TellsDamage, damage_text}
 use Rattle.leireg_run.specs.Faults.{RoseBy, keeper_faults}
 use Rattle.leireg_run.specs.Outside.{Course, Outside, outside}
-use Rattle.leireg_run.specs.Status.{end_status, stop_status}
+use Rattle.leireg_run.specs.Status.{stop_status}
 use Rattle.leireg_run.specs.declared.status.Stop.{Stop}
-use Rattle.leireg_run.specs.declared.status.Stop.TheVariants as stops
 
 -- what a run does doesn't depend on what the keeper told before
 runs_so : (from : OfficeState) (left : Option (List ℕ)) (given : Option (List ℤ)) (written : Option (List ℕ)) (old new : Option KeptTables) (before now : ℕ) (after : Outside) (status : ℕ)
@@ -49,6 +48,7 @@ opened_status from before after status runs unopened = by_end status runs.course
     apart : (status n : ℕ) → status ≡ n → IsUnopened status → (n ≡ 5 → ⊥) → (n ≡ 7 → ⊥) → ⊥
     apart status n is (inl five) not5 not7 = not5 (sym is ∙ five)
     apart status n is (inr seven) not5 not7 = not7 (sym is ∙ seven)
+
     by_end : (status : ℕ) (course : Course) → EndsWith status course after → IsUnopened status → ⊥
     by_end status course (inl e) u = apart status 0 e.0 u (λ is. omega (arith, is)) (λ is. omega (arith, is))
     by_end status course (inr (inl e)) u = apart status 3 e.0 u (λ is. omega (arith, is)) (λ is. omega (arith, is))

@@ -164,20 +164,20 @@ Does may (to_make_digits text) before after status =
 -- replies written, with status 0. Where the keeper doesn't fail and memory is never wanting, the replies are those that
 -- the lines and the moments determine.
 pub record IsComplete (may : Option KeptTables → Type 0) (bytes : List ℕ) (before after : Outside) (status : ℕ) : Type 0
-    where
-  pub ok : status ≡ 0
-  pub first : OfficeState
-  pub opened : Opens may before.kept first
-  pub ended : IsAtEnd after.left
-  pub moments : List ℤ
-  pub gives : Gives before.given after.given moments
-  pub replies : List Reply
-  pub office : OfficeState
-  pub session : Session first (asks_of (lines bytes)) moments replies office
-  pub writes : Grows before.written after.written (reply_texts (asks_of (lines bytes)) replies)
-  pub keeps : Keeps after.kept office
-  pub exact : ¬ (Rose before.faults after.faults) → ¬ (Contains replies (Words NoMemory))
-      → replies ≡ replies_to first (asks_of (lines bytes)) moments
+  where
+    pub ok : status ≡ 0
+    pub first : OfficeState
+    pub opened : Opens may before.kept first
+    pub ended : IsAtEnd after.left
+    pub moments : List ℤ
+    pub gives : Gives before.given after.given moments
+    pub replies : List Reply
+    pub office : OfficeState
+    pub session : Session first (asks_of (lines bytes)) moments replies office
+    pub writes : Grows before.written after.written (reply_texts (asks_of (lines bytes)) replies)
+    pub keeps : Keeps after.kept office
+    pub exact : ¬ (Rose before.faults after.faults) → ¬ (Contains replies (Words NoMemory))
+        → replies ≡ replies_to first (asks_of (lines bytes)) moments
 
 -- Where no source and no sink fails and no memory is wanting, all is done: an input that is told and short enough is
 -- answered whole, unless a call of the keeper failed while its store was opened, or the store is damaged, which is told

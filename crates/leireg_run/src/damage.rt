@@ -19,6 +19,14 @@ pub fn write_damage<W: Sink>(damage: &Damage, out: &mut W) -> Result<(), SinkFau
     let (kept, replayed) = (damage.kept.as_slice(), damage.replayed.as_slice());
     write_pieces(
         out,
-        &[b"STORE_DAMAGED ", number, b"\nkept ", kept, b"\nreplayed ", replayed, b"\n"],
+        &[
+            b"STORE_DAMAGED ",
+            number,
+            b"\nkept ",
+            kept,
+            b"\nreplayed ",
+            replayed,
+            b"\n",
+        ],
     )
 }

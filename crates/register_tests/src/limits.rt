@@ -44,10 +44,14 @@ const TWO_RECORDS: &str = concat!(
 );
 
 // An office under these limits, over a keeper in memory.
-fn office(alloc: Global, limits: Limits) -> Result<Office<SureKeeper>, Fail>
+fn office<R: Threads + Sync>(
+    rt: &R,
+    alloc: Global,
+    limits: Limits,
+) -> Result<Office<SureKeeper>, Fail>
     requires { AreLimits limits }
 {
-    match Office::new(alloc, SureKeeper::new(alloc), limits) {
+    match Office::open(rt, alloc, SureKeeper::new(alloc), limits) {
         Ok(office) => Ok(office),
         Err(_) => Err(Fail::from("memory for an office")),
     }
@@ -123,7 +127,7 @@ const LIMITS: Limits = Limits {
 
 #[test]
 fn an_office_keeps_to_its_limits(rt: HostRuntime) -> Result<(), Fail> {
-    let mut office = office(rt.alloc(), LIMITS)?;
+    let mut office = office(&rt, rt.alloc(), LIMITS)?;
     assert_eq!(rt; office.limits(), LIMITS);
     accredits(
         &rt,
@@ -159,7 +163,7 @@ fn takes_two<R: Abort + Threads + Sync>(
 ) -> Result<(), Fail>
     requires { AreLimits limits }
 {
-    let mut office = office(alloc, limits)?;
+    let mut office = office(rt, alloc, limits)?;
     let accredited = r#"200 {"entry":1,"issuer":"506700GE1G29325QX363"}"#;
     accredits(rt, alloc, &mut office, ISSUER, accredited)?;
     uploads(rt, alloc, &mut office, 1, TWO_RECORDS.as_bytes(), want)
@@ -211,7 +215,7 @@ const BODIES: [(u32, &str, &str); 6] = [
 
 #[test]
 fn an_office_keeps_bodies_to_their_limit(rt: HostRuntime) -> Result<(), Fail> {
-    let mut office = office(rt.alloc(), ROOM)?;
+    let mut office = office(&rt, rt.alloc(), ROOM)?;
     let accredited = r#"200 {"entry":1,"issuer":"506700GE1G29325QX363"}"#;
     accredits(&rt, rt.alloc(), &mut office, ISSUER, accredited)?;
     for (number, body, want) in BODIES {
@@ -236,7 +240,7 @@ fn an_office_keeps_entries_to_their_limit(rt: HostRuntime) -> Result<(), Fail> {
         entries: 2,
         records: 1,
     };
-    let mut office = office(rt.alloc(), limits)?;
+    let mut office = office(&rt, rt.alloc(), limits)?;
     for (issuer, want) in ACCREDITATIONS {
         accredits(&rt, rt.alloc(), &mut office, issuer, want)?;
     }

@@ -10,7 +10,7 @@ use Rattle.worked_examples.specs.Filling.{text_parts}
 use Rattle.worked_examples.specs.declared.texts.Part.{Part}
 use Rattle.worked_examples.specs.declared.texts.Named.{Named}
 
--- A run of the program: its words, the moments of its clock, the numbers of the entries that its keeper refuses, the bytes
+-- A run of the program: its words, the moments of its clock, the numbers of the calls that its keeper refuses, the bytes
 -- that are sent, the bytes that must come back, and the status that it must end with.
 pub record RunState : Type 0 where
   pub words : List (List ℕ)
@@ -45,7 +45,7 @@ run_of command = run_of_words (pieces 32 command)
 abbrev pub with_moment : RunState → List ℕ → Option RunState
 with_moment run text = option_map (λ moment. record run { moments = run.moments ++ moment ∷ [] }) (read_moment text)
 
--- `refuses N`: the keeper refuses the N-th entry that it is handed
+-- `refuses N`: the N-th call of the keeper fails
 abbrev pub with_refused : RunState → List ℕ → Option RunState
 with_refused run text = option_map (λ n. record run { refused = run.refused ++ n ∷ [] }) (number 1000000 text)
 

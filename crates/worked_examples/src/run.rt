@@ -15,7 +15,7 @@ use lei_shapes::Moment;
 use std::alloc::{AllocError, Global};
 use std::marker::Model;
 
-/// A run of the program: its words, the moments of its clock, the numbers of the entries that its keeper refuses, the
+/// A run of the program: its words, the moments of its clock, the numbers of the calls that its keeper refuses, the
 /// bytes that are sent, the bytes that must come back, and the status that it must end with.
 #[derive(Drop)]
 pub struct Run {
@@ -75,7 +75,7 @@ impl Run {
         Ok(ListClock::new(List::from(self.moments.as_slice().to_vec(alloc)?)))
     }
 
-    /// A keeper that has kept nothing, and refuses some of the entries that it is handed.
+    /// A keeper that has kept nothing, and refuses some of its calls.
     pub fn keeper(&self, alloc: Global) -> Result<MapKeeper, AllocError>
         ensures { IfOk result (λ keeper. keeper ≡ record {
           kept = record { entries = []; cells = [] };
