@@ -11,7 +11,7 @@ mod watched;
 use clock::SystemClock;
 use help::help_text;
 use keeper_sqlite::SqliteKeeper;
-use lei_outside::{Keeper, SureKeeper};
+use lei_outside::SureKeeper;
 use leireg_run::status::{NO_MEMORY, OK, USAGE, status_text};
 use leireg_run::{run, store_path};
 use std::process::ExitCode;
@@ -20,13 +20,26 @@ use streams::{StdSink, StdSource};
 use watched::Watched;
 
 fn main(rt: HostRuntime) -> io::Result<ExitCode> {
+    let alloc = rt.alloc();
+    let mut input = StdSource::new(rt.stdin());
+    let mut out = StdSink::new(rt.stdout());
+    let mut clock = SystemClock::new(&rt);
     let status = match words(&rt) {
         Ok(words) => match store_path(&words) {
             Some(path) => {
-                let keeper = SqliteKeeper::on_file(&rt, path);
-                run_over(&rt, &words, Watched::new(&rt, keeper))
+                let keeper = Watched::new(&rt, SqliteKeeper::on_file(&rt, path));
+                let (status, _) = run(
+                    &rt, alloc, &words, &mut input, &mut out, keeper, &mut clock,
+                );
+                status
             }
-            None => run_over(&rt, &words, SureKeeper::new(rt.alloc())),
+            None => {
+                let keeper = SureKeeper::new(alloc);
+                let (status, _) = run(
+                    &rt, alloc, &words, &mut input, &mut out, keeper, &mut clock,
+                );
+                status
+            }
         },
         Err(status) => status,
     };
@@ -34,23 +47,6 @@ fn main(rt: HostRuntime) -> io::Result<ExitCode> {
         eprintln!(rt; "{}\n{}", status_text(status), help_text(status))?;
     }
     Ok(ExitCode::from(status))
-}
-
-// Does what the words ask for, over this keeper, the standard streams and the machine's clock.
-fn run_over<K: Keeper + Drop>(rt: &HostRuntime, words: &[String], keeper: K) -> u8 {
-    let mut input = StdSource::new(rt.stdin());
-    let mut out = StdSink::new(rt.stdout());
-    let mut clock = SystemClock::new(rt);
-    let (status, _) = run(
-        rt,
-        rt.alloc(),
-        words,
-        &mut input,
-        &mut out,
-        keeper,
-        &mut clock,
-    );
-    status
 }
 
 // The words after the program's name. Otherwise the status to end with: a word that is no text is no command's.

@@ -15,4 +15,6 @@ mod runs;
 #[cfg(test)]
 mod sqlite_keeper;
 #[cfg(test)]
+mod stores;
+#[cfg(test)]
 mod tables;

@@ -18,7 +18,7 @@ const OTHER: &str = "HWUPKR0MPOU8FGXBT394";
 const MOMENT: i64 = 1_736_553_600;
 
 // Two issued records, in their compact form with their names in byte order.
-const TWO_RECORDS: &str = concat!(
+pub const TWO_RECORDS: &str = concat!(
     r#"{"records":[{"Entity.EntityCategory":"GENERAL","Entity.EntityStatus":"ACTIVE","#,
     r#""Entity.HeadquartersAddress.City":"Paris","Entity.HeadquartersAddress.Country":"FR","#,
     r#""Entity.HeadquartersAddress.FirstAddressLine":"1 Main Street","Entity.LegalAddress.City":"Paris","#,
@@ -44,7 +44,7 @@ const TWO_RECORDS: &str = concat!(
 );
 
 // An office under these limits, over a keeper in memory.
-fn office<R: Threads + Sync>(
+pub fn office<R: Threads + Sync>(
     rt: &R,
     alloc: Global,
     limits: Limits,
@@ -91,7 +91,7 @@ fn told(alloc: Global, reply: &Reply) -> Result<String, Fail> {
     }
 }
 
-fn accredits<R: Abort + Threads + Sync>(
+pub fn accredits<R: Abort + Threads + Sync>(
     rt: &R,
     alloc: Global,
     office: &mut Office<SureKeeper>,
@@ -102,7 +102,7 @@ fn accredits<R: Abort + Threads + Sync>(
     answers(rt, alloc, office, &request, want)
 }
 
-fn uploads<R: Abort + Threads + Sync>(
+pub fn uploads<R: Abort + Threads + Sync>(
     rt: &R,
     alloc: Global,
     office: &mut Office<SureKeeper>,
