@@ -1,0 +1,236 @@
+-- Publishing: a trail with one more publication is kept.
+use Rattle.std.proofs.Common.{◌≡◌, ℕ, suc, ◌-◌, ℤ, Bool, true, false, cond, Option, None, Some, List, [], ◌∷◌, ◌++◌, length, map, refl, sym, ap, subst, ◌∙◌, arith, Bor}
+use Rattle.std.specs.Prelude.{Err, IfOk, Ok, Result, is_some, option_map, unwrap_or}
+use Rattle.std.specs.FinMap.Entries.{below_all, is_sorted}
+use Rattle.std.specs.Fn.{FnReturnsAt, Shared}
+use Rattle.std.specs.List.{AllByRecursion, AllZip, filter, slice_get}
+use Rattle.std.specs.List.Sorted.{IsStrictlySortedBy}
+use Rattle.std.specs.Ordering.{is_lt}
+use Rattle.std.specs.declared.cmp.Ordering.{Ordering}
+use Rattle.std.proofs.lemmas.Bool.{false≢true}
+use Rattle.std.proofs.lemmas.List.Elements.{All-nil}
+use Rattle.lei_shapes.specs.Moment.{IsMoment}
+use Rattle.lei_records.specs.declared.view.RowKey.{RowKey}
+use Rattle.lei_records.specs.Tables.{KeyTexts, key_cmp}
+use Rattle.copy_csv.specs.declared.rows.RowTexts.{RowTexts}
+use Rattle.copy_csv.specs.declared.sheets.Sheet.{Sheet}
+use Rattle.copy_csv.specs.Rows.{AreRising, AreRows, IsRowOf}
+use Rattle.copy_csv.specs.Sheets.{SheetRow}
+use Rattle.copy_csv.specs.declared.sheets.Form.{Form}
+use Rattle.lei_code.specs.Texts.{Text}
+use Rattle.copy_forms.specs.Files.{copy, rendered}
+use Rattle.copy_forms.specs.Trails.{FollowOn, IsNext, IsSound, Publication, Trail, copy_of, no_rows}
+use Rattle.golden_shelf.specs.declared.issue.Issue.{Issue}
+use Rattle.golden_shelf.specs.declared.lines.Note.{Note}
+use Rattle.golden_shelf.specs.declared.sides.Sides.{Sides}
+use Rattle.golden_shelf.specs.Changes.{AreOwnChanges, Changes, IsIssued, in_sheet, touched_by}
+use Rattle.golden_shelf.specs.Keys.{is_of, key_texts}
+use Rattle.golden_shelf.specs.Lines.{Line, line_of, with_lines}
+use Rattle.golden_shelf.specs.Parts.{kept_of, side_of}
+use Rattle.golden_shelf.specs.Shelves.{AreIssuesOf, IsIssueOf, Keeps, Kept, last_behind, latest, latest_rows, lines_of, rows_in}
+use Rattle.golden_shelf.specs.Sides.{AreRisingChanges, IsChanged, IsNoteOf, IsSame, SideState, notes_of}
+use Rattle.golden_shelf.proofs.Keeping.{Pair, follows, joined, pairs_of, rising_rows, to_line, touched_pairs}
+
+-- ---- the latest publication
+
+last_pushed : (first : Publication) (later : Trail) (next : Publication) → last_behind first (later ++ next ∷ []) ≡ next
+last_pushed first [] next = refl
+last_pushed first (p ∷ later) next = last_pushed p later next
+
+pub latest_push : (trail : Trail) (next : Publication) → latest (trail ++ next ∷ []) ≡ Some next
+latest_push [] next = refl
+latest_push (first ∷ later) next = ap Some (last_pushed first later next)
+
+-- the rows of the last publication, or those of before
+abbrev pub last_rows : (Sheet → List SheetRow) → Trail → Sheet → List SheetRow
+last_rows before [] = before
+last_rows before (next ∷ later) = last_rows next.rows later
+
+last_is : (first : Publication) (later : Trail) → last_rows first.rows later ≡ (last_behind first later).rows
+last_is first [] = refl
+last_is first (p ∷ later) = last_is p later
+
+latest_is : (trail : Trail) → last_rows no_rows trail ≡ latest_rows trail
+latest_is [] = refl
+latest_is (first ∷ later) = last_is first later
+
+follow_push : (before : Sheet → List SheetRow) (trail : Trail) (next : Publication) → FollowOn before trail
+    → IsNext (last_rows before trail) next → FollowOn before (trail ++ next ∷ [])
+follow_push before [] next on is = (is, tt)
+follow_push before (p ∷ later) next on is = (on.0, follow_push p.rows later next on.1 is)
+
+rows_sound : (before : Sheet → List SheetRow) (trail : Trail) → ((sheet : Sheet) → AreRows sheet (before sheet)) → FollowOn before trail
+    → (sheet : Sheet) → AreRows sheet (last_rows before trail sheet)
+rows_sound before [] are on = are
+rows_sound before (p ∷ later) are on = rows_sound p.rows later on.0.rows_are on.1
+
+-- the latest rows of a sound trail
+pub latest_sound : (trail : Trail) → IsSound trail → (sheet : Sheet) → AreRows sheet (latest_rows trail sheet)
+latest_sound trail sound sheet =
+    subst (λ rows. AreRows sheet (rows sheet)) (latest_is trail)
+    (rows_sound no_rows trail (λ sheet. record { each = All-nil (IsRowOf sheet); rising = rising_rows [] refl }) sound sheet)
+
+-- ---- issues
+
+issues_push : (issues : List Issue) (trail : Trail) (issue : Issue) (next : Publication) → AreIssuesOf issues trail → IsIssueOf issue next
+    → AreIssuesOf (issues ++ issue ∷ []) (trail ++ next ∷ [])
+issues_push [] [] issue next are is = (is, tt)
+issues_push [] (p ∷ trail) issue next are is = absurd are
+issues_push (i ∷ issues) [] issue next are is = absurd are
+issues_push (i ∷ issues) (p ∷ trail) issue next are is = (are.0, issues_push issues trail issue next are.1 is)
+
+pub length_issues : (issues : List Issue) (trail : Trail) → AreIssuesOf issues trail → length issues ≡ length trail
+length_issues [] [] are = refl
+length_issues [] (p ∷ trail) are = absurd are
+length_issues (i ∷ issues) [] are = absurd are
+length_issues (i ∷ issues) (p ∷ trail) are = ap suc (length_issues issues trail are.1)
+
+-- the moment of the last issue is that of the latest publication
+latest_moment : (issues : List Issue) (trail : Trail) → AreIssuesOf issues trail
+    → option_map (λ (i : Issue). i.moment) (slice_get issues (length issues - 1)) ≡ option_map (λ (p : Publication). p.moment) (latest trail)
+latest_moment [] [] are = refl
+latest_moment [] (p ∷ trail) are = absurd are
+latest_moment (i ∷ issues) [] are = absurd are
+latest_moment (i ∷ []) (p ∷ []) are = ap Some are.0.moment_is
+latest_moment (i ∷ []) (p ∷ q ∷ trail) are = absurd are.1
+latest_moment (i ∷ j ∷ issues) (p ∷ []) are = absurd are.1
+latest_moment (i ∷ j ∷ issues) (p ∷ q ∷ trail) are =
+    let e : length (i ∷ j ∷ issues) - 1 ≡ suc (length (j ∷ issues) - 1) = omega arith in
+    ap (λ n. option_map (λ (i : Issue). i.moment) (slice_get (i ∷ j ∷ issues) n)) e ∙ latest_moment (j ∷ issues) (q ∷ trail) are.1
+
+pub latest_told : (issues : List Issue) (trail : Trail) (n : ℕ) (issue : Issue) → AreIssuesOf issues trail → n ≡ length trail
+    → Some issue ≡ slice_get issues (length issues - 1)
+    → ◌≡◌ {A = Option (ℕ × ℤ)} (Some (n, issue.moment)) (option_map (λ (p : Publication). (length trail, p.moment)) (latest trail))
+latest_told issues trail n issue are is at =
+    by (latest trail) (ap (option_map (λ (i : Issue). i.moment)) at ∙ latest_moment issues trail are)
+  where
+    by : (o : Option Publication) → Some issue.moment ≡ option_map (λ (p : Publication). p.moment) o
+        → ◌≡◌ {A = Option (ℕ × ℤ)} (Some (n, issue.moment)) (option_map (λ (p : Publication). (length trail, p.moment)) o)
+    by None e = absurd (false≢true (sym (ap is_some e)))
+    by (Some p) e = ap (λ m. told n m) (ap (λ o. unwrap_or o issue.moment) e) ∙ ap (λ k. told k p.moment) is
+      where
+        told : ℕ → ℤ → Option (ℕ × ℤ)
+        told k m = Some (k, m)
+
+-- ---- notes
+
+touched_keys : (sheet : Sheet) (changes : Changes) → touched_by sheet changes ≡ map key_texts (filter (is_of sheet) (map (λ c. c.0) changes))
+touched_keys sheet [] = refl
+touched_keys sheet (c ∷ changes) = by (is_of sheet c.0) (touched_keys sheet changes)
+  where
+    rest : List RowKey
+    rest = filter (is_of sheet) (map (λ c. c.0) changes)
+
+    by : (b : Bool) → touched_by sheet changes ≡ map key_texts rest
+        → map (λ c. key_texts c.0) (cond b (c ∷ in_sheet sheet changes) (in_sheet sheet changes)) ≡ map key_texts (cond b (c.0 ∷ rest) rest)
+    by true later = ap (λ l. key_texts c.0 ∷ l) later
+    by false later = later
+
+pub noted : (sheet : Sheet) (changes : Changes) (notes : List Note) → AllZip IsNoteOf changes notes
+    → notes_of (filter (λ note. is_of sheet note.key) notes) ≡ map to_line (pairs_of sheet changes)
+noted sheet [] [] are = refl
+noted sheet [] (n ∷ notes) are = absurd are
+noted sheet (c ∷ changes) [] are = absurd are
+noted sheet (c ∷ changes) (n ∷ notes) are =
+    ap (λ k. notes_of (cond (is_of sheet k) (n ∷ rest) rest)) are.0.key_is ∙ by (is_of sheet c.0) (noted sheet changes notes are.1)
+  where
+    rest : List Note
+    rest = filter (λ note. is_of sheet note.key) notes
+
+    by : (b : Bool) → notes_of rest ≡ map to_line (pairs_of sheet changes)
+        → notes_of (cond b (n ∷ rest) rest) ≡ map to_line (map (λ c. (key_texts c.0, c.1)) (cond b (c ∷ in_sheet sheet changes) (in_sheet sheet changes)))
+    by true later = ap (λ k. (key_texts k, n.texts) ∷ notes_of rest) are.0.key_is ∙ ap (λ t. (key_texts c.0, t) ∷ notes_of rest) are.0.texts_are
+        ∙ ap (λ l. to_line (key_texts c.0, c.1) ∷ l) later
+    by false later = later
+
+below_pairs : (k : KeyTexts) (ps : List Pair) → AllByRecursion (λ j. key_cmp k j ≡ Ordering.Less) (map (λ (p : Pair). p.0) ps)
+    → below_all key_cmp k (map to_line ps) ≡ true
+below_pairs k [] all = refl
+below_pairs k (p ∷ ps) all = joined (is_lt (key_cmp k p.0)) (below_all key_cmp k (map to_line ps)) (ap is_lt all.0) (below_pairs k ps all.1)
+
+rising_pairs : (ps : List Pair) → AreRising (map (λ (p : Pair). p.0) ps) → is_sorted key_cmp (map to_line ps) ≡ true
+unfolding IsStrictlySortedBy
+rising_pairs [] rising = refl
+rising_pairs (p ∷ ps) rising =
+    joined (below_all key_cmp p.0 (map to_line ps)) (is_sorted key_cmp (map to_line ps)) (below_pairs p.0 ps rising.0) (rising_pairs ps rising.1)
+
+pub noted_rising : (sheet : Sheet) (changes : Changes) (notes items : List Note) → AllZip IsNoteOf changes notes → AreOwnChanges changes
+    → items ≡ filter (λ note. is_of sheet note.key) notes → AreRisingChanges (notes_of items)
+noted_rising sheet changes notes items are own is =
+    subst AreRisingChanges (sym (ap notes_of is ∙ noted sheet changes notes are))
+    (rising_pairs (pairs_of sheet changes) (subst AreRising (touched_pairs sheet changes) (own.rising sheet)))
+
+-- ---- the trail that follows
+
+pub keeps_next : (trail : Trail) (kept new : Kept) (changes : Changes) (issue : Issue) (next : Publication) → AreOwnChanges changes
+    → IsMoment issue.moment → new.issues ≡ kept.issues ++ issue ∷ [] → issue.keys ≡ map (λ c. c.0) changes
+    → ((sheet : Sheet) → lines_of new sheet ≡ with_lines (lines_of kept sheet) (map to_line (pairs_of sheet changes)))
+    → Keeps trail kept → IsIssued (latest_rows trail) issue.moment changes next → Keeps (trail ++ next ∷ []) new
+keeps_next trail kept new changes issue next own is issues keys lines keeps issued =
+    let step = follows (latest_rows trail) issue.moment changes next (latest_sound trail keeps.sound) is own issued in
+    record {
+      sound = follow_push no_rows trail next keeps.sound (subst (λ rows. IsNext rows next) (sym (latest_is trail)) step.1);
+      issues_are = subst (λ l. AreIssuesOf l (trail ++ next ∷ [])) (sym issues)
+          (issues_push kept.issues trail issue next keeps.issues_are
+          (record {
+            moment_is = sym issued.moment_is;
+            touched_are = λ sheet. issued.touched_are sheet ∙ touched_keys sheet changes ∙ ap (λ l. map key_texts (filter (is_of sheet) l)) (sym keys);
+          }));
+      lines_are = λ sheet. lines sheet ∙ ap (λ l. with_lines l (map to_line (pairs_of sheet changes))) (keeps.lines_are sheet)
+          ∙ (step.0 sheet).lines_are ∙ ap (λ o. map line_of (rows_in o sheet)) (sym (latest_push trail next));
+    }
+
+-- ---- what is read of a shelf
+
+pub kept_lines : (issues : List Issue) (sides : Sides) (sheet : Sheet) → (side_of sides sheet).lines ≡ lines_of (kept_of issues sides) sheet
+kept_lines issues sides Sheet.Lei = refl
+kept_lines issues sides Sheet.Rr = refl
+kept_lines issues sides Sheet.Repex = refl
+
+pub texts_of_rows : (rows : List SheetRow) → map (λ (line : Line). line.1) (map line_of rows) ≡ map rendered rows
+texts_of_rows [] = refl
+texts_of_rows (x ∷ rows) = ap (λ l. rendered x ∷ l) (texts_of_rows rows)
+
+pub rows_kept : (issues : List Issue) (sides : Sides) (now : Kept) (trail : Trail) (last : Publication) (sheet : Sheet) (texts : List RowTexts)
+    → kept_of issues sides ≡ now → Keeps trail now → latest trail ≡ Some last → texts ≡ map (λ (line : Line). line.1) (side_of sides sheet).lines
+    → texts ≡ map rendered (last.rows sheet)
+rows_kept issues sides now trail last sheet texts view keeps is are =
+    are ∙ ap (map (λ (line : Line). line.1)) (kept_lines issues sides sheet ∙ ap (λ k. lines_of k sheet) view ∙ keeps.lines_are sheet)
+    ∙ texts_of_rows (latest_rows trail sheet) ∙ ap (λ o. map rendered (rows_in o sheet)) is
+
+pub copied : (trail : Trail) (last : Publication) (sheet : Sheet) (form : Form) (text : Text) (publication : ℕ) (moment : ℤ) → latest trail ≡ Some last
+    → ◌≡◌ {A = Option (ℕ × ℤ)} (Some (publication, moment)) (option_map (λ (p : Publication). (length trail, p.moment)) (latest trail))
+    → text ≡ copy sheet form (record { moment = moment; publication = publication; from = 0 }) (last.rows sheet)
+    → text ≡ copy_of (length trail) last sheet form
+copied trail last sheet form text publication moment is told text_is =
+    let first : publication ≡ length trail = ap (λ (o : Option (ℕ × ℤ)). (unwrap_or {T = ℕ × ℤ} o (publication, moment)).0) (told ∙ ap (option_map (λ (p : Publication). (length trail, p.moment))) is) in
+    let second : moment ≡ last.moment = ap (λ (o : Option (ℕ × ℤ)). (unwrap_or {T = ℕ × ℤ} o (publication, moment)).1) (told ∙ ap (option_map (λ (p : Publication). (length trail, p.moment))) is) in
+    text_is ∙ ap (λ n. copy sheet form (record { moment = moment; publication = n; from = 0 }) (last.rows sheet)) first
+    ∙ ap (λ m. copy sheet form (record { moment = m; publication = length trail; from = 0 }) (last.rows sheet)) second
+
+-- ---- what is rendered
+
+pub if_ok : {V E : Type 0} (r : Result V E) (P Q : V → Type 0) → IfOk r P → ((v : V) → P v → Q v) → IfOk r Q
+if_ok (Ok v) P Q h f = f v h
+if_ok (Err e) P Q h f = tt
+
+pub all_noted : {F E : Type 0} (g : Shared F (Bor (RowKey × Option SheetRow) × Unit {0}) (Result Note E)) (f : F)
+    → ((z : Bor (RowKey × Option SheetRow)) (note : Note) → g.post f (z, tt) (Ok note) → IsNoteOf z.now note)
+    → (changes : Changes) (notes : List Note) → AllZip (λ x u. FnReturnsAt g f x (Ok u)) changes notes → AllZip IsNoteOf changes notes
+all_noted g f says [] [] h = tt
+all_noted g f says [] (n ∷ notes) h = absurd h
+all_noted g f says (c ∷ changes) [] h = absurd h
+all_noted g f says (c ∷ changes) (n ∷ notes) h =
+    (subst (λ x. IsNoteOf x n) h.0.shows (says h.0.shown n h.0.says.met), all_noted g f says changes notes h.1)
+
+pub by_sheet : (P : Sheet → Type 0) → P Sheet.Lei → P Sheet.Rr → P Sheet.Repex → (sheet : Sheet) → P sheet
+by_sheet P a b c Sheet.Lei = a
+by_sheet P a b c Sheet.Rr = b
+by_sheet P a b c Sheet.Repex = c
+
+pub lines_next : (sheet : Sheet) (changes : Changes) (notes items : List Note) (old mid new : SideState) → AllZip IsNoteOf changes notes
+    → items ≡ filter (λ note. is_of sheet note.key) notes → IsSame old mid → IsChanged mid new items
+    → new.lines ≡ with_lines old.lines (map to_line (pairs_of sheet changes))
+lines_next sheet changes notes items old mid new are is same changed =
+    changed.lines_are ∙ ap (λ l. with_lines l (notes_of items)) same.lines_are
+    ∙ ap (λ l. with_lines old.lines l) (ap notes_of is ∙ noted sheet changes notes are)

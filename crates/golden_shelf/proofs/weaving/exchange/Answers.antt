@@ -1,0 +1,10 @@
+use Rattle.std.proofs.Common.{ap, length, arith}
+use Rattle.golden_shelf.specs.Keys.{key_texts}
+use Rattle.golden_shelf.proofs.LineParts.{length_past}
+use Rattle.golden_shelf.proofs.weaving.exchange.Goals as goal
+
+pub returns-in_default-clause-len : goal.returns-in_default-clause-len
+returns-in_default-clause-len c =
+    let p = length_past (key_texts c.args.note.now.key) c.args.rest.now.lines in
+    let e = ap length c.pop_at-found.ensures.lines in
+    omega (arith, p, e)

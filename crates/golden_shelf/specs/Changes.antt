@@ -1,0 +1,50 @@
+-- What a publication changes, and what comes of it.
+use Rattle.std.specs.Prelude.{◌≡◌, ℤ, List, Option, IfSome, map}
+use Rattle.std.specs.List.{AllByRecursion, filter}
+use Rattle.lei_records.specs.declared.view.RowKey.{RowKey}
+use Rattle.lei_records.specs.Tables.{KeyTexts}
+use Rattle.copy_csv.specs.declared.rows.Change.{Change}
+use Rattle.copy_csv.specs.declared.sheets.Sheet.{Sheet}
+use Rattle.copy_csv.specs.Rows.{AreRising, IsRowOf}
+use Rattle.copy_csv.specs.Sheets.{SheetRow, key}
+use Rattle.copy_forms.specs.Patching.{patched}
+use Rattle.copy_forms.specs.Trails.{IsKeyOf, Publication, change_to}
+use Rattle.golden_shelf.specs.Keys.{is_of, key_texts, sheet_of}
+
+-- What became of keys since a publication: each with the row that it has now, or with none.
+abbrev pub Changes : Type 0
+Changes = List (RowKey × Option SheetRow)
+
+-- Those of one sheet.
+abbrev pub in_sheet : Sheet → Changes → Changes
+in_sheet sheet changes = filter (λ change. is_of sheet change.0) changes
+
+-- The same as the changes of a delta: a row that is put, or a key that is dropped.
+abbrev pub changes_of : Sheet → Changes → List Change
+changes_of sheet changes = map (λ change. change_to sheet (key_texts change.0) change.1) (in_sheet sheet changes)
+
+-- The keys of a sheet among those that changed.
+abbrev pub touched_by : Sheet → Changes → List KeyTexts
+touched_by sheet changes = map (λ change. key_texts change.0) (in_sheet sheet changes)
+
+-- A row of this sheet under this key.
+pub record IsRowUnder (sheet : Sheet) (k : KeyTexts) (row : SheetRow) : Type 0 where
+  pub row_is : IsRowOf sheet row
+  pub key_is : key row ≡ k
+
+-- The key is one of its sheet, and its row, if it has one, is a row of this sheet under this key.
+pub record IsOwnChange (change : RowKey × Option SheetRow) : Type 0 where
+  pub key_is : IsKeyOf (sheet_of change.0) (key_texts change.0)
+  pub row_is : IfSome change.1 (IsRowUnder (sheet_of change.0) (key_texts change.0))
+
+-- Each change is so, and the keys of each sheet rise, so none stands twice.
+pub record AreOwnChanges (changes : Changes) : Type 0 where
+  pub each : AllByRecursion IsOwnChange changes
+  pub rising : (sheet : Sheet) → AreRising (touched_by sheet changes)
+
+-- The publication that follows rows by these changes: it has the moment, the rows of each sheet patched by the changes of
+-- this sheet, and the keys that changed.
+pub record IsIssued (before : Sheet → List SheetRow) (moment : ℤ) (changes : Changes) (next : Publication) : Type 0 where
+  pub moment_is : next.moment ≡ moment
+  pub rows_are : (sheet : Sheet) → next.rows sheet ≡ patched (before sheet) (changes_of sheet changes)
+  pub touched_are : (sheet : Sheet) → next.touched sheet ≡ touched_by sheet changes

@@ -1,0 +1,24 @@
+-- The keys of rows, by sheet.
+use Rattle.std.specs.Prelude.{Bool, true, false}
+use Rattle.lei_records.specs.declared.view.RowKey.{RowKey}
+use Rattle.lei_records.specs.Tables.{KeyTexts, exception_key, record_key, relation_key}
+use Rattle.copy_csv.specs.declared.sheets.Sheet.{Sheet}
+
+-- The sheet that has the row of a key.
+abbrev pub sheet_of : RowKey → Sheet
+sheet_of (RowKey.Rec lei) = Sheet.Lei
+sheet_of (RowKey.Rel start kind end) = Sheet.Rr
+sheet_of (RowKey.Exc lei category) = Sheet.Repex
+
+-- A key as the texts that its row begins with.
+abbrev pub key_texts : RowKey → KeyTexts
+key_texts (RowKey.Rec lei) = record_key lei
+key_texts (RowKey.Rel start kind end) = relation_key start kind end
+key_texts (RowKey.Exc lei category) = exception_key lei category
+
+-- The key is one of this sheet.
+abbrev pub is_of : Sheet → RowKey → Bool
+is_of Sheet.Lei (RowKey.Rec lei) = true
+is_of Sheet.Rr (RowKey.Rel start kind end) = true
+is_of Sheet.Repex (RowKey.Exc lei category) = true
+is_of sheet key = false

@@ -1,0 +1,75 @@
+-- Shelves: what is kept of a trail of publications.
+use Rattle.std.specs.Prelude.{◌≡◌, List, [], ◌∷◌, Option, Some, None, map, ⊤}
+use Rattle.std.specs.List.{filter}
+use Rattle.copy_csv.specs.declared.sheets.Sheet.{Sheet}
+use Rattle.copy_csv.specs.Sheets.{SheetRow}
+use Rattle.copy_forms.specs.Trails.{IsSound, Publication, Trail, no_rows}
+use Rattle.golden_shelf.specs.declared.issue.Issue.{Issue}
+use Rattle.golden_shelf.specs.Keys.{is_of, key_texts}
+use Rattle.golden_shelf.specs.Lines.{Line, line_of}
+
+-- ---- the latest publication
+
+-- The last of these publications, of which there is a first.
+abbrev pub last_behind : Publication → Trail → Publication
+last_behind first [] = first
+last_behind first (next ∷ later) = last_behind next later
+
+-- The latest publication of a trail, if there is one.
+abbrev pub latest : Trail → Option Publication
+latest [] = None
+latest (first ∷ later) = Some (last_behind first later)
+
+-- The rows of a publication, and no rows without one.
+abbrev pub rows_in : Option Publication → Sheet → List SheetRow
+rows_in None = no_rows
+rows_in (Some publication) = publication.rows
+
+-- The rows of the latest publication, by sheet.
+abbrev pub latest_rows : Trail → Sheet → List SheetRow
+latest_rows trail = rows_in (latest trail)
+
+-- ---- what is kept
+
+-- What is kept: of each publication its moment and the keys that changed, and of the latest one the texts of its rows under
+-- their keys.
+pub record Kept : Type 0 where
+  pub issues : List Issue
+  pub lei : List Line
+  pub rr : List Line
+  pub repex : List Line
+
+-- The lines of a sheet.
+abbrev pub lines_of : Kept → Sheet → List Line
+lines_of kept Sheet.Lei = kept.lei
+lines_of kept Sheet.Rr = kept.rr
+lines_of kept Sheet.Repex = kept.repex
+
+-- Without publications.
+abbrev pub nothing_kept : Kept
+nothing_kept = record { issues = []; lei = []; rr = []; repex = [] }
+
+-- What contracts see of a shelf: what it keeps, and what it kept before the last publication, where this can be taken back.
+pub record ShelfState : Type 0 where
+  pub now : Kept
+  pub before : Option Kept
+
+-- ---- shelves of trails
+
+-- This is kept of a publication.
+pub record IsIssueOf (issue : Issue) (publication : Publication) : Type 0 where
+  pub moment_is : issue.moment ≡ publication.moment
+  pub touched_are : (sheet : Sheet) → publication.touched sheet ≡ map key_texts (filter (is_of sheet) issue.keys)
+
+-- Of each publication of a trail this is kept, in their order.
+abbrev pub AreIssuesOf : List Issue → Trail → Type 0
+AreIssuesOf [] [] = ⊤
+AreIssuesOf (issue ∷ issues) (publication ∷ trail) = IsIssueOf issue publication × AreIssuesOf issues trail
+AreIssuesOf issues trail = ⊥
+
+-- A trail is kept so: it is sound, its publications are those that something is kept of, and the lines of each sheet are
+-- those of the latest rows.
+pub record Keeps (trail : Trail) (kept : Kept) : Type 0 where
+  pub sound : IsSound trail
+  pub issues_are : AreIssuesOf kept.issues trail
+  pub lines_are : (sheet : Sheet) → lines_of kept sheet ≡ map line_of (latest_rows trail sheet)

@@ -1,0 +1,108 @@
+// The lines of a sheet: keys beside the texts of their rows, so that the texts are one slice.
+ghost use Rattle.std.specs.Prelude.{◌≡◌, ◌<◌, ◌≤◌, ◌++◌, ◌∷◌, [], MatchOption, length, map, option_map, ◌-◌, ℕ, OnOk};
+ghost use Rattle.std.specs.List.{slice_get};
+ghost use Rattle.golden_shelf.specs.Keys.{key_texts};
+
+use copy_csv::RowTexts;
+use lei_outside::NoMemory;
+use lei_records::RowKey;
+use std::alloc::Global;
+use std::marker::Model;
+
+/// A key with the texts of its row, or with none.
+#[derive(Drop)]
+pub struct Note {
+    pub key: RowKey,
+    pub texts: Option<RowTexts>,
+}
+
+/// Lines, and the number of those for which there is room in all. Contracts see both.
+#[derive(Drop)]
+pub struct Lines {
+    keys: Vec<RowKey>,
+    texts: Vec<RowTexts>,
+    room: usize,
+}
+
+impl Model for Lines {
+    ghost use Rattle.std.specs.Prelude.{◌≡◌, ◌≤◌, length, vec_capacity};
+    ghost use Rattle.golden_shelf.specs.Beside.{LinesState, lines_in};
+
+    ghost Value = { LinesState };
+
+    ghost view = { λ l. record { lines = lines_in l.keys.items l.texts.items; room = l.room } };
+
+    ghost invariant = { λ l. (length l.keys.items ≡ length l.texts.items) × (l.room ≤ vec_capacity l.keys) × (l.room ≤ vec_capacity l.texts) };
+}
+
+impl Lines {
+    /// No lines, with no room.
+    pub fn new(alloc: Global) -> Self
+        ensures lines { result.lines ≡ [] }
+        ensures room { result.room ≡ 0 }
+    {
+        Lines {
+            keys: Vec::new(alloc),
+            texts: Vec::new(alloc),
+            room: 0,
+        }
+    }
+
+    /// How many they are.
+    pub fn len(&self) -> usize
+        ensures { result ≡ length self.now.lines }
+    {
+        self.texts.len()
+    }
+
+    /// The texts of all lines.
+    pub fn texts(&self) -> &[RowTexts]
+        ensures { result.now ≡ map (λ line. line.1) self.now.lines }
+    {
+        self.texts.as_slice()
+    }
+
+    /// The last key.
+    pub fn last_key(&self) -> Option<&RowKey>
+        ensures { option_map (λ key. key_texts key.now) result ≡ slice_get (map (λ line. line.0) self.now.lines) (length self.now.lines - 1) }
+    {
+        self.keys.as_slice().last()
+    }
+
+    /// Makes room for so many lines in all.
+    pub fn reserve(&mut self, total: usize) -> Result<(), NoMemory>
+        requires { length self.old.lines ≤ total }
+        ensures lines { self.new.lines ≡ self.old.lines }
+        ensures room { OnOk result (total ≤ self.new.room) }
+        ensures stays { self.old.room ≤ self.new.room }
+        ensures most { (bound : ℕ) → self.old.room ≤ bound → total ≤ bound → self.new.room ≤ bound }
+    {
+        if total <= self.room {
+            return Ok(());
+        }
+        self.keys.reserve(total - self.keys.len())?;
+        self.texts.reserve(total - self.texts.len())?;
+        self.room = total;
+        Ok(())
+    }
+
+    /// Puts a line behind the others, for which there is room.
+    pub fn push_reserved(&mut self, key: RowKey, texts: RowTexts)
+        requires { length self.old.lines < self.old.room }
+        ensures lines { self.new.lines ≡ self.old.lines ++ (key_texts key, texts) ∷ [] }
+        ensures room { self.new.room ≡ self.old.room }
+    {
+        self.keys.push_reserved(key);
+        self.texts.push_reserved(texts);
+    }
+
+    /// Takes the last line.
+    pub fn pop(&mut self) -> Option<(RowKey, RowTexts)>
+        ensures line { MatchOption result ((self.old.lines ≡ []) × (self.new.lines ≡ [])) (λ line. self.old.lines ≡ self.new.lines ++ (key_texts line.0, line.1) ∷ []) }
+        ensures room { self.new.room ≡ self.old.room }
+    {
+        let key = self.keys.pop()?;
+        let texts = self.texts.pop()?;
+        Some((key, texts))
+    }
+}

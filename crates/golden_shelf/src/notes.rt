@@ -1,0 +1,101 @@
+// The changes of a publication, rendered and parted by sheet.
+ghost use Rattle.std.specs.Prelude.{◌≡◌, ◌+◌, ◌++◌, ◌∷◌, [], IfOk, OnOk, length, map};
+ghost use Rattle.std.specs.List.{AllZip, filter};
+ghost use Rattle.copy_csv.specs.declared.sheets.Sheet.{Sheet as DeclaredSheet};
+ghost use Rattle.golden_shelf.specs.Keys.{is_of};
+ghost use Rattle.golden_shelf.specs.Sides.{IsNoteOf};
+
+use crate::lines::Note;
+use copy_csv::Row;
+use copy_forms::row_texts;
+use lei_outside::{List, NoMemory};
+use lei_records::RowKey;
+use std::alloc::Global;
+use std::sync::ledger::Ledger;
+use std::thread::Threads;
+use worker_pool::{Steps, map_list};
+
+/// Notes by sheet.
+#[derive(Drop)]
+pub struct Parts {
+    pub lei: Vec<Note>,
+    pub rr: Vec<Note>,
+    pub repex: Vec<Note>,
+}
+
+/// A change, its row rendered.
+pub fn render(alloc: Global, change: &(RowKey, Option<Row>)) -> Result<Note, NoMemory>
+    ensures { IfOk result (λ note. IsNoteOf change.now note) }
+{
+    let texts = match &change.1 {
+        Some(row) => Some(row_texts(alloc, row)?),
+        None => None,
+    };
+    Ok(Note {
+        key: change.0,
+        texts,
+    })
+}
+
+/// The notes of all changes, rendered in as many threads as there are processors. Each change is a step.
+pub fn render_all<L: Ledger, R: Threads + Sync>(
+    rt: &R,
+    alloc: Global,
+    changes: &[(RowKey, Option<Row>)],
+    steps: &mut Steps<L>,
+) -> Result<Vec<Note>, NoMemory>
+    ensures notes { IfOk result (λ notes. AllZip IsNoteOf changes.now notes.items) }
+    ensures steps { steps.new ≡ steps.old + length changes.now }
+{
+    map_list(
+        rt,
+        alloc,
+        changes,
+        |change: &(RowKey, Option<Row>)| -> Result<Note, NoMemory>
+            ensures { IfOk result (λ note. IsNoteOf change.now note) }
+        { render(alloc, change) },
+        steps,
+    )
+}
+
+/// Notes by sheet, each in the part of its key's.
+pub fn parted(alloc: Global, notes: Vec<Note>) -> Result<Parts, NoMemory>
+    ensures lei { IfOk result (λ parts. parts.lei.items ≡ filter (λ note. is_of DeclaredSheet.Lei note.key) notes.items) }
+    ensures rr { IfOk result (λ parts. parts.rr.items ≡ filter (λ note. is_of DeclaredSheet.Rr note.key) notes.items) }
+    ensures repex { IfOk result (λ parts. parts.repex.items ≡ filter (λ note. is_of DeclaredSheet.Repex note.key) notes.items) }
+{
+    let mut parts = Parts {
+        lei: Vec::new(alloc),
+        rr: Vec::new(alloc),
+        repex: Vec::new(alloc),
+    };
+    for note in notes {
+        put_part(&mut parts, note)?;
+    }
+    Ok(parts)
+}
+
+// Puts a note behind those of its sheet.
+fn put_part(parts: &mut Parts, note: Note) -> Result<(), NoMemory>
+    ensures lei { OnOk result (parts.new.lei.items ≡ parts.old.lei.items ++ filter (λ note. is_of DeclaredSheet.Lei note.key) (note ∷ [])) }
+    ensures rr { OnOk result (parts.new.rr.items ≡ parts.old.rr.items ++ filter (λ note. is_of DeclaredSheet.Rr note.key) (note ∷ [])) }
+    ensures repex { OnOk result (parts.new.repex.items ≡ parts.old.repex.items ++ filter (λ note. is_of DeclaredSheet.Repex note.key) (note ∷ [])) }
+{
+    match note.key {
+        RowKey::Rec(_) => parts.lei.push(note)?,
+        RowKey::Rel(_, _, _) => parts.rr.push(note)?,
+        RowKey::Exc(_, _) => parts.repex.push(note)?,
+    }
+    Ok(())
+}
+
+/// The keys of changes.
+pub fn keys_of(alloc: Global, changes: &[(RowKey, Option<Row>)]) -> Result<List<RowKey>, NoMemory>
+    ensures { IfOk result (λ keys. keys ≡ map (λ change. change.0) changes.now) }
+{
+    let mut keys = Vec::with_capacity(alloc, changes.len())?;
+    for change in changes {
+        keys.push(change.0)?;
+    }
+    Ok(List::from(keys))
+}

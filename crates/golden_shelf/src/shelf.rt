@@ -1,0 +1,153 @@
+//! The shelf.
+ghost use Rattle.std.specs.Prelude.{◌≡◌, ◌+◌, ◌<◌, ◌≤◌, ◌++◌, ◌∷◌, ◌↔◌, [], None, Some, List as Items, IfOk, IsErrOf, IsSome, OnErr, OnOk, length, option_map};
+ghost use Rattle.copy_csv.specs.declared.sheets.Sheet.{Sheet as DeclaredSheet};
+ghost use Rattle.copy_forms.specs.Trails.{Publication, Trail, copy_of};
+ghost use Rattle.golden_shelf.specs.declared.fault.ShelfFault.{ShelfFault as DeclaredFault};
+ghost use Rattle.golden_shelf.specs.Changes.{AreOwnChanges, IsIssued};
+ghost use Rattle.golden_shelf.specs.Shelves.{Keeps, latest, latest_rows, nothing_kept};
+
+use crate::fault::ShelfFault;
+use crate::issue::Issue;
+use crate::notes::{keys_of, parted, render_all};
+use crate::sides::Sides;
+use copy_csv::{Form, Head, Row, Sheet};
+use copy_forms::copy_text;
+use lei_outside::{Bytes, List, NoMemory};
+use lei_records::RowKey;
+use lei_shapes::Moment;
+use std::alloc::Global;
+use std::marker::Model;
+use std::sync::ledger::Ledger;
+use std::thread::Threads;
+use worker_pool::Steps;
+
+/// Publications one behind the other, of which the latest can be copied. Each row is rendered once, when it is published.
+/// Contracts see what is kept of the publications, and what was kept before the last one, where that can be taken back.
+#[derive(Drop)]
+pub struct Shelf {
+    alloc: Global,
+    issues: Vec<Issue>,
+    sides: Sides,
+    // Whether the last publication can be taken back.
+    undoable: bool,
+}
+
+impl Model for Shelf {
+    ghost use Rattle.std.specs.Prelude.{◌≤◌, ◌<◌, None, Some, if◌then◌else◌, length, IsTrue};
+    ghost use Rattle.golden_shelf.specs.Shelves.{ShelfState};
+    ghost use Rattle.golden_shelf.specs.Parts.{before_of, kept_of};
+
+    ghost Value = { ShelfState };
+
+    ghost view = { λ s. record {
+      now = kept_of s.issues.items s.sides;
+      before = if s.undoable then Some (before_of s.issues.items s.sides) else None;
+    } };
+
+    ghost invariant = { λ s. length s.issues.items ≤ 1_000_000 };
+}
+
+impl Shelf {
+    /// A shelf without publications.
+    pub fn new(alloc: Global) -> Result<Self, NoMemory>
+        ensures kept { IfOk result (λ shelf. shelf.now ≡ nothing_kept) }
+        ensures keeps { IfOk result (λ shelf. Keeps [] shelf.now) }
+        ensures before { IfOk result (λ shelf. shelf.before ≡ None) }
+    {
+        Ok(Shelf {
+            alloc,
+            issues: Vec::new(alloc),
+            sides: Sides::new(alloc),
+            undoable: false,
+        })
+    }
+
+    /// Publishes the rows of the latest publication with these changes: of each key its row now, or none where the key has
+    /// no row any more. Each change is a step, and no other row is rendered. The condition is that keys are those of their
+    /// rows and rise within each sheet, and that there were fewer than 1,000,000 publications. Where memory is wanting, all
+    /// stays as it was, also what can be taken back.
+    pub fn publish<L: Ledger, R: Threads + Sync>(
+        &mut self,
+        rt: &R,
+        moment: Moment,
+        changes: &[(RowKey, Option<Row>)],
+        steps: &mut Steps<L>,
+    ) -> Result<(), NoMemory>
+        requires changes { AreOwnChanges changes.now }
+        requires few { length self.old.now.issues < 1_000_000 }
+        ensures next { OnOk result ((trail : Trail) (next : Publication) → Keeps trail self.old.now
+            → IsIssued (latest_rows trail) moment changes.now next → Keeps (trail ++ next ∷ []) self.new.now) }
+        ensures before { OnOk result (self.new.before ≡ Some self.old.now) }
+        ensures count { OnOk result (length self.new.now.issues ≡ length self.old.now.issues + 1) }
+        ensures err { OnErr result (self.new ≡ self.old) }
+        ensures steps { steps.new ≤ steps.old + length changes.now }
+        ensures steps_stay { steps.old ≤ steps.new }
+    {
+        let alloc = self.alloc;
+        // A moment is within the range of moments.
+        let _ = moment.seconds();
+        let notes = render_all(rt, alloc, changes, steps)?;
+        let parts = parted(alloc, notes)?;
+        let keys = keys_of(alloc, changes)?;
+        self.issues.reserve(1)?;
+        self.sides.make_room(&parts)?;
+        self.sides.put(parts);
+        self.issues.push_reserved(Issue { moment, keys });
+        self.undoable = true;
+        Ok(())
+    }
+
+    /// Takes back the last publication. It takes no memory. The condition is that there is something to take back.
+    pub fn undo(&mut self)
+        requires { IsSome self.old.before }
+        ensures now { Some self.new.now ≡ self.old.before }
+        ensures before { self.new.before ≡ None }
+    {
+        self.sides.take_back();
+        let _ = self.issues.pop();
+        self.undoable = false;
+    }
+
+    /// The copy of a sheet in the latest publication, joined of texts that are kept.
+    pub fn copy(&self, sheet: Sheet, form: Form) -> Result<Bytes, ShelfFault>
+        ensures nothing { IsErrOf result DeclaredFault.NothingPublished ↔ (self.now.now.issues ≡ []) }
+        ensures copy { IfOk result (λ bytes. (trail : Trail) (last : Publication) → Keeps trail self.now.now
+            → latest trail ≡ Some last → bytes ≡ copy_of (length trail) last sheet form) }
+    {
+        let Some(latest) = self.latest() else {
+            return Err(ShelfFault::NothingPublished);
+        };
+        let head = Head {
+            moment: latest.1,
+            publication: latest.0,
+            from: 0,
+        };
+        match copy_text(self.alloc, sheet, form, &head, self.sides.texts(sheet)) {
+            Ok(text) => Ok(text),
+            Err(NoMemory) => Err(ShelfFault::NoMemory),
+        }
+    }
+
+    /// How many rows the latest publication has: records, relationships and exceptions.
+    pub fn counts(&self) -> (u64, u64, u64)
+        ensures lei { (trail : Trail) → Keeps trail self.now.now → result.0 ≡ length (latest_rows trail DeclaredSheet.Lei) }
+        ensures rr { (trail : Trail) → Keeps trail self.now.now → result.1 ≡ length (latest_rows trail DeclaredSheet.Rr) }
+        ensures repex { (trail : Trail) → Keeps trail self.now.now → result.2 ≡ length (latest_rows trail DeclaredSheet.Repex) }
+    {
+        (
+            self.sides.lei.len() as u64,
+            self.sides.rr.len() as u64,
+            self.sides.repex.len() as u64,
+        )
+    }
+
+    /// The number and the moment of the latest publication.
+    pub fn latest(&self) -> Option<(u32, Moment)>
+        ensures latest { (trail : Trail) → Keeps trail self.now.now
+            → result ≡ option_map (λ last. (length trail, last.moment)) (latest trail) }
+        ensures none { (result ≡ None) ↔ (self.now.now.issues ≡ []) }
+    {
+        let issue = self.issues.as_slice().last()?;
+        Some((self.issues.len() as u32, issue.moment))
+    }
+}

@@ -1,0 +1,97 @@
+// The lines of one sheet, with what the last publication replaced among them.
+ghost use Rattle.std.specs.Prelude.{◌≡◌, ◌+◌, ◌≤◌, [], length, map, IfSome, OnOk};
+ghost use Rattle.golden_shelf.specs.Lines.{with_lines};
+ghost use Rattle.golden_shelf.specs.Sides.{AreRisingChanges, HasRoom, IsChanged, IsSame, notes_of};
+
+use crate::lines::{Lines, Note};
+use crate::rest::Rest;
+use crate::weaving::weave;
+use copy_csv::RowTexts;
+use lei_outside::NoMemory;
+use std::alloc::Global;
+use std::marker::Model;
+
+/// The lines of a sheet, and notes of what the last publication replaced. Contracts see also for how many lines there is
+/// room.
+#[derive(Drop)]
+pub struct Side {
+    rows: Lines,
+    rest: Rest,
+    notes: Vec<Note>,
+}
+
+impl Model for Side {
+    ghost use Rattle.golden_shelf.specs.Sides.{AreSide, SideState, notes_of};
+
+    ghost Value = { SideState };
+
+    ghost view = { λ s. record { lines = s.rows.lines; notes = notes_of s.notes.items; room = s.rest.room } };
+
+    ghost invariant = { λ s. AreSide s.rows s.rest (notes_of s.notes.items) };
+}
+
+impl Side {
+    /// No lines.
+    pub fn new(alloc: Global) -> Self
+        ensures lines { result.lines ≡ [] }
+        ensures notes { result.notes ≡ [] }
+    {
+        Side {
+            rows: Lines::new(alloc),
+            rest: Rest::new(alloc),
+            notes: Vec::new(alloc),
+        }
+    }
+
+    /// How many lines there are.
+    pub fn len(&self) -> usize
+        ensures { result ≡ length self.now.lines }
+    {
+        self.rows.len()
+    }
+
+    /// The texts of all lines, in order.
+    pub fn texts(&self) -> &[RowTexts]
+        ensures { result.now ≡ map (λ line. line.1) self.now.lines }
+    {
+        self.rows.texts()
+    }
+
+    /// Makes room to put so many changes and to take them back.
+    pub fn make_room(&mut self, changes: usize) -> Result<(), NoMemory>
+        ensures same { IsSame self.old self.new }
+        ensures room { OnOk result (length self.old.lines + changes + changes ≤ self.new.room) }
+    {
+        let Some(total) = total_of(self.rows.len(), changes) else {
+            return Err(NoMemory);
+        };
+        self.rows.reserve(total)?;
+        self.rest.reserve(total)
+    }
+
+    /// Puts changes, for which there is room, and notes what they replace.
+    pub fn put(&mut self, changes: Vec<Note>)
+        requires rising { AreRisingChanges (notes_of changes.items) }
+        requires room { HasRoom self.old changes.items }
+        ensures { IsChanged self.old self.new changes.items }
+    {
+        self.notes = changes;
+        weave(&mut self.rows, &mut self.rest, self.notes.as_mut_slice());
+    }
+
+    /// Takes back what was put last.
+    pub fn take_back(&mut self)
+        ensures lines { self.new.lines ≡ with_lines self.old.lines self.old.notes }
+        ensures notes { self.new.notes ≡ [] }
+    {
+        weave(&mut self.rows, &mut self.rest, self.notes.as_mut_slice());
+        self.notes.clear();
+    }
+}
+
+// So many lines and twice as many changes, unless it is too large a number.
+fn total_of(lines: usize, changes: usize) -> Option<usize>
+    ensures { IfSome result (λ total. total ≡ lines + changes + changes) }
+{
+    lines.checked_add(changes)?.checked_add(changes)
+}
