@@ -1,5 +1,5 @@
 -- Answers, each an Ok, and what is in them.
-use Rattle.std.proofs.Common.{◌≡◌, List, [], ◌∷◌, map, subst, refl, sym, Ok, Bor}
+use Rattle.std.proofs.Common.{◌≡◌, List, [], ◌∷◌, map, subst, refl, Ok, Bor}
 use Rattle.std.specs.Prelude.{IfOk, MatchResult, Result, Err}
 use Rattle.std.specs.Fn.{FnReturnsAt, Shared}
 use Rattle.std.specs.List.{AllZip}

@@ -18,13 +18,7 @@ pub fn map_list<
     L: Ledger,
     F: Fn(&T) -> Result<U, NoMemory> + Copy + Send + Sync,
     R: Threads + Sync,
->(
-    rt: &R,
-    alloc: Global,
-    list: &[T],
-    work: F,
-    steps: &mut Steps<L>,
-) -> Result<Vec<U>, NoMemory>
+>(rt: &R, alloc: Global, list: &[T], work: F, steps: &mut Steps<L>) -> Result<Vec<U>, NoMemory>
     requires { F.IsAlwaysCallable work }
     ensures answers { IfOk result (λ made. AllZip (λ x u. FnReturnsAt F.Fn work x (Ok u)) list.now made.items) }
     ensures steps { steps.new ≡ steps.old + length list.now }
