@@ -1,7 +1,4 @@
 //! Why a text isn't given.
-ghost use Rattle.golden_shelf.specs.declared.fault.ShelfFault.TheVariants.{NoMemory as WithoutMemory};
-
-use lei_outside::NoMemory;
 
 /// Why a shelf doesn't give a text.
 #[derive(Clone, Copy, Debug, PartialEq, Eq)]

@@ -1,5 +1,5 @@
 //! The shelf.
-ghost use Rattle.std.specs.Prelude.{◌≡◌, ◌+◌, ◌<◌, ◌≤◌, ◌++◌, ◌∷◌, ◌↔◌, [], None, Some, List as Items, IfOk, IsErrOf, IsSome, OnErr, OnOk, length, option_map};
+ghost use Rattle.std.specs.Prelude.{◌≡◌, ◌+◌, ◌<◌, ◌≤◌, ◌++◌, ◌∷◌, ◌↔◌, ◌⊎◌, [], None, Some, List as Items, IfErr, IfOk, IsErrOf, IsSome, OnErr, OnOk, length, option_map};
 ghost use Rattle.copy_csv.specs.declared.sheets.Sheet.{Sheet as DeclaredSheet};
 ghost use Rattle.copy_forms.specs.Trails.{Publication, Trail, copy_of};
 ghost use Rattle.golden_shelf.specs.declared.fault.ShelfFault.{ShelfFault as DeclaredFault};
@@ -113,6 +113,7 @@ impl Shelf {
         ensures nothing { IsErrOf result DeclaredFault.NothingPublished ↔ (self.now.now.issues ≡ []) }
         ensures copy { IfOk result (λ bytes. (trail : Trail) (last : Publication) → Keeps trail self.now.now
             → latest trail ≡ Some last → bytes ≡ copy_of (length trail) last sheet form) }
+        ensures faults { IfErr result (λ fault. (fault ≡ DeclaredFault.NothingPublished) ⊎ (fault ≡ DeclaredFault.NoMemory)) }
     {
         let Some(latest) = self.latest() else {
             return Err(ShelfFault::NothingPublished);
