@@ -7,10 +7,12 @@ use keeper_sqlite::SqliteKeeper;
 use lei_outside::{Batch, Bytes, KeepFault, Keeper, KeptCell, KeptEntry, List, NoMemory};
 use sqlite::{File, FileStore};
 use std::alloc::Global;
-use std::fmt::Write;
 use std::test::Fail;
 
 type FileKeeper = SqliteKeeper<FileStore<File>>;
+
+// A cell by the number of its entry, its name and its row, which is empty where it has none.
+type Line = (u64, &'static str, &'static str);
 
 // An entry with this number. Its other numbers are the last or the first of their types, and its answer is no text.
 fn entry(alloc: Global, seq: u64) -> Result<KeptEntry, NoMemory> {
@@ -26,25 +28,33 @@ fn entry(alloc: Global, seq: u64) -> Result<KeptEntry, NoMemory> {
     })
 }
 
-// A batch of one cell with this row, or with none where it is empty.
-fn batch(alloc: Global, seq: u64, kind: u8, name: &str, row: &str) -> Result<Batch, NoMemory> {
-    let row = if row.is_empty() {
-        None
+fn entries(alloc: Global, seqs: &[u64]) -> Result<List<KeptEntry>, NoMemory> {
+    let mut list = Vec::new(alloc);
+    for seq in seqs {
+        list.push(entry(alloc, *seq)?)?;
+    }
+    Ok(List::from(list))
+}
+
+fn row(alloc: Global, text: &str) -> Result<Option<Bytes>, NoMemory> {
+    if text.is_empty() {
+        Ok(None)
     } else {
-        Some(Bytes::copy_of(alloc, row.as_bytes())?)
-    };
-    let cell = KeptCell {
-        kind,
-        name: Bytes::copy_of(alloc, name.as_bytes())?,
-        touched: seq,
-        row,
-    };
-    let mut cells = Vec::new(alloc);
-    cells.push(cell)?;
-    Ok(Batch {
-        entry: entry(alloc, seq)?,
-        cells: List::from(cells),
-    })
+        Ok(Some(Bytes::copy_of(alloc, text.as_bytes())?))
+    }
+}
+
+fn cells(alloc: Global, lines: &[Line]) -> Result<List<KeptCell>, NoMemory> {
+    let mut list = Vec::new(alloc);
+    for (touched, name, text) in lines {
+        list.push(KeptCell {
+            kind: 1,
+            name: Bytes::copy_of(alloc, name.as_bytes())?,
+            touched: *touched,
+            row: row(alloc, text)?,
+        })?;
+    }
+    Ok(List::from(list))
 }
 
 // Whether it is a batch that may be committed, of one cell.
@@ -65,159 +75,151 @@ fn is_cell_of(seq: u64, cell: &KeptCell) -> bool
     cell.touched == seq && cell.name.as_slice().is_ascii()
 }
 
-// What becomes of a batch, in a word.
-fn commit(keeper: &mut FileKeeper, batch: &Batch) -> &'static str {
-    if !is_batch(batch) {
-        return "no batch";
-    }
-    match keeper.commit(batch) {
-        Ok(()) => "kept",
-        Err(KeepFault::Failed) => "failed",
-        Err(KeepFault::NoMemory) => "no memory",
+fn batch(alloc: Global, line: Line) -> Result<Batch, NoMemory> {
+    let entry = entry(alloc, line.0)?;
+    let cells = cells(alloc, &[line])?;
+    Ok(Batch { entry, cells })
+}
+
+// Commits a batch. What is none isn't committed, and is told as want of memory.
+fn commit(keeper: &mut FileKeeper, batch: &Batch) -> Result<(), KeepFault> {
+    if is_batch(batch) {
+        keeper.commit(batch)
+    } else {
+        Err(KeepFault::NoMemory)
     }
 }
 
-// The numbers of the entries of a range, each with a mark where the entry isn't the one that was kept.
-fn put_entries(
-    text: &mut String,
+// Whether the batch of this cell is kept, or fails.
+fn comes_to(
+    keeper: &mut FileKeeper,
+    alloc: Global,
+    line: Line,
+    wanted: Result<(), KeepFault>,
+) -> bool {
+    match batch(alloc, line) {
+        Ok(batch) => commit(keeper, &batch) == wanted,
+        Err(_) => false,
+    }
+}
+
+fn tells_last(keeper: &mut FileKeeper, wanted: Result<u64, KeepFault>) -> bool {
+    keeper.last() == wanted
+}
+
+// Whether these are the entries of the range.
+fn tells_entries(
     keeper: &mut FileKeeper,
     alloc: Global,
     after: u64,
     upto: u64,
-) -> Result<(), Fail> {
-    let list = keeper.entries(after, upto)?;
-    for told in list.as_slice() {
-        let mark = if *told == entry(alloc, told.seq)? {
-            ""
-        } else {
-            "?"
-        };
-        write!(text, "{}{mark} ", told.seq)?;
+    seqs: &[u64],
+) -> bool {
+    match entries(alloc, seqs) {
+        Ok(wanted) => keeper.entries(after, upto) == Ok(wanted),
+        Err(_) => false,
     }
-    Ok(())
 }
 
-// The cells of a range, each by its kind, its name, its entry and its row.
-fn put_cells(
-    text: &mut String,
+// Whether these are the cells of the range.
+fn tells_cells(
     keeper: &mut FileKeeper,
+    alloc: Global,
     after: u64,
     upto: u64,
-) -> Result<(), Fail> {
-    let list = keeper.cells(after, upto)?;
-    for told in list.as_slice() {
-        let row = match &told.row {
-            Some(row) => text_of(row),
-            None => "-",
-        };
-        write!(
-            text,
-            "{} {} {} {row} ",
-            told.kind,
-            text_of(&told.name),
-            told.touched
-        )?;
+    lines: &[Line],
+) -> bool {
+    match cells(alloc, lines) {
+        Ok(wanted) => keeper.cells(after, upto) == Ok(wanted),
+        Err(_) => false,
     }
-    Ok(())
 }
 
-fn text_of(bytes: &Bytes) -> &str {
-    std::str::from_utf8(bytes.as_slice()).unwrap_or("?")
+fn entries_fail(keeper: &mut FileKeeper) -> bool {
+    keeper.entries(0, 1) == Err(KeepFault::Failed)
 }
 
-// The last number, all entries and those of a range, all cells and those of the range, and the count of faults.
-fn told(keeper: &mut FileKeeper, alloc: Global) -> Result<String, Fail> {
-    let mut text = String::new(alloc);
-    write!(text, "{}: ", keeper.last()?)?;
-    put_entries(&mut text, keeper, alloc, 0, u64::MAX)?;
-    text.push_str("of which ")?;
-    put_entries(&mut text, keeper, alloc, 1, 2)?;
-    put_cells(&mut text, keeper, 0, u64::MAX)?;
-    text.push_str("of which ")?;
-    put_cells(&mut text, keeper, 1, 2)?;
-    write!(text, "faults {}", keeper.faults())?;
-    Ok(text)
+fn cells_fail(keeper: &mut FileKeeper) -> bool {
+    keeper.cells(0, 1) == Err(KeepFault::Failed)
 }
-
-const KEPT: &str = "3: 1 2 3 of which 2 1 A B 3 [1] 1 B 2 - of which 1 B 2 - faults ";
 
 // Keeps three batches, of which the second takes the row of the first one's cell away.
-fn keep_three(keeper: &mut FileKeeper, alloc: Global) -> Result<bool, Fail> {
-    let first = commit(keeper, &batch(alloc, 1, 1, "B", "{}")?) == "kept";
-    let second = commit(keeper, &batch(alloc, 2, 1, "B", "")?) == "kept";
-    let third = commit(keeper, &batch(alloc, 3, 1, "A B", "[1]")?) == "kept";
-    Ok(first && second && third)
+fn keep(keeper: &mut FileKeeper, alloc: Global) -> bool {
+    comes_to(keeper, alloc, (1, "B", "{}"), Ok(()))
+        && comes_to(keeper, alloc, (2, "B", ""), Ok(()))
+        && comes_to(keeper, alloc, (3, "A B", "[1]"), Ok(()))
 }
 
-// A keeper is let go once in a function: each place where it is costs a proof of its own.
-fn first_session(rt: &HostRuntime) -> Result<bool, Fail> {
-    let mut keeper = SqliteKeeper::on_file(rt, "kept.db");
-    keep_three(&mut keeper, rt.alloc())
+// Whether all is told, whole and by ranges.
+fn tell(keeper: &mut FileKeeper, alloc: Global) -> bool {
+    tells_last(keeper, Ok(3))
+        && tells_entries(keeper, alloc, 0, u64::MAX, &[1, 2, 3])
+        && tells_entries(keeper, alloc, 1, 2, &[2])
+        && tells_cells(
+            keeper,
+            alloc,
+            0,
+            u64::MAX,
+            &[(3, "A B", "[1]"), (2, "B", "")],
+        )
+        && tells_cells(keeper, alloc, 1, 2, &[(2, "B", "")])
 }
 
-fn later_session(rt: &HostRuntime) -> Result<String, Fail> {
-    let mut keeper = SqliteKeeper::on_file(rt, "kept.db");
-    told(&mut keeper, rt.alloc())
+// Commits the last entry once more, with another cell, which fails and changes nothing.
+fn refuse(keeper: &mut FileKeeper, alloc: Global) -> bool {
+    comes_to(keeper, alloc, (3, "C", "{}"), Err(KeepFault::Failed))
+        && keeper.faults() == 1
+        && tell(keeper, alloc)
 }
 
-// Commits the last entry once more, with another cell.
-fn refused_then_told(keeper: &mut FileKeeper, alloc: Global) -> Result<String, Fail> {
-    let again = batch(alloc, 3, 1, "C", "{}")?;
-    if commit(keeper, &again) != "failed" {
-        return Err(Fail::from("a commit that fails"));
+// Whether each of the four calls fails and is counted.
+fn fail(keeper: &mut FileKeeper, alloc: Global) -> bool {
+    tells_last(keeper, Err(KeepFault::Failed))
+        && entries_fail(keeper)
+        && cells_fail(keeper)
+        && comes_to(keeper, alloc, (1, "A", "{}"), Err(KeepFault::Failed))
+        && keeper.faults() == 4
+}
+
+#[derive(Clone, Copy)]
+enum Session {
+    Keep,
+    Tell,
+    Refuse,
+    Fail,
+}
+
+fn run(keeper: &mut FileKeeper, alloc: Global, session: Session) -> bool {
+    match session {
+        Session::Keep => keep(keeper, alloc),
+        Session::Tell => tell(keeper, alloc),
+        Session::Refuse => refuse(keeper, alloc),
+        Session::Fail => fail(keeper, alloc),
     }
-    told(keeper, alloc)
 }
 
-fn refused_session(rt: &HostRuntime) -> Result<String, Fail> {
-    let mut keeper = SqliteKeeper::on_file(rt, "kept.db");
-    refused_then_told(&mut keeper, rt.alloc())
+// Opens the file for one session. The keeper is let go here alone, since each place where it is costs a proof of its own.
+fn open(rt: &HostRuntime, path: &str, session: Session) -> bool {
+    let mut keeper = SqliteKeeper::on_file(rt, path);
+    run(&mut keeper, rt.alloc(), session)
 }
 
 #[test]
 fn what_was_kept_is_there_after_opening_again(rt: HostRuntime) -> Result<(), Fail> {
-    assert!(rt; first_session(&rt)?);
-    let again = later_session(&rt)?;
-    assert_eq!(rt; again.strip_prefix(KEPT), Some("0"));
+    assert!(rt; open(&rt, "kept.db", Session::Keep));
+    assert!(rt; open(&rt, "kept.db", Session::Tell));
     Ok(())
 }
 
 #[test]
 fn a_number_that_is_there_is_refused_whole(rt: HostRuntime) -> Result<(), Fail> {
-    assert!(rt; first_session(&rt)?);
-    let refused = refused_session(&rt)?;
-    assert_eq!(rt; refused.strip_prefix(KEPT), Some("1"));
+    assert!(rt; open(&rt, "kept.db", Session::Keep));
+    assert!(rt; open(&rt, "kept.db", Session::Refuse));
     Ok(())
-}
-
-// How many of the four calls fail.
-fn failing(keeper: &mut FileKeeper, batch: &Batch) -> u64 {
-    let mut count = 0u64;
-    if keeper.last() == Err(KeepFault::Failed) {
-        count = count.saturating_add(1);
-    }
-    if keeper.entries(0, 1) == Err(KeepFault::Failed) {
-        count = count.saturating_add(1);
-    }
-    if keeper.cells(0, 1) == Err(KeepFault::Failed) {
-        count = count.saturating_add(1);
-    }
-    if commit(keeper, batch) == "failed" {
-        count = count.saturating_add(1);
-    }
-    count
-}
-
-// How many calls fail where there is no such folder, and how many were counted.
-fn failing_session(rt: &HostRuntime, batch: &Batch) -> (u64, u64) {
-    let mut keeper = SqliteKeeper::on_file(rt, "no folder/kept.db");
-    let failed = failing(&mut keeper, batch);
-    (failed, keeper.faults())
 }
 
 #[test]
 fn each_call_fails_where_the_file_cannot_be_opened(rt: HostRuntime) -> Result<(), Fail> {
-    let first = batch(rt.alloc(), 1, 1, "A", "{}")?;
-    assert_eq!(rt; failing_session(&rt, &first), (4, 4));
+    assert!(rt; open(&rt, "no folder/kept.db", Session::Fail));
     Ok(())
 }
