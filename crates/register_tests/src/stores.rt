@@ -11,7 +11,8 @@ const ISSUER: &str = "506700GE1G29325QX363";
 
 const UPLOADS: u32 = 999;
 
-const TAKEN: &str = r#"200 {"entry":2,"issuer":"506700GE1G29325QX363","items":["ACCEPTED","ACCEPTED"],"number":1}"#;
+const TAKEN: &str =
+    r#"200 {"entry":2,"issuer":"506700GE1G29325QX363","items":["ACCEPTED","ACCEPTED"],"number":1}"#;
 
 // What is changed of a store, an entry by its place or the first cell.
 #[derive(Clone, Copy, Debug)]
@@ -36,7 +37,9 @@ fn entries_with(
     for (place, entry) in entries.iter().enumerate() {
         let mut entry = entry.copy(alloc)?;
         match change {
-            Change::Answer(changed) if changed == place => entry.answer = Bytes::copy_of(alloc, b"x")?,
+            Change::Answer(changed) if changed == place => entry.answer = Bytes::copy_of(
+                alloc, b"x",
+            )?,
             Change::Moment(changed) if changed == place => entry.moment = 0,
             Change::Out(changed) if changed == place => continue,
             _ => {}
@@ -96,8 +99,18 @@ fn kept<R: Abort + Threads + Sync>(
     accredits(rt, alloc, &mut office, ISSUER, accredited)?;
     uploads(rt, alloc, &mut office, 1, TWO_RECORDS.as_bytes(), TAKEN)?;
     for number in 2..UPLOADS + 1 {
-        let want = format!(in alloc; "200 {{\"entry\":{},\"issuer\":\"{ISSUER}\",\"items\":[\"C02 FIELD_MISSING LEI\"],\"number\":{number}}}", number + 1)?;
-        uploads(rt, alloc, &mut office, number, b"{\"records\":[{}]}", want.as_str())?;
+        let want = format!(in alloc;
+            "200 {{\"entry\":{},\"issuer\":\"{ISSUER}\",\"items\":[\"C02 FIELD_MISSING LEI\"],\"number\":{number}}}",
+            number + 1
+        )?;
+        uploads(
+            rt,
+            alloc,
+            &mut office,
+            number,
+            b"{\"records\":[{}]}",
+            want.as_str(),
+        )?;
     }
     let mut keeper = office.close();
     Ok((keeper.entries(0, u64::MAX)?, keeper.cells(0, u64::MAX)?))
