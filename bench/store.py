@@ -12,6 +12,7 @@ import pathlib
 import signal
 import subprocess
 import tempfile
+import threading
 import time
 
 from timing import least
@@ -71,14 +72,22 @@ def entries_of(path):
     return json.loads(ended.stdout[4:])["entries"]
 
 
+def send(program_input):
+    """Sends an accreditation and the uploads, as far as the program takes them."""
+    try:
+        program_input.write(f"ACCREDIT {OFFICE}\n".encode())
+        for number in range(1, KILLED + 1):
+            program_input.write(upload(number, number, 1))
+            program_input.flush()
+    except BrokenPipeError:
+        pass
+
+
 def kill_at(folder, place):
     """Kills the program once it has acknowledged so many entries, while it goes on with the next one."""
     path = os.path.join(folder, f"killed-{place}.db")
     program = subprocess.Popen([PROGRAM, "lines", "--store", path], stdin=subprocess.PIPE, stdout=subprocess.PIPE)
-    program.stdin.write(f"ACCREDIT {OFFICE}\n".encode())
-    for number in range(1, KILLED + 1):
-        program.stdin.write(upload(number, number, 1))
-    program.stdin.flush()
+    threading.Thread(target=send, args=(program.stdin,), daemon=True).start()
     acknowledged = 0
     while acknowledged < place:
         if not program.stdout.readline().startswith(b"200 "):
@@ -117,6 +126,16 @@ def opened(folder):
     opening = least(lambda: entries_of(path))
     print(f"{LARGE} uploads of {size / LARGE / 1e6:.2f} MB: taken without a store in {taking:.2f} s, opened in "
           f"{opening:.2f} s, ratio {opening / taking:.2f}")
+    with open(lines, "rb") as source:
+        print(f"memory at most: taken without a store {peak(['lines'], source)} MB, "
+              f"opened {peak(['lines', '--store', path], subprocess.DEVNULL)} MB")
+
+
+def peak(words, source):
+    """The most memory that a run takes, in MB."""
+    program = subprocess.Popen([PROGRAM, *words], stdin=source, stdout=subprocess.DEVNULL)
+    _, _, used = os.wait4(program.pid, 0)
+    return used.ru_maxrss // 1024
 
 
 def commits(folder):
