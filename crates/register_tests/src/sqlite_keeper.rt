@@ -1,5 +1,5 @@
 // A keeper over a file of SQLite: what it keeps is there after the file was opened again, and what fails changes nothing.
-// A test starts in an empty folder.
+// The tests share a folder that is empty at first, so that each has a file of its own.
 ghost use Rattle.std.specs.Prelude.{IsTrue};
 ghost use Rattle.lei_outside.specs.Keeping.{IsBatch, IsCellOf};
 
@@ -213,8 +213,8 @@ fn what_was_kept_is_there_after_opening_again(rt: HostRuntime) -> Result<(), Fai
 
 #[test]
 fn a_number_that_is_there_is_refused_whole(rt: HostRuntime) -> Result<(), Fail> {
-    assert!(rt; open(&rt, "kept.db", Session::Keep));
-    assert!(rt; open(&rt, "kept.db", Session::Refuse));
+    assert!(rt; open(&rt, "refused.db", Session::Keep));
+    assert!(rt; open(&rt, "refused.db", Session::Refuse));
     Ok(())
 }
 
