@@ -122,7 +122,7 @@ asked-next office e next =
 
 -- ---- what a replay makes
 
-asked-request : (e : KeptEntry) (request : Request) → asked_by e ≡ Some request → request_of e ≡ Some request
+pub asked-request : (e : KeptEntry) (request : Request) → asked_by e ≡ Some request → request_of e ≡ Some request
 unfolding asked_by
 asked-request e request is = by_moment (is_moment e.moment) is
   where

@@ -14,7 +14,7 @@ use Rattle.lei_office.proofs.Orders.{next_at}
 use Rattle.lei_office.proofs.Pages.{cells-pages}
 use Rattle.lei_office.proofs.Stored.{held-stands}
 
-entry-excludes : (limits : Limits) (entries : History) (damage : Damage) → IsEntryDamage limits entries damage → Legal (office_of limits entries) → ⊥
+pub entry-excludes : (limits : Limits) (entries : History) (damage : Damage) → IsEntryDamage limits entries damage → Legal (office_of limits entries) → ⊥
 unfolding Legal
 entry-excludes limits entries damage is legal =
     let next = next_at limits [] is.before is.rest is.next (subst (λ h. LegalAfter limits [] h) is.are legal) in
@@ -39,7 +39,7 @@ same-differs [] (m ∷ made) damage differs is = cc
 same-differs (k ∷ kept) [] damage differs is = cc
 same-differs (k ∷ kept) (m ∷ made) damage differs is = differs.0 (head_same k m kept made is)
 
-first-excludes : (kept made : List KeptCell) (damage : Damage) → DifferFirst kept made damage → kept ≡ made → ⊥
+pub first-excludes : (kept made : List KeptCell) (damage : Damage) → DifferFirst kept made damage → kept ≡ made → ⊥
 first-excludes kept made damage is same =
     same-differs is.kept_rest is.made_rest damage is.differs (behind is.front is.kept_rest is.made_rest (sym is.kept_is ∙ (same ∙ is.made_is)))
 

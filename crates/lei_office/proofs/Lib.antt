@@ -22,3 +22,8 @@ pub mod Lines
 pub mod Differing
 pub mod ComparedPages
 pub mod ReplayedPages
+pub mod EntryLines
+pub mod CellLines
+pub mod Beginnings
+pub mod TextsDiffer
+pub mod OneDamage

@@ -6,7 +6,7 @@ use Rattle.lei_code.specs.Fault.{fault_of}
 use Rattle.lei_code.specs.Texts.{Text}
 use Rattle.lei_shapes.specs.Clock.{moment_text}
 use Rattle.lei_shapes.specs.Moment.{is_moment}
-use Rattle.lei_outside.specs.Keeping.{KeptTables, cells_between}
+use Rattle.lei_outside.specs.Keeping.{IsEntryNumber, KeptTables, cells_between}
 use Rattle.lei_outside.specs.declared.entry.KeptEntry.{KeptEntry}
 use Rattle.lei_outside.specs.declared.keeper.KeptCell.{KeptCell}
 use Rattle.lei_records.specs.Tables.{KeyTexts}
@@ -218,3 +218,18 @@ AreOfHistory limits tables = Legal (office_of limits tables.entries) × AreTable
 -- What has damage isn't what a history leaves.
 abbrev pub DamageExcludes : Limits → KeptTables → Type 0
 DamageExcludes limits tables = (damage : Damage) → IsDamage limits tables damage → AreOfHistory limits tables → ⊥
+
+-- Where an entry is the first difference, the two texts that tell it differ.
+abbrev pub EntryTextsDiffer : Limits → History → Type 0
+EntryTextsDiffer limits entries = (damage : Damage) → IsEntryDamage limits entries damage → damage.kept ≢ damage.replayed
+
+-- A store has one first difference: no two damages are it.
+abbrev pub DamageIsOne : Limits → KeptTables → Type 0
+DamageIsOne limits tables = (one other : Damage) → IsDamage limits tables one → IsDamage limits tables other → one ≡ other
+
+-- The line of a cell that an entry touched, of a kind and a name that are known, tells the number of that entry and the
+-- word of the row.
+abbrev pub LineTellsCell : KeptCell → KeptCell → Type 0
+LineTellsCell one other = one.kind ≡ other.kind → one.name ≡ other.name → IsEntryNumber one.touched
+    → IsEntryNumber other.touched → cell_line one ≡ cell_line other
+    → (one.touched ≡ other.touched) × (row_word one.row ≡ row_word other.row)

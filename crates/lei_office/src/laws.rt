@@ -7,8 +7,10 @@ ghost use Rattle.lei_records.specs.declared.item.RawItem.{RawItem};
 ghost use Rattle.register_judge.specs.Taking.{take};
 ghost use Rattle.lei_office.specs.Answers.{IsTold};
 ghost use Rattle.lei_outside.specs.Keeping.{KeptTables};
-ghost use Rattle.lei_office.specs.Damage.{DamageExcludes};
+ghost use Rattle.lei_outside.specs.declared.keeper.KeptCell.{KeptCell};
+ghost use Rattle.lei_office.specs.Damage.{DamageExcludes, DamageIsOne, EntryTextsDiffer, LineTellsCell};
 ghost use Rattle.lei_office.specs.declared.limits.Limits.{Limits};
+ghost use Rattle.upload_ledger.specs.History.{History};
 ghost use Rattle.successor_rules.specs.Successors.{HasChains};
 ghost use Rattle.relation_rules.specs.Parents.{AreApart, HasParents};
 ghost use Rattle.lei_office.specs.declared.reply.Refusal.TheVariants.{KeeperFault, NoMemory};
@@ -77,6 +79,22 @@ pub fn cells_have_the_rows()
 /// What has damage isn't what a history leaves: a store of a history is never refused.
 pub fn damage_is_no_history()
     ensures { (limits : Limits) (tables : KeptTables) → DamageExcludes limits tables }
+{}
+
+/// Where a stored entry isn't what the replay makes, the two texts that tell it differ.
+pub fn texts_of_entries_differ()
+    ensures { (limits : Limits) (entries : History) → EntryTextsDiffer limits entries }
+{}
+
+/// The line of a cell whose kind and name are known tells the number of the entry that touched it last, and the word of
+/// its row. A row that is the text `-` has the word of no row.
+pub fn lines_tell_cells()
+    ensures { (one other : KeptCell) → LineTellsCell one other }
+{}
+
+/// A store has one first difference at most.
+pub fn damage_is_one()
+    ensures { (limits : Limits) (tables : KeptTables) → DamageIsOne limits tables }
 {}
 
 /// No two tables are those that are kept of one office.
