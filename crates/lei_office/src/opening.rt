@@ -1,5 +1,5 @@
 //! A store is opened: its entries are replayed, and its cells are compared with those that they leave.
-ghost use Rattle.std.specs.Prelude.{◌≡◌, ◌≤◌, ◌<◌, ◌+◌, ℕ, [], IfOk, IfSome, IsErrOf, OnOk, length};
+ghost use Rattle.std.specs.Prelude.{◌≡◌, ◌≤◌, ◌<◌, ◌+◌, ℕ, [], IfOk, IfSome, IsErrOf, OnOk, length, min};
 ghost use Rattle.std.specs.FinMap.{empty};
 ghost use Rattle.lei_outside.specs.Count.{Rose};
 ghost use Rattle.lei_outside.specs.Keeping.{AreKept, LeavesNoMore, Stays, last_number};
@@ -114,6 +114,7 @@ fn replay_entries<K: Keeper>(
 // The last number of a page that begins behind a number.
 fn page_end(after: u64, last: u64) -> u64
     requires { after < last }
+    ensures page { result ≡ min (after + 16) last }
     ensures more { after < result }
     ensures most { result ≤ last }
 {
