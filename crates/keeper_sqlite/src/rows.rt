@@ -1,5 +1,5 @@
 // Entries and cells as rows of the tables, and back.
-ghost use Rattle.std.specs.Prelude.{◌≡◌, ◌≢◌, ◌<◌, ◌≤◌, ◌^◌, ℕ, ℤ, pos, List, [], ◌∷◌, length, map, Any, IfOk, IsErrOf};
+ghost use Rattle.std.specs.Prelude.{◌≡◌, ◌≢◌, ◌<◌, ◌≤◌, ℕ, ℤ, pos, List, [], ◌∷◌, length, map, Any, IfOk, IsErrOf};
 ghost use Rattle.sqlite_value.specs.declared.value.Value.TheVariants.{Null, Int, Text, Blob};
 ghost use Rattle.sqlite_value.specs.Order.{column};
 ghost use Rattle.sqlite_value.specs.Value.{owned};
@@ -61,11 +61,11 @@ pub fn entry_of(alloc: Global, row: &Row) -> Result<KeptEntry, KeepFault>
     }
     Ok(KeptEntry {
         seq: u64_at(row, 0)?,
-        kind: u8_at(row, 1)?,
+        kind: below_at(row, 1, 1 << 8)? as u8,
         office: text_at(alloc, row, 2)?,
-        number: u32_at(row, 3)?,
+        number: below_at(row, 3, 1 << 32)? as u32,
         moment: i64_at(row, 4)?,
-        rules: u16_at(row, 5)?,
+        rules: below_at(row, 5, 1 << 16)? as u16,
         body: blob_at(alloc, row, 6)?,
         answer: blob_at(alloc, row, 7)?,
     })
@@ -80,7 +80,7 @@ pub fn cell_of(alloc: Global, row: &Row) -> Result<KeptCell, KeepFault>
         return Err(KeepFault::Failed);
     }
     Ok(KeptCell {
-        kind: u8_at(row, 0)?,
+        kind: below_at(row, 0, 1 << 8)? as u8,
         name: text_at(alloc, row, 1)?,
         touched: u64_at(row, 2)?,
         row: blob_or_null_at(alloc, row, 3)?,
@@ -134,36 +134,18 @@ fn u64_at(row: &Row, at: usize) -> Result<u64, KeepFault>
     }
 }
 
-fn u32_at(row: &Row, at: usize) -> Result<u32, KeepFault>
+// The number in a column, where it is below this one.
+fn below_at(row: &Row, at: usize, bound: u64) -> Result<u64, KeepFault>
     requires { at < length row.now }
     ensures ok { IfOk result (λ n. column row.now at ≡ Int (pos n)) }
-    ensures err { IsErrOf result KeepFault.Failed → (n : ℕ) → n < 2 ^ 32 → column row.now at ≢ Int (pos n) }
+    ensures below { IfOk result (λ n. n < bound) }
+    ensures err { IsErrOf result KeepFault.Failed → (n : ℕ) → n < bound → column row.now at ≢ Int (pos n) }
 {
-    match u32::try_from(u64_at(row, at)?) {
-        Ok(number) => Ok(number),
-        Err(_) => Err(KeepFault::Failed),
-    }
-}
-
-fn u16_at(row: &Row, at: usize) -> Result<u16, KeepFault>
-    requires { at < length row.now }
-    ensures ok { IfOk result (λ n. column row.now at ≡ Int (pos n)) }
-    ensures err { IsErrOf result KeepFault.Failed → (n : ℕ) → n < 2 ^ 16 → column row.now at ≢ Int (pos n) }
-{
-    match u16::try_from(u64_at(row, at)?) {
-        Ok(number) => Ok(number),
-        Err(_) => Err(KeepFault::Failed),
-    }
-}
-
-fn u8_at(row: &Row, at: usize) -> Result<u8, KeepFault>
-    requires { at < length row.now }
-    ensures ok { IfOk result (λ n. column row.now at ≡ Int (pos n)) }
-    ensures err { IsErrOf result KeepFault.Failed → (n : ℕ) → n < 2 ^ 8 → column row.now at ≢ Int (pos n) }
-{
-    match u8::try_from(u64_at(row, at)?) {
-        Ok(number) => Ok(number),
-        Err(_) => Err(KeepFault::Failed),
+    let number = u64_at(row, at)?;
+    if number < bound {
+        Ok(number)
+    } else {
+        Err(KeepFault::Failed)
     }
 }
 
