@@ -1,27 +1,17 @@
 //! Runs the worked examples of the files that the words name, and tells what comes of each.
 #![tactic(auto)]
 
-mod codes;
-mod cuts;
-mod document;
-mod fault;
-mod filling;
-mod numbers;
-mod run;
-mod session;
+mod file;
+mod stores;
 mod telling;
-mod texts;
 mod trial;
 
-use document::{Document, LineFault};
-use fault::Fault;
-use std::alloc::Global;
+use example_sessions::{Document, Fault, LineFault, Named};
 use std::process::ExitCode;
 use std::rt::Files;
 use std::thread::Threads;
 use std::{env, fs, io};
 use telling::tell_session;
-use texts::Named;
 
 /// How many sessions passed, and how many did not, a file that is not read among them.
 #[derive(Clone, Copy)]
@@ -48,7 +38,7 @@ fn main(rt: HostRuntime) -> io::Result<ExitCode> {
         failed: 0,
     };
     for file in env::args(&rt)?.skip(1) {
-        known = run_file(&rt, alloc, file.as_str(), known, &mut count)?;
+        known = run_file(&rt, &rt, file.as_str(), known, &mut count)?;
     }
     let Count { passed, failed } = count;
     println!(rt; "{passed} passed, {failed} failed")?;
@@ -58,11 +48,12 @@ fn main(rt: HostRuntime) -> io::Result<ExitCode> {
 // Runs the sessions of a file with the texts that are known, and gives those that are known behind it.
 fn run_file<R: Print + Files + AllocGlobal + Threads + Sync>(
     rt: &R,
-    alloc: Global,
+    host: &HostRuntime,
     file: &str,
     known: Vec<Named>,
     count: &mut Count,
 ) -> io::Result<Vec<Named>> {
+    let alloc = host.alloc();
     let Ok(text) = fs::read_to_string(rt, file) else {
         count.add(false);
         println!(rt; "{file}: cannot be read")?;
@@ -71,7 +62,7 @@ fn run_file<R: Print + Files + AllocGlobal + Threads + Sync>(
     match Document::read(alloc, known, text.as_str()) {
         Ok(document) => {
             for session in document.sessions() {
-                count.add(tell_session(rt, alloc, file, session)?);
+                count.add(tell_session(rt, host, file, session)?);
             }
             Ok(document.into_known())
         }

@@ -1,35 +1,127 @@
 //! What is told of sessions.
-use crate::run::Run;
-use crate::session::Session;
-use crate::trial::{Came, alike, came_of};
+ghost use Rattle.std.specs.Prelude.{◌≤◌};
+
+use crate::file::remove;
+use crate::stores::Store;
+use crate::trial::{alike, came_in_memory, came_over_file};
+use example_sessions::{Came, Run, Session};
+use lei_outside::KeepFault;
+use leireg_run::store_path;
 use std::alloc::Global;
 use std::io;
+use std::rt::Files;
 use std::thread::Threads;
 
 // The greatest numbers of bytes that a read and a write take.
 const SIZES: [usize; 4] = [4_294_967_296, 7, 2, 1];
 
-/// Makes each run of a session in one piece and by fewer and fewer bytes, tells what came of it, and says whether it is
-/// what was wanted.
-pub fn tell_session<R: Print + AllocGlobal + Threads + Sync>(
+/// Makes the runs of a session in one piece and by fewer and fewer bytes, tells what came of it, and says whether it is
+/// what was wanted. Where a session has a store, it is made over a keeper in memory and over a file.
+pub fn tell_session<R: Print + Files + AllocGlobal + Threads + Sync>(
+    rt: &R,
+    host: &HostRuntime,
+    file: &str,
+    session: &Session,
+) -> io::Result<bool> {
+    let over_file = is_over_file(session);
+    for size in SIZES {
+        if !passes_in_memory(rt, host.alloc(), file, session, size)? {
+            return Ok(false);
+        }
+        if over_file && !passes_over_file(rt, host, file, session, size)? {
+            return Ok(false);
+        }
+    }
+    let title = session.title();
+    let how = if over_file {
+        "in memory and over a file, "
+    } else {
+        ""
+    };
+    println!(rt; "{file}: {title}: passed {how}in one piece and by 7, 2 and 1 bytes")?;
+    Ok(true)
+}
+
+// Whether it is run over a file too: a run has a store, and no keeper refuses a call.
+fn is_over_file(session: &Session) -> bool {
+    let runs = session.runs();
+    runs.iter().any(|run| store_path(run.words()).is_some())
+        && !runs.iter().any(|run| run.refuses())
+}
+
+fn passes_in_memory<R: Print + AllocGlobal + Threads + Sync>(
     rt: &R,
     alloc: Global,
     file: &str,
     session: &Session,
-) -> io::Result<bool> {
-    let title = session.title();
+    size: usize,
+) -> io::Result<bool>
+    requires { 1 ≤ size }
+{
+    let mut stores: Vec<Store> = Vec::new(alloc);
     for run in session.runs() {
-        for size in SIZES {
-            let came = came_of(rt, alloc, run, size)?;
-            if !came.is(run) {
-                println!(rt; "{file}: {title}: FAILED by at most {size} bytes")?;
-                tell_difference(rt, alloc, run, &came)?;
-                return Ok(false);
-            }
+        let came = told(came_in_memory(rt, alloc, run, size, &mut stores))?;
+        if !is_wanted(rt, alloc, file, session.title(), size, run, &came)? {
+            return Ok(false);
         }
     }
-    println!(rt; "{file}: {title}: passed in one piece and by 7, 2 and 1 bytes")?;
     Ok(true)
+}
+
+fn passes_over_file<R: Print + Files + AllocGlobal + Threads + Sync>(
+    rt: &R,
+    host: &HostRuntime,
+    file: &str,
+    session: &Session,
+    size: usize,
+) -> io::Result<bool>
+    requires { 1 ≤ size }
+{
+    remove_stores(rt, host.alloc(), session)?;
+    for run in session.runs() {
+        let came = told(came_over_file(rt, host, run, size))?;
+        if !is_wanted(rt, host.alloc(), file, session.title(), size, run, &came)? {
+            return Ok(false);
+        }
+    }
+    remove_stores(rt, host.alloc(), session)?;
+    Ok(true)
+}
+
+fn remove_stores<R: Files>(rt: &R, alloc: Global, session: &Session) -> io::Result<()> {
+    for run in session.runs() {
+        if let Some(path) = store_path(run.words()) {
+            remove(rt, alloc, path)?;
+        }
+    }
+    Ok(())
+}
+
+// What came of a run. Without memory, or where a store can't be changed or handed on, nothing is told of the others.
+fn told(came: Result<Came, KeepFault>) -> io::Result<Came> {
+    match came {
+        Ok(came) => Ok(came),
+        Err(KeepFault::NoMemory) => Err(io::ErrorKind::OutOfMemory.into()),
+        Err(KeepFault::Failed) => Err(io::ErrorKind::InvalidData.into()),
+    }
+}
+
+// Whether a run came out as wanted. Where it didn't, that is told.
+fn is_wanted<R: Print + AllocGlobal>(
+    rt: &R,
+    alloc: Global,
+    file: &str,
+    title: &str,
+    size: usize,
+    run: &Run,
+    came: &Came,
+) -> io::Result<bool> {
+    if came.is(run) {
+        return Ok(true);
+    }
+    println!(rt; "{file}: {title}: FAILED by at most {size} bytes")?;
+    tell_difference(rt, alloc, run, came)?;
+    Ok(false)
 }
 
 fn tell_difference<R: Print + AllocGlobal>(

@@ -1,54 +1,107 @@
 //! Runs of the program, and what comes of them.
-ghost use Rattle.std.specs.Prelude.{◌≡◌, ◌≤◌, ◌↔◌, IsTrue};
+ghost use Rattle.std.specs.Prelude.{◌≤◌};
 
-use crate::run::Run;
-use lei_outside::{Bytes, SureSink, SureSource};
-use leireg_run::run;
-use std::alloc::{AllocError, Global};
+use crate::file;
+use crate::stores::{Store, keeper_of};
+use example_sessions::{Came, Run};
+use lei_outside::{Bytes, KeepFault, Keeper, ListClock, NoMemory, Sink, SureSink, SureSource};
+use leireg_run::{run, store_path};
+use std::alloc::Global;
 use std::thread::Threads;
 
-/// What came of a run: the bytes that were written, and the status.
+/// What a run is made with, beside its keeper.
 #[derive(Drop)]
-pub struct Came {
-    pub written: Bytes,
-    pub status: u8,
+pub struct Devices {
+    source: SureSource,
+    sink: SureSink,
+    clock: ListClock,
 }
 
-/// Makes a run, with at most so many bytes a read and a write.
-pub fn came_of<R: Threads + Sync>(
+impl Devices {
+    /// Those of a run, with at most so many bytes a read and a write.
+    fn of(alloc: Global, wanted: &Run, most: usize) -> Result<Self, NoMemory>
+        requires { 1 ≤ most }
+    {
+        Ok(Devices {
+            source: SureSource::new(Bytes::copy_of(alloc, wanted.sent())?, most),
+            sink: SureSink::new(alloc, most),
+            clock: wanted.clock(alloc)?,
+        })
+    }
+
+    /// Makes the run over a keeper. Says its status, and gives the keeper back.
+    pub fn run<R: Threads + Sync, K: Keeper>(
+        &mut self,
+        rt: &R,
+        alloc: Global,
+        wanted: &Run,
+        keeper: K,
+    ) -> (u8, K) {
+        run(
+            rt,
+            alloc,
+            wanted.words(),
+            &mut self.source,
+            &mut self.sink,
+            keeper,
+            &mut self.clock,
+        )
+    }
+
+    fn came(&self, alloc: Global, status: u8) -> Result<Came, NoMemory> {
+        Ok(Came {
+            written: Bytes::copy_of(alloc, self.sink.written())?,
+            status,
+        })
+    }
+}
+
+/// Makes a run over a keeper in memory. What it leaves at the path of its store goes behind these.
+pub fn came_in_memory<R: Threads + Sync>(
     rt: &R,
     alloc: Global,
     wanted: &Run,
     most: usize,
-) -> Result<Came, AllocError>
+    stores: &mut Vec<Store>,
+) -> Result<Came, KeepFault>
     requires { 1 ≤ most }
 {
-    let mut source = SureSource::new(Bytes::from(wanted.sent().to_vec(alloc)?), most);
-    let mut sink = SureSink::new(alloc, most);
-    let mut clock = wanted.clock(alloc)?;
-    let keeper = wanted.keeper(alloc)?;
-    let (status, _) = run(
-        rt,
-        alloc,
-        wanted.words(),
-        &mut source,
-        &mut sink,
-        keeper,
-        &mut clock,
-    );
-    Ok(Came {
-        written: Bytes::from(sink.written().to_vec(alloc)?),
-        status,
-    })
+    let mut devices = Devices::of(alloc, wanted, most)?;
+    let keeper = keeper_of(alloc, stores.as_slice(), wanted)?;
+    let (status, mut keeper) = devices.run(rt, alloc, wanted, keeper);
+    if let Some(path) = store_path(wanted.words()) {
+        stores.push(Store::of(alloc, path, &mut keeper)?)?;
+    }
+    Ok(devices.came(alloc, status)?)
 }
 
-impl Came {
-    /// Whether it is what was wanted.
-    pub fn is(&self, wanted: &Run) -> bool
-        ensures { IsTrue result ↔ ((self.now.written ≡ wanted.now.expected) × (self.now.status ≡ wanted.now.status)) }
-    {
-        self.status == wanted.status() && self.written.as_slice() == wanted.expected()
-    }
+/// Makes a run over a file. Its store is the file at its path, and where it has none it is over a keeper in memory.
+pub fn came_over_file<R: Threads + Sync>(
+    rt: &R,
+    host: &HostRuntime,
+    wanted: &Run,
+    most: usize,
+) -> Result<Came, KeepFault>
+    requires { 1 ≤ most }
+{
+    let alloc = host.alloc();
+    let mut devices = Devices::of(alloc, wanted, most)?;
+    let status = match store_path(wanted.words()) {
+        Some(path) => file::status_over(rt, host, path, wanted, &mut devices)?,
+        None => status_alone(rt, alloc, wanted, &mut devices)?,
+    };
+    Ok(devices.came(alloc, status)?)
+}
+
+fn status_alone<R: Threads + Sync>(
+    rt: &R,
+    alloc: Global,
+    wanted: &Run,
+    devices: &mut Devices,
+) -> Result<u8, KeepFault> {
+    let keeper = keeper_of(alloc, &[], wanted)?;
+    let (status, _) = devices.run(rt, alloc, wanted, keeper);
+    Ok(status)
 }
 
 /// How many bytes two texts begin with alike.

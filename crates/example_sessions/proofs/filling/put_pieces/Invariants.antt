@@ -1,0 +1,7 @@
+use Rattle.std.proofs.Common.{◌≡◌, Some, drop}
+use Rattle.example_sessions.specs.Filling.{pieces_parts}
+use Rattle.example_sessions.specs.Reading.{behind}
+use Rattle.example_sessions.proofs.filling.put_pieces.Given as goal
+
+abbrev pub invariant-loop-piece : goal.invariant-loop-piece
+invariant-loop-piece l = behind (Some l.parts.items) (pieces_parts l.known l.parameters (drop l.piece-index l.pieces)) ≡ behind (Some l.initial.parts.items) (pieces_parts l.known l.parameters l.pieces)

@@ -1,0 +1,20 @@
+//! Sessions with the register as they stand in files that a person reads: what is sent, and what must come back.
+#![tactic(auto)]
+
+mod came;
+mod codes;
+mod cuts;
+mod document;
+mod fault;
+mod filling;
+mod numbers;
+mod run;
+mod session;
+mod texts;
+
+pub use came::Came;
+pub use document::{Document, LineFault};
+pub use fault::Fault;
+pub use run::{Change, Run};
+pub use session::Session;
+pub use texts::Named;

@@ -1,7 +1,0 @@
-use Rattle.std.proofs.Common.{◌≡◌, Some, drop}
-use Rattle.worked_examples.specs.Filling.{pieces_parts}
-use Rattle.worked_examples.specs.Reading.{behind}
-use Rattle.worked_examples.proofs.filling.put_pieces.Given as goal
-
-abbrev pub invariant-loop-piece : goal.invariant-loop-piece
-invariant-loop-piece l = behind (Some l.parts.items) (pieces_parts l.known l.parameters (drop l.piece-index l.pieces)) ≡ behind (Some l.initial.parts.items) (pieces_parts l.known l.parameters l.pieces)

@@ -1,9 +1,0 @@
-use Rattle.std.proofs.Common.{◌≡◌, ◌≤◌, drop}
-use Rattle.worked_examples.specs.Numbers.{number_after}
-use Rattle.worked_examples.proofs.numbers.number_of.Given as goal
-
-abbrev pub invariant-loop-byte : goal.invariant-loop-byte
-invariant-loop-byte l = record {
-  small : l.number ≤ l.most;
-  same : number_after l.most l.number (drop l.byte-index l.byte-items) ≡ number_after l.most 0 l.byte-items;
-}

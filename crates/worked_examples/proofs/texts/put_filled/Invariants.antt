@@ -1,6 +1,0 @@
-use Rattle.std.proofs.Common.{◌≡◌, ◌++◌, take}
-use Rattle.worked_examples.specs.Texts.{filled}
-use Rattle.worked_examples.proofs.texts.put_filled.Given as goal
-
-abbrev pub invariant-loop-part : goal.invariant-loop-part
-invariant-loop-part l = l.bytes.items ≡ l.initial.bytes.items ++ filled l.arguments (take l.part-index l.parts)
