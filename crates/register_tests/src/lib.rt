@@ -2,10 +2,9 @@
 //! proved twice, with them and without, so the large crates have none of their own.
 #![tactic(auto)]
 
+pub mod batches;
 #[cfg(test)]
 mod copies;
-#[cfg(test)]
-mod items;
 #[cfg(test)]
 mod limits;
 #[cfg(test)]
@@ -16,5 +15,3 @@ mod runs;
 mod sqlite_keeper;
 #[cfg(test)]
 mod stores;
-#[cfg(test)]
-mod tables;

@@ -10,12 +10,12 @@ use std::process::Abort;
 use std::test::Fail;
 use std::thread::Threads;
 
-const ISSUER: &str = "506700GE1G29325QX363";
+pub const ISSUER: &str = "506700GE1G29325QX363";
 
 const OTHER: &str = "HWUPKR0MPOU8FGXBT394";
 
-// 2025-01-11T00:00:00Z.
-const MOMENT: i64 = 1_736_553_600;
+/// 2025-01-11T00:00:00Z.
+pub const MOMENT: i64 = 1_736_553_600;
 
 // Two issued records, in their compact form with their names in byte order.
 pub const TWO_RECORDS: &str = concat!(
@@ -43,41 +43,20 @@ pub const TWO_RECORDS: &str = concat!(
     r#""Registration.ValidationSources":"FULLY_CORROBORATED"}]}"#
 );
 
-// An office under these limits, over a keeper in memory.
-pub fn office<R: Threads + Sync>(
-    rt: &R,
-    alloc: Global,
-    limits: Limits,
-) -> Result<Office<SureKeeper>, Fail>
-    requires { AreLimits limits }
-{
-    match Office::open(rt, alloc, SureKeeper::new(alloc), limits) {
-        Ok(office) => Ok(office),
-        Err(_) => Err(Fail::from("memory for an office")),
-    }
-}
+// What is sent, and what comes back: the number of an upload and its body, or 0 and the issuer that is accredited; the
+// status code, a space, and the text or the refusal in words.
+type Step = (u32, &'static str, &'static str);
 
-// The office answers the request with this status code, a space, and this text or refusal in words.
-fn answers<R: Abort + Threads + Sync>(
-    rt: &R,
-    alloc: Global,
-    office: &mut Office<SureKeeper>,
-    request: &Request,
-    want: &str,
-) -> Result<(), Fail> {
-    let number = match request {
-        Request::Upload(call) => call.number,
-        Request::Kept(_, number) => *number,
-        Request::Accredit(_) | Request::Show(_) | Request::Status => 1,
-    };
-    if !is_upload_number(number) {
-        return Err(Fail::from("a number that uploads may have"));
+// What a step asks.
+fn request(alloc: Global, number: u32, text: &str) -> Result<Request, Fail> {
+    if number == 0 {
+        return Ok(Request::Accredit(Lei::read(text.as_bytes())?));
     }
-    let moment = Moment::of(MOMENT).ok_or("a moment")?;
-    let reply = office.answer(rt, request, moment);
-    let told = told(alloc, &reply)?;
-    assert_eq!(rt; told.as_str(), want);
-    Ok(())
+    Ok(Request::Upload(Call {
+        office: Lei::read(ISSUER.as_bytes())?,
+        number,
+        body: Bytes::copy_of(alloc, text.as_bytes())?,
+    }))
 }
 
 fn told(alloc: Global, reply: &Reply) -> Result<String, Fail> {
@@ -91,84 +70,78 @@ fn told(alloc: Global, reply: &Reply) -> Result<String, Fail> {
     }
 }
 
-pub fn accredits<R: Abort + Threads + Sync>(
+// The reply to a request, whose number is one that uploads may have.
+fn reply_of<R: Threads + Sync>(
+    rt: &R,
+    office: &mut Office<SureKeeper>,
+    request: &Request,
+) -> Result<Reply, Fail> {
+    let number = match request {
+        Request::Upload(call) => call.number,
+        Request::Kept(_, number) => *number,
+        Request::Accredit(_) | Request::Show(_) | Request::Status => 1,
+    };
+    if !is_upload_number(number) {
+        return Err(Fail::from("a number that uploads may have"));
+    }
+    let moment = Moment::of(MOMENT).ok_or("a moment")?;
+    Ok(office.answer(rt, request, moment))
+}
+
+fn takes<R: Abort + Threads + Sync>(
     rt: &R,
     alloc: Global,
     office: &mut Office<SureKeeper>,
-    issuer: &str,
-    want: &str,
+    step: Step,
 ) -> Result<(), Fail> {
-    let request = Request::Accredit(Lei::read(issuer.as_bytes())?);
-    answers(rt, alloc, office, &request, want)
+    let (number, text, want) = step;
+    let request = request(alloc, number, text)?;
+    let reply = reply_of(rt, office, &request)?;
+    let told = told(alloc, &reply)?;
+    assert_eq!(rt; told.as_str(), want);
+    Ok(())
 }
 
-pub fn uploads<R: Abort + Threads + Sync>(
+fn takes_all<R: Abort + Threads + Sync>(
     rt: &R,
     alloc: Global,
     office: &mut Office<SureKeeper>,
-    number: u32,
-    body: &[u8],
-    want: &str,
+    steps: &[Step],
 ) -> Result<(), Fail> {
-    let request = Request::Upload(Call {
-        office: Lei::read(ISSUER.as_bytes())?,
-        number,
-        body: Bytes::copy_of(alloc, body)?,
-    });
-    answers(rt, alloc, office, &request, want)
+    for step in steps {
+        takes(rt, alloc, office, *step)?;
+    }
+    Ok(())
 }
 
-const LIMITS: Limits = Limits {
-    body: 2_000,
-    kept: 100_000,
-    entries: 3,
-    records: 1,
-};
-
-#[test]
-fn an_office_keeps_to_its_limits(rt: HostRuntime) -> Result<(), Fail> {
-    let mut office = office(&rt, rt.alloc(), LIMITS)?;
-    assert_eq!(rt; office.limits(), LIMITS);
-    accredits(
-        &rt,
-        rt.alloc(),
-        &mut office,
-        ISSUER,
-        r#"200 {"entry":1,"issuer":"506700GE1G29325QX363"}"#,
-    )?;
-    uploads(
-        &rt,
-        rt.alloc(),
-        &mut office,
-        1,
-        TWO_RECORDS.as_bytes(),
-        r#"200 {"entry":2,"issuer":"506700GE1G29325QX363","items":["ACCEPTED","C20 REGISTER_FULL"],"number":1}"#,
-    )?;
-    uploads(
-        &rt,
-        rt.alloc(),
-        &mut office,
-        2,
-        &[b' '; 2_001],
-        "413 TOO_LONG",
-    )
-}
-
-// Under these limits an upload of two records, of more than 1,200 bytes, is answered so.
-fn takes_two<R: Abort + Threads + Sync>(
+// Under these limits an office answers these steps so. It is let go here alone, since each place where it is costs a proof
+// of its own.
+fn answers<R: Abort + Threads + Sync>(
     rt: &R,
     alloc: Global,
     limits: Limits,
-    want: &str,
+    steps: &[Step],
 ) -> Result<(), Fail>
     requires { AreLimits limits }
 {
-    let mut office = office(rt, alloc, limits)?;
-    let accredited = r#"200 {"entry":1,"issuer":"506700GE1G29325QX363"}"#;
-    accredits(rt, alloc, &mut office, ISSUER, accredited)?;
-    uploads(rt, alloc, &mut office, 1, TWO_RECORDS.as_bytes(), want)
+    match Office::open(rt, alloc, SureKeeper::new(alloc), limits) {
+        Ok(mut office) => takes_all(rt, alloc, &mut office, steps),
+        Err(_) => Err(Fail::from("memory for an office")),
+    }
 }
 
+const ACCREDITED: Step = (
+    0,
+    ISSUER,
+    r#"200 {"entry":1,"issuer":"506700GE1G29325QX363"}"#,
+);
+
+const ONE_ITEM: &str = r#"{"records":[{"LEI":"00000000000000000195"}]}"#;
+
+const KEPT: &str =
+    r#"200 {"entry":2,"issuer":"506700GE1G29325QX363","items":["C02 FIELD_MISSING Entity.LegalName"],"number":1}"#;
+
+// An upload of two records, of more than 1,200 bytes.
 #[test]
 fn an_office_takes_an_upload_where_there_is_room(rt: HostRuntime) -> Result<(), Fail> {
     let few = Limits {
@@ -177,60 +150,46 @@ fn an_office_takes_an_upload_where_there_is_room(rt: HostRuntime) -> Result<(), 
         entries: 3,
         records: 1,
     };
-    takes_two(&rt, rt.alloc(), few, "507 LEDGER_FULL")?;
+    let full = [ACCREDITED, (1, TWO_RECORDS, "507 LEDGER_FULL")];
+    answers(&rt, rt.alloc(), few, &full)?;
     let more = Limits {
         kept: 100_000,
         ..few
     };
-    takes_two(
-        &rt,
-        rt.alloc(),
-        more,
-        r#"200 {"entry":2,"issuer":"506700GE1G29325QX363","items":["ACCEPTED","C20 REGISTER_FULL"],"number":1}"#,
-    )
+    let taken = [
+        ACCREDITED,
+        (
+            1,
+            TWO_RECORDS,
+            r#"200 {"entry":2,"issuer":"506700GE1G29325QX363","items":["ACCEPTED","C20 REGISTER_FULL"],"number":1}"#,
+        ),
+    ];
+    answers(&rt, rt.alloc(), more, &taken)
 }
 
-// The bodies that are kept may have as many bytes as the one upload and no more.
-const ROOM: Limits = Limits {
-    body: 2_000,
-    kept: 44,
-    entries: 3,
-    records: 1,
-};
-
-const ONE_ITEM: &str = r#"{"records":[{"LEI":"00000000000000000195"}]}"#;
-
-const KEPT: &str =
-    r#"200 {"entry":2,"issuer":"506700GE1G29325QX363","items":["C02 FIELD_MISSING Entity.LegalName"],"number":1}"#;
-
-// What uploads are answered, one after the other: a number, a body, and the reply.
-const BODIES: [(u32, &str, &str); 6] = [
-    (1, TWO_RECORDS, "507 LEDGER_FULL"),
-    (1, ONE_ITEM, KEPT),
-    (2, ONE_ITEM, "507 LEDGER_FULL"),
-    (2, "{}", "400 MALFORMED NO_ITEMS"),
-    (1, "{}", "409 NUMBER_TAKEN"),
-    (1, ONE_ITEM, KEPT),
-];
-
+// A body may have 44 bytes, as many as the one upload has, or one fewer.
 #[test]
-fn an_office_keeps_bodies_to_their_limit(rt: HostRuntime) -> Result<(), Fail> {
-    let mut office = office(&rt, rt.alloc(), ROOM)?;
-    let accredited = r#"200 {"entry":1,"issuer":"506700GE1G29325QX363"}"#;
-    accredits(&rt, rt.alloc(), &mut office, ISSUER, accredited)?;
-    for (number, body, want) in BODIES {
-        uploads(&rt, rt.alloc(), &mut office, number, body.as_bytes(), want)?;
-    }
-    Ok(())
+fn an_office_keeps_bodies_to_their_limits(rt: HostRuntime) -> Result<(), Fail> {
+    let room = Limits {
+        body: 2_000,
+        kept: 44,
+        entries: 3,
+        records: 1,
+    };
+    let steps = [
+        ACCREDITED,
+        (1, TWO_RECORDS, "507 LEDGER_FULL"),
+        (1, ONE_ITEM, KEPT),
+        (2, ONE_ITEM, "507 LEDGER_FULL"),
+        (2, "{}", "400 MALFORMED NO_ITEMS"),
+        (1, "{}", "409 NUMBER_TAKEN"),
+        (1, ONE_ITEM, KEPT),
+    ];
+    answers(&rt, rt.alloc(), room, &steps)?;
+    let shorter = Limits { body: 43, ..room };
+    let refused = [ACCREDITED, (1, ONE_ITEM, "413 TOO_LONG")];
+    answers(&rt, rt.alloc(), shorter, &refused)
 }
-
-// What accreditations are answered, one after the other, where two entries are taken at most.
-const ACCREDITATIONS: [(&str, &str); 4] = [
-    (ISSUER, r#"200 {"entry":1,"issuer":"506700GE1G29325QX363"}"#),
-    (OTHER, r#"200 {"entry":2,"issuer":"HWUPKR0MPOU8FGXBT394"}"#),
-    ("5493001KJTIIGC8Y1R12", "507 LEDGER_FULL"),
-    (ISSUER, r#"200 {"entry":1,"issuer":"506700GE1G29325QX363"}"#),
-];
 
 #[test]
 fn an_office_keeps_entries_to_their_limit(rt: HostRuntime) -> Result<(), Fail> {
@@ -240,16 +199,16 @@ fn an_office_keeps_entries_to_their_limit(rt: HostRuntime) -> Result<(), Fail> {
         entries: 2,
         records: 1,
     };
-    let mut office = office(&rt, rt.alloc(), limits)?;
-    for (issuer, want) in ACCREDITATIONS {
-        accredits(&rt, rt.alloc(), &mut office, issuer, want)?;
-    }
-    uploads(
-        &rt,
-        rt.alloc(),
-        &mut office,
-        1,
-        ONE_ITEM.as_bytes(),
-        "507 LEDGER_FULL",
-    )
+    let steps = [
+        ACCREDITED,
+        (
+            0,
+            OTHER,
+            r#"200 {"entry":2,"issuer":"HWUPKR0MPOU8FGXBT394"}"#,
+        ),
+        (0, "5493001KJTIIGC8Y1R12", "507 LEDGER_FULL"),
+        ACCREDITED,
+        (1, ONE_ITEM, "507 LEDGER_FULL"),
+    ];
+    answers(&rt, rt.alloc(), limits, &steps)
 }

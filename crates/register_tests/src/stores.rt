@@ -1,18 +1,31 @@
 //! Stores that are opened: a sound one, and one after each of many single changes, which is told by its number.
-use crate::limits::{TWO_RECORDS, accredits, office, uploads};
-use lei_office::{Damage, Limits, Office, OpenFault};
-use lei_outside::{Bytes, Keeper, KeptCell, KeptEntry, List, MapKeeper, NoMemory, may_be_kept};
+use crate::limits::{ISSUER, MOMENT, TWO_RECORDS};
+use crate::runs::words;
+use lei_outside::{
+    Bytes, Clock, Keeper, KeptCell, KeptEntry, List, MapKeeper, NoMemory, SureSink, SureSource,
+    may_be_kept,
+};
+use leireg_run::run;
 use std::alloc::Global;
 use std::process::Abort;
 use std::test::Fail;
 use std::thread::Threads;
 
-const ISSUER: &str = "506700GE1G29325QX363";
-
 const UPLOADS: u32 = 999;
 
-const TAKEN: &str =
-    r#"200 {"entry":2,"issuer":"506700GE1G29325QX363","items":["ACCEPTED","ACCEPTED"],"number":1}"#;
+// A clock that stands still. It tells nothing of its moments.
+#[derive(Drop)]
+struct Still;
+
+impl Clock for Still {
+    ghost use Rattle.std.specs.Prelude.{None};
+
+    ghost given = { λ _. None };
+
+    fn now(&mut self) -> i64 {
+        MOMENT
+    }
+}
 
 // What is changed of a store, an entry by its place or the first cell.
 #[derive(Clone, Copy, Debug)]
@@ -32,7 +45,7 @@ fn entries_with(
     alloc: Global,
     entries: &[KeptEntry],
     change: Change,
-) -> Result<Vec<KeptEntry>, NoMemory> {
+) -> Result<List<KeptEntry>, NoMemory> {
     let mut list = Vec::with_capacity(alloc, entries.len())?;
     for (place, entry) in entries.iter().enumerate() {
         let mut entry = entry.copy(alloc)?;
@@ -46,7 +59,7 @@ fn entries_with(
         }
         list.push(entry)?;
     }
-    Ok(list)
+    Ok(List::from(list))
 }
 
 // The cells of a store with a change.
@@ -54,7 +67,7 @@ fn cells_with(
     alloc: Global,
     cells: &[KeptCell],
     change: Change,
-) -> Result<Vec<KeptCell>, NoMemory> {
+) -> Result<List<KeptCell>, NoMemory> {
     let mut list = Vec::with_capacity(alloc, cells.len())?;
     for (place, cell) in cells.iter().enumerate() {
         let mut cell = cell.copy(alloc)?;
@@ -67,91 +80,122 @@ fn cells_with(
         }
         list.push(cell)?;
     }
-    Ok(list)
+    Ok(List::from(list))
 }
 
-// The damage of a store, if it has any.
-fn damage_of<R: Threads + Sync>(
-    rt: &R,
+// A keeper that has a store with a change.
+fn keeper_with(
     alloc: Global,
-    entries: List<KeptEntry>,
-    cells: List<KeptCell>,
-) -> Result<Option<Damage>, Fail> {
-    if !may_be_kept(entries.as_slice(), cells.as_slice()) {
-        return Err(Fail::from("what a keeper may have"));
-    }
-    let keeper = MapKeeper::of(alloc, entries, cells, List::from(Vec::new(alloc)));
-    match Office::open(rt, alloc, keeper, Limits::standard()) {
-        Ok(_) => Ok(None),
-        Err(OpenFault::StoreDamaged(_, damage)) => Ok(Some(damage)),
-        Err(OpenFault::KeeperFault(_)) => Err(Fail::from("a keeper that doesn't fail")),
-        Err(OpenFault::NoMemory(_)) => Err(Fail::from("memory for an office")),
+    entries: &[KeptEntry],
+    cells: &[KeptCell],
+    change: Change,
+) -> Result<MapKeeper, NoMemory> {
+    let entries = entries_with(alloc, entries, change)?;
+    let cells = cells_with(alloc, cells, change)?;
+    if may_be_kept(entries.as_slice(), cells.as_slice()) {
+        Ok(MapKeeper::of(alloc, entries, cells, List::from(Vec::new(alloc))))
+    } else {
+        Err(NoMemory)
     }
 }
 
-// What an office has kept that accredited an issuer and took an upload of two records and many of one that is rejected.
-fn kept<R: Abort + Threads + Sync>(
+// Answers lines over a keeper. Says the status, and gives the keeper back.
+fn answers<R: Threads + Sync>(
     rt: &R,
     alloc: Global,
-) -> Result<(List<KeptEntry>, List<KeptCell>), Fail> {
-    let mut office = office(rt, alloc, Limits::standard())?;
-    let accredited = r#"200 {"entry":1,"issuer":"506700GE1G29325QX363"}"#;
-    accredits(rt, alloc, &mut office, ISSUER, accredited)?;
-    uploads(rt, alloc, &mut office, 1, TWO_RECORDS.as_bytes(), TAKEN)?;
+    lines: &mut SureSource,
+    sink: &mut SureSink,
+    words: &[String],
+    keeper: MapKeeper,
+) -> (u8, MapKeeper) {
+    run(rt, alloc, words, lines, sink, keeper, &mut Still)
+}
+
+// The lines that accredit an issuer and send an upload of two records and many of one that is rejected.
+fn lines(alloc: Global) -> Result<String, Fail> {
+    let mut lines = format!(in alloc; "ACCREDIT {ISSUER}\nUPLOAD {ISSUER} 1 {TWO_RECORDS}\n")?;
     for number in 2..UPLOADS + 1 {
-        let want = format!(in alloc;
-            "200 {{\"entry\":{},\"issuer\":\"{ISSUER}\",\"items\":[\"C02 FIELD_MISSING LEI\"],\"number\":{number}}}",
-            number + 1
-        )?;
-        uploads(
-            rt,
-            alloc,
-            &mut office,
-            number,
-            b"{\"records\":[{}]}",
-            want.as_str(),
-        )?;
+        let line = format!(in alloc; "UPLOAD {ISSUER} {number} {{\"records\":[{{}}]}}\n")?;
+        lines.push_str(line.as_str())?;
     }
-    let mut keeper = office.close();
-    Ok((keeper.entries(0, u64::MAX)?, keeper.cells(0, u64::MAX)?))
+    Ok(lines)
+}
+
+// What is told where a store is opened with this change.
+fn told<R: Threads + Sync>(
+    rt: &R,
+    alloc: Global,
+    entries: &[KeptEntry],
+    cells: &[KeptCell],
+    change: Change,
+) -> Result<SureSink, Fail> {
+    let words = words(alloc)?;
+    let keeper = keeper_with(alloc, entries, cells, change)?;
+    let mut sink = SureSink::new(alloc, usize::MAX);
+    let mut nothing = SureSource::new(Bytes::from(Vec::new(alloc)), 1);
+    let (_, _) = answers(rt, alloc, &mut nothing, &mut sink, &words, keeper);
+    Ok(sink)
 }
 
 // A store with this change is damaged at the entry of this number, or is sound where that is 0.
 fn is_damaged_at<R: Abort + Threads + Sync>(
     rt: &R,
     alloc: Global,
-    store: &(List<KeptEntry>, List<KeptCell>),
+    entries: &[KeptEntry],
+    cells: &[KeptCell],
     change: Change,
-    number: u64,
+    number: usize,
 ) -> Result<(), Fail> {
-    let entries = List::from(entries_with(alloc, store.0.as_slice(), change)?);
-    let cells = List::from(cells_with(alloc, store.1.as_slice(), change)?);
-    let told = match damage_of(rt, alloc, entries, cells)? {
-        Some(damage) => damage.entry,
-        None => 0,
-    };
-    assert_eq!(rt; told, number, "{change:?}");
+    let want = format!(in alloc; "STORE_DAMAGED {number}\n")?;
+    let sink = told(rt, alloc, entries, cells, change)?;
+    if number == 0 {
+        assert!(rt; sink.written().is_empty(), "{change:?}");
+    } else {
+        assert!(rt; sink.written().starts_with(want.as_bytes()), "{change:?}");
+    }
     Ok(())
 }
 
-#[test]
-fn each_change_of_a_store_is_told_by_its_number(rt: HostRuntime) -> Result<(), Fail> {
-    let alloc = rt.alloc();
-    let store = kept(&rt, alloc)?;
-    is_damaged_at(&rt, alloc, &store, Change::Nothing, 0)?;
+// Each change of a store is told.
+fn are_told<R: Abort + Threads + Sync>(
+    rt: &R,
+    alloc: Global,
+    entries: &[KeptEntry],
+    cells: &[KeptCell],
+) -> Result<(), Fail> {
     for place in (0usize..1000).step_by(20) {
-        let number = place as u64 + 1;
-        is_damaged_at(&rt, alloc, &store, Change::Answer(place), number)?;
-        is_damaged_at(&rt, alloc, &store, Change::Out(place), number)?;
+        is_damaged_at(rt, alloc, entries, cells, Change::Answer(place), place + 1)?;
+        is_damaged_at(rt, alloc, entries, cells, Change::Out(place), place + 1)?;
     }
     for (change, number) in [
+        (Change::Nothing, 0),
         (Change::Moment(1), 2),
         (Change::Row, 2),
         (Change::Withdrawn, 2),
         (Change::Touched, 3),
         (Change::Fewer, 2),
     ] {
-        is_damaged_at(&rt, alloc, &store, change, number)?;
+        is_damaged_at(rt, alloc, entries, cells, change, number)?;
     }
     Ok(())
+}
+
+// A keeper that has an accreditation, an upload of two records, and many that were rejected.
+fn kept<R: Threads + Sync>(rt: &R, alloc: Global) -> Result<MapKeeper, Fail> {
+    let words = words(alloc)?;
+    let lines = Bytes::copy_of(alloc, lines(alloc)?.as_bytes())?;
+    let mut source = SureSource::new(lines, 65_536);
+    let mut sink = SureSink::new(alloc, usize::MAX);
+    let keeper = MapKeeper::new(alloc, List::from(Vec::new(alloc)));
+    let (_, keeper) = answers(rt, alloc, &mut source, &mut sink, &words, keeper);
+    Ok(keeper)
+}
+
+#[test]
+fn each_change_of_a_store_is_told_by_its_number(rt: HostRuntime) -> Result<(), Fail> {
+    let mut keeper = kept(&rt, rt.alloc())?;
+    let entries = keeper.entries(0, u64::MAX)?;
+    let cells = keeper.cells(0, u64::MAX)?;
+    assert_eq!(rt; (entries.len(), cells.len()), (1000, 2));
+    are_told(&rt, rt.alloc(), entries.as_slice(), cells.as_slice())
 }
