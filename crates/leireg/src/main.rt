@@ -28,7 +28,10 @@ fn main(rt: HostRuntime) -> io::Result<ExitCode> {
         Ok(words) => match store_path(&words) {
             Some(path) => {
                 let keeper = Watched::new(&rt, SqliteKeeper::on_file(&rt, path));
-                let (status, _) = run(&rt, alloc, &words, &mut input, &mut out, keeper, &mut clock);
+                let (status, watched) = run(
+                    &rt, alloc, &words, &mut input, &mut out, keeper, &mut clock,
+                );
+                watched.keeper.close();
                 status
             }
             None => {
