@@ -114,8 +114,7 @@ fn takes_all<R: Abort + Threads + Sync>(
     Ok(())
 }
 
-// Under these limits an office answers these steps so. It is let go here alone, since each place where it is costs a proof
-// of its own.
+// Under these limits an office answers these steps so. It is closed, since letting it go costs a proof for each of its parts.
 fn answers<R: Abort + Threads + Sync>(
     rt: &R,
     alloc: Global,
@@ -125,7 +124,11 @@ fn answers<R: Abort + Threads + Sync>(
     requires { AreLimits limits }
 {
     match Office::open(rt, alloc, SureKeeper::new(alloc), limits) {
-        Ok(mut office) => takes_all(rt, alloc, &mut office, steps),
+        Ok(mut office) => {
+            let went = takes_all(rt, alloc, &mut office, steps);
+            let _ = office.close();
+            went
+        }
         Err(_) => Err(Fail::from("memory for an office")),
     }
 }
