@@ -1,8 +1,9 @@
 -- The texts of answers: JSON objects in their compact form, with their names in byte order (RFC 8259).
-use Rattle.std.specs.Prelude.{ℕ, List, [], ◌∷◌, codes, map, unwrap_or}
+use Rattle.std.specs.Prelude.{ℕ, ℤ, List, [], ◌∷◌, codes, map, unwrap_or}
 use Rattle.serde_json.specs.Data.{Data, number, unsigned, string, array, object, Items, no_items, item, member, no_members}
 use Rattle.serde_json.specs.Written.{compact_text}
 use Rattle.lei_code.specs.Texts.{Lei, Text}
+use Rattle.lei_shapes.specs.Clock.{moment_text}
 use Rattle.register_judge.specs.declared.outcome.Verdict.{Verdict}
 use Rattle.lei_records.specs.Checks.{IsNumber, check_text}
 use Rattle.upload_ledger.specs.declared.totals.Totals.{Totals}
@@ -41,6 +42,18 @@ upload_answer entry issuer items upload =
 unfoldable pub upload_text : ℕ → Lei → ℕ → List Verdict → Text
 upload_text entry issuer upload verdicts =
     compact_text (upload_answer entry issuer (strings (map verdict_text verdicts)) upload)
+
+-- what is answered when a publication is made by the entry of this number: its moment, its own number, and how many
+-- records, relationships and exceptions it has
+abbrev pub publication_answer : ℕ → ℕ → ℤ → ℕ × ℕ × ℕ → Data
+publication_answer entry publication moment counts =
+    object (member (codes "contentDate") (string (moment_text moment)) (member (codes "entry") (number (unsigned entry))
+    (member (codes "lei") (number (unsigned counts.0)) (member (codes "publication") (number (unsigned publication))
+    (member (codes "repex") (number (unsigned counts.2)) (member (codes "rr") (number (unsigned counts.1)) no_members))))))
+
+-- its text
+unfoldable pub publication_text : ℕ → ℕ → ℤ → ℕ × ℕ × ℕ → Text
+publication_text entry publication moment counts = compact_text (publication_answer entry publication moment counts)
 
 -- what is answered of the numbers of entries, issuers, bytes of bodies and publications, and of the numbers of
 -- records, relationships and exceptions that are held; annulled relationships are counted

@@ -15,11 +15,11 @@ use Rattle.copy_csv.specs.Sheets.{row_of}
 use Rattle.copy_forms.specs.Json.{json_record}
 use Rattle.register_table.specs.Held.{Cell, Held}
 use Rattle.register_table.specs.Touched.{touched}
-use Rattle.upload_ledger.specs.History.{History, is_accreditation, is_upload}
+use Rattle.upload_ledger.specs.History.{History, is_accreditation, is_publication, is_upload}
 use Rattle.lei_office.specs.declared.limits.Limits.{Limits}
 use Rattle.lei_office.specs.declared.damage.Damage.{Damage}
 use Rattle.lei_office.specs.declared.request.Request.{Request}
-use Rattle.lei_office.specs.declared.request.Request.TheVariants.{Accredit, Upload}
+use Rattle.lei_office.specs.declared.request.Request.TheVariants.{Accredit, Publish, Upload}
 use Rattle.lei_office.specs.Kept.{AreTablesOf, joined}
 use Rattle.lei_office.specs.Legal.{IsNext, Legal}
 use Rattle.lei_office.specs.Limits.{number_limit}
@@ -55,7 +55,7 @@ entry_line e = joined (decimal e.seq ∷ kind_word e.kind ∷ or_dash e.office �
 abbrev pub is_lei : Text → Bool
 is_lei text = is_none (fault_of text)
 
--- the number is one that an upload may have
+-- the number is one that an upload or a publication may have
 abbrev pub is_number : ℕ → Bool
 is_number number = nat_le 1 number && nat_le number number_limit
 
@@ -69,9 +69,15 @@ abbrev pub upload_in : KeptEntry → Option Request
 upload_in e = if is_lei e.office && is_number e.number
     then Some (Upload (record { office = e.office; number = e.number; body = e.body })) else None
 
+-- a publication has a number that it may have, and neither an office nor a body
+abbrev pub publication_in : KeptEntry → Option Request
+publication_in e =
+    if length e.office == 0 && is_number e.number && length e.body == 0 then Some (Publish e.number) else None
+
 -- the request that an entry of this kind was taken for
 abbrev pub request_in : KeptEntry → Option Request
-request_in e = if is_accreditation e then accreditation_in e else (if is_upload e then upload_in e else None)
+request_in e = if is_accreditation e then accreditation_in e
+    else (if is_upload e then upload_in e else (if is_publication e then publication_in e else None))
 
 -- The request that a stored entry was taken for, and none where its values are those of no request or its moment isn't
 -- one.

@@ -7,17 +7,17 @@ use Rattle.lei_outside.specs.declared.entry.KeptEntry.{KeptEntry}
 use Rattle.lei_office.specs.declared.request.Asked.{Asked}
 use Rattle.lei_office.specs.declared.request.Asked.TheVariants.{Ask, Refuse}
 use Rattle.lei_office.specs.declared.request.Request.{Request}
-use Rattle.lei_office.specs.declared.request.Request.TheVariants.{Accredit, Kept, Show, Status, Upload}
+use Rattle.lei_office.specs.declared.request.Request.TheVariants.{Accredit, Copy, Kept, Publish, Show, Status, Upload}
 use Rattle.lei_office.specs.declared.reply.Refusal.TheVariants.{NoMemory}
 use Rattle.lei_office.specs.declared.reply.Reply.{Reply}
 use Rattle.lei_office.specs.declared.reply.Reply.TheVariants.{Words}
 use Rattle.lei_office.specs.declared.limits.Limits.{Limits}
-use Rattle.upload_ledger.specs.History.{History, is_accreditation, is_upload, upload_at}
+use Rattle.upload_ledger.specs.History.{History, is_accreditation, is_publication, is_upload, upload_at}
 use Rattle.lei_office.specs.Limits.{IsFrom1To, number_limit}
 use Rattle.lei_office.specs.State.{OfficeState, office_of}
 use Rattle.lei_office.specs.Replies.{adds, next, outcome, reply, Step}
 
--- the number of an upload lies from 1 to its limit
+-- the number of an upload lies from 1 to its limit, and so does that of a publication
 abbrev pub IsUploadNumber : ℕ → Type 0
 IsUploadNumber number = IsFrom1To number_limit number
 
@@ -26,7 +26,9 @@ abbrev pub IsNumbered : Request → Type 0
 IsNumbered (Accredit issuer) = Unit {0}
 IsNumbered (Upload call) = IsUploadNumber call.number
 IsNumbered (Kept issuer number) = IsUploadNumber number
+IsNumbered (Publish number) = IsUploadNumber number
 IsNumbered (Show lei) = Unit {0}
+IsNumbered (Copy sheet form) = Unit {0}
 IsNumbered Status = Unit {0}
 
 -- a request as readers make it: each LEI that it names is one, and its number lies in its range
@@ -34,14 +36,17 @@ abbrev pub IsRequest : Request → Type 0
 IsRequest (Accredit issuer) = IsValid issuer
 IsRequest (Upload call) = IsValid call.office × IsUploadNumber call.number
 IsRequest (Kept issuer number) = IsValid issuer × IsUploadNumber number
+IsRequest (Publish number) = IsUploadNumber number
 IsRequest (Show lei) = IsValid lei
+IsRequest (Copy sheet form) = Unit {0}
 IsRequest Status = Unit {0}
 
 -- the request that an entry was taken for
 abbrev pub request_of : KeptEntry → Option Request
 request_of e =
     if is_accreditation e then Some (Accredit e.office)
-    else (if is_upload e then Some (Upload (record { office = e.office; number = e.number; body = e.body })) else None)
+    else (if is_upload e then Some (Upload (record { office = e.office; number = e.number; body = e.body }))
+    else (if is_publication e then Some (Publish e.number) else None))
 
 -- the entry is what its own request adds to the office before it, at its own moment
 abbrev pub IsNext : OfficeState → KeptEntry → Type 0
@@ -76,7 +81,9 @@ abbrev pub TakesMemoryToRead : Request → Type 0
 TakesMemoryToRead (Accredit issuer) = ⊥
 TakesMemoryToRead (Upload call) = Unit {0}
 TakesMemoryToRead (Kept issuer number) = ⊥
+TakesMemoryToRead (Publish number) = ⊥
 TakesMemoryToRead (Show lei) = ⊥
+TakesMemoryToRead (Copy sheet form) = ⊥
 TakesMemoryToRead Status = ⊥
 
 -- A refusal of the reader is its own reply, and takes no moment. A request takes one, and makes a step. Where there

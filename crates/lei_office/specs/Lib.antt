@@ -2,6 +2,7 @@ pub mod Limits
 pub mod State
 pub mod Answers
 pub mod Register
+pub mod Publications
 pub mod Replies
 pub mod Legal
 pub mod Judging

@@ -17,14 +17,20 @@ use Rattle.register_judge.specs.declared.outcome.Verdict.{Verdict}
 use Rattle.lei_office.specs.declared.request.Call.{Call}
 use Rattle.lei_office.specs.declared.request.Request.{Request}
 use Rattle.lei_office.specs.declared.request.Request.TheVariants as requests
-use Rattle.lei_office.specs.declared.reply.Kind.TheVariants.{Json}
+use Rattle.copy_csv.specs.declared.sheets.Form.{Form}
+use Rattle.copy_csv.specs.declared.sheets.Sheet.{Sheet}
+use Rattle.copy_forms.specs.Trails.{Publication, Trail, copy_of}
+use Rattle.golden_shelf.specs.Shelves.{latest}
+use Rattle.lei_office.specs.declared.reply.Kind.{Kind}
+use Rattle.lei_office.specs.declared.reply.Kind.TheVariants.{Csv, Json}
 use Rattle.lei_office.specs.declared.reply.Refusal.{Refusal}
-use Rattle.lei_office.specs.declared.reply.Refusal.TheVariants.{TooLong, NoRoute, Path, IssuerUnknown, NumberTaken, NumberAhead, LedgerFull, NotKept, LeiUnknown, NoMemory, KeeperFault}
+use Rattle.lei_office.specs.declared.reply.Refusal.TheVariants.{TooLong, NoRoute, Path, IssuerUnknown, NumberTaken, NumberAhead, LedgerFull, NotKept, LeiUnknown, NothingPublished, NoMemory, KeeperFault}
 use Rattle.lei_office.specs.declared.reply.Refusal.TheVariants as refusals
 use Rattle.lei_office.specs.declared.reply.Reply.{Reply}
 use Rattle.lei_office.specs.declared.reply.Reply.TheVariants.{Text, Words}
-use Rattle.upload_ledger.specs.History.{History, accredited, kept, kept_bytes, Place, unknown_issuer, repeat_of, number_taken, ahead, fresh, place, stamp, totals}
-use Rattle.lei_office.specs.Answers.{accreditation_text, status_text, upload_text}
+use Rattle.upload_ledger.specs.History.{History, accredited, kept, kept_bytes, Place, unknown_issuer, repeat_of, number_taken, ahead, fresh, place, publications, published, stamp, totals}
+use Rattle.lei_office.specs.Answers.{accreditation_text, publication_text, status_text, upload_text}
+use Rattle.lei_office.specs.Publications.{published_rows, trail}
 use Rattle.lei_office.specs.Register.{after}
 use Rattle.lei_office.specs.State.{OfficeState}
 use Rattle.copy_forms.specs.Items.{item_text}
@@ -86,6 +92,26 @@ taken_upload office call moment raws =
     let taken = take table office.limits.records (day_of moment) call.office (map ready raws) in
     upload_entry office.history call moment taken.verdicts
 
+-- how many rows of each sheet are published of a table: records, relationships and exceptions
+abbrev pub published_counts : Table → ℕ × ℕ × ℕ
+published_counts table =
+    (length (published_rows table Sheet.Lei), length (published_rows table Sheet.Rr), length (published_rows table Sheet.Repex))
+
+-- a publication is an entry of kind 3, without an office and a body, with the number that was asked for
+abbrev pub publication_entry : OfficeState → ℕ → ℤ → KeptEntry
+publication_entry office number moment =
+    let seq = length office.history + 1 in
+    record {
+      seq = seq;
+      kind = 3;
+      office = [];
+      number = number;
+      moment = moment;
+      rules = 1;
+      body = [];
+      answer = publication_text seq number moment (published_counts (after office.limits office.history));
+    }
+
 -- ---- what a request comes to
 
 -- there are as many entries as the limit
@@ -134,6 +160,33 @@ kept_outcome history issuer number =
     if is_some (accredited history issuer) then answer_outcome (kept history issuer number)
     else stays (Words IssuerUnknown)
 
+-- the number of the next publication
+abbrev pub next_publication : History → ℕ
+next_publication history = length (publications history) + 1
+
+-- A publication that was made gets the answer from then. Of all other numbers it is only the next one that is made.
+abbrev pub publish_outcome : OfficeState → ℕ → ℤ → Option texts.Text → Outcome
+publish_outcome office number moment None =
+    if number == next_publication office.history then
+    (if is_full office then stays (Words LedgerFull) else adds (publication_entry office number moment))
+    else stays (Words (NumberAhead (next_publication office.history)))
+publish_outcome office number moment (Some text) = stays (json_reply (kind_status_code 3) text)
+
+-- the kind of a text that is a file in this form
+abbrev pub form_kind : Form → Kind
+form_kind Form.Csv = Csv
+form_kind Form.Json = Json
+
+-- the copy of a sheet in the latest publication, which has this number
+abbrev pub copied : Sheet → Form → ℕ → Option Publication → Outcome
+copied sheet form number None = stays (Words NothingPublished)
+copied sheet form number (Some publication) =
+    stays (Text 200 (form_kind form) (copy_of number publication sheet form))
+
+-- the same of a trail of publications
+abbrev pub copy_outcome : Sheet → Form → Trail → Outcome
+copy_outcome sheet form made = copied sheet form (length made) (latest made)
+
 -- a record is shown as it is held: a JSON object of its present fields
 abbrev pub show_outcome : Option Row → Outcome
 show_outcome None = stays (Words LeiUnknown)
@@ -153,7 +206,10 @@ outcome_at office (requests.Accredit issuer) moment =
     accredit_outcome office issuer moment (accredited office.history issuer)
 outcome_at office (requests.Upload call) moment = upload_outcome office call moment
 outcome_at office (requests.Kept issuer number) moment = kept_outcome office.history issuer number
+outcome_at office (requests.Publish number) moment =
+    publish_outcome office number moment (published office.history number)
 outcome_at office (requests.Show lei) moment = show_outcome (row_at (after office.limits office.history) lei)
+outcome_at office (requests.Copy sheet form) moment = copy_outcome sheet form (trail office)
 outcome_at office requests.Status moment = status_outcome office.history (after office.limits office.history)
 
 -- the same where the request comes at this moment of the clock
@@ -186,12 +242,14 @@ next office request moment = next_of office (outcome office request moment)
 
 -- ---- one step, which want of memory or the keeper may stop
 
--- An upload is refused for a full ledger once its body was read, and an accreditation at once.
+-- An upload is refused for a full ledger once its body was read, and an accreditation or a publication at once.
 abbrev pub full_needs_memory : Request → Bool
 full_needs_memory (requests.Accredit issuer) = false
 full_needs_memory (requests.Upload call) = true
 full_needs_memory (requests.Kept issuer number) = false
+full_needs_memory (requests.Publish number) = false
 full_needs_memory (requests.Show lei) = false
+full_needs_memory (requests.Copy sheet form) = false
 full_needs_memory requests.Status = false
 
 -- The others but for a malformed body are found in what is kept, with no memory.
@@ -206,6 +264,7 @@ needs_memory request (refusals.Malformed fault) = true
 needs_memory request LedgerFull = full_needs_memory request
 needs_memory request NotKept = false
 needs_memory request LeiUnknown = false
+needs_memory request NothingPublished = false
 needs_memory request NoMemory = true
 needs_memory request KeeperFault = false
 

@@ -4,7 +4,7 @@ use Rattle.lei_code.specs.Texts.{Text}
 use Rattle.upload_format.specs.declared.fault.Malformed.{Malformed}
 use Rattle.upload_format.specs.declared.fault.Malformed.TheVariants.{NotJson, NotAnUpload, NoItems, TooManyItems}
 use Rattle.lei_office.specs.declared.reply.Refusal.{Refusal}
-use Rattle.lei_office.specs.declared.reply.Refusal.TheVariants.{TooLong, NoRoute, Path, IssuerUnknown, NumberTaken, NumberAhead, LedgerFull, NotKept, LeiUnknown, NoMemory, KeeperFault}
+use Rattle.lei_office.specs.declared.reply.Refusal.TheVariants.{TooLong, NoRoute, Path, IssuerUnknown, NumberTaken, NumberAhead, LedgerFull, NotKept, LeiUnknown, NothingPublished, NoMemory, KeeperFault}
 use Rattle.lei_office.specs.declared.reply.Refusal.TheVariants as refusals
 use Rattle.lei_office.specs.declared.reply.Reply.{Reply}
 use Rattle.lei_office.specs.declared.reply.Reply.TheVariants as replies
@@ -21,6 +21,7 @@ refusal_status_code (refusals.Malformed fault) = 400
 refusal_status_code LedgerFull = 507
 refusal_status_code NotKept = 404
 refusal_status_code LeiUnknown = 404
+refusal_status_code NothingPublished = 404
 refusal_status_code NoMemory = 500
 refusal_status_code KeeperFault = 503
 
@@ -43,6 +44,7 @@ refusal_name (refusals.Malformed fault) = malformed_name fault
 refusal_name LedgerFull = codes "LEDGER_FULL"
 refusal_name NotKept = codes "NOT_KEPT"
 refusal_name LeiUnknown = codes "LEI_UNKNOWN"
+refusal_name NothingPublished = codes "NOTHING_PUBLISHED"
 refusal_name NoMemory = codes "NO_MEMORY"
 refusal_name KeeperFault = codes "KEEPER_FAULT"
 
@@ -58,6 +60,7 @@ refusal_number (refusals.Malformed fault) = None
 refusal_number LedgerFull = None
 refusal_number NotKept = None
 refusal_number LeiUnknown = None
+refusal_number NothingPublished = None
 refusal_number NoMemory = None
 refusal_number KeeperFault = None
 

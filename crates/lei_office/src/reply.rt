@@ -8,6 +8,7 @@ use upload_format::Malformed;
 #[derive(Clone, Copy, Debug, PartialEq, Eq)]
 pub enum Kind {
     Json,
+    Csv,
 }
 
 /// Why a request is refused. This project's profile.
@@ -23,7 +24,7 @@ pub enum Refusal {
     IssuerUnknown,
     /// The issuer has sent another body under this number.
     NumberTaken,
-    /// The number that the issuer's next upload has.
+    /// The number that the issuer's next upload has, or the next publication.
     NumberAhead(u32),
     Malformed(Malformed),
     /// There are as many entries as the limit, or the bodies that are kept would be too long with this one.
@@ -32,6 +33,8 @@ pub enum Refusal {
     NotKept,
     /// No record of this LEI is held.
     LeiUnknown,
+    /// There is no publication yet.
+    NothingPublished,
     NoMemory,
     /// The entry couldn't be kept.
     KeeperFault,
@@ -46,8 +49,11 @@ impl Refusal {
     {
         match self {
             Refusal::Path | Refusal::Malformed(_) => 400,
-            Refusal::NoRoute | Refusal::IssuerUnknown | Refusal::NotKept | Refusal::LeiUnknown =>
-                404,
+            Refusal::NoRoute
+            | Refusal::IssuerUnknown
+            | Refusal::NotKept
+            | Refusal::LeiUnknown
+            | Refusal::NothingPublished => 404,
             Refusal::NumberTaken | Refusal::NumberAhead(_) => 409,
             Refusal::TooLong => 413,
             Refusal::NoMemory => 500,
@@ -74,6 +80,7 @@ impl Refusal {
             Refusal::LedgerFull => "LEDGER_FULL",
             Refusal::NotKept => "NOT_KEPT",
             Refusal::LeiUnknown => "LEI_UNKNOWN",
+            Refusal::NothingPublished => "NOTHING_PUBLISHED",
             Refusal::NoMemory => "NO_MEMORY",
             Refusal::KeeperFault => "KEEPER_FAULT",
         }

@@ -2,13 +2,14 @@ ghost use Rattle.std.specs.Prelude.{◌↔◌, IsTrue};
 ghost use Rattle.lei_office.specs.Legal.{IsUploadNumber};
 
 use crate::reply::Refusal;
+use copy_csv::{Form, Sheet};
 use lei_code::Lei;
 use lei_outside::Bytes;
 
-/// The greatest number of an upload. This project's profile.
+/// The greatest number of an upload, and of a publication. This project's profile.
 pub const MAX_NUMBER: u32 = 1_000_000;
 
-/// Whether an upload may have this number.
+/// Whether an upload, or a publication, may have this number.
 pub fn is_upload_number(number: u32) -> bool
     ensures { IsTrue result ↔ IsUploadNumber number }
 {
@@ -33,8 +34,12 @@ pub enum Request {
     Upload(Call),
     /// To tell what was answered to the issuer's upload of this number.
     Kept(Lei, u32),
+    /// To publish what the register holds, as the publication of this number, from 1 to [`MAX_NUMBER`].
+    Publish(u32),
     /// To show the record of this LEI.
     Show(Lei),
+    /// To give the copy of a sheet in the latest publication.
+    Copy(Sheet, Form),
     /// To tell how much is kept and held.
     Status,
 }
