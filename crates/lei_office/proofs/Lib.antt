@@ -27,3 +27,7 @@ pub mod CellLines
 pub mod Beginnings
 pub mod TextsDiffer
 pub mod OneDamage
+pub mod TrailGrowth
+pub mod PublishedRows
+pub mod UntouchedKeys
+pub mod NextIssue

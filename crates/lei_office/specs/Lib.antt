@@ -3,6 +3,7 @@ pub mod State
 pub mod Answers
 pub mod Register
 pub mod Publications
+pub mod Publishing
 pub mod Replies
 pub mod Legal
 pub mod Judging
