@@ -31,3 +31,7 @@ pub mod TrailGrowth
 pub mod PublishedRows
 pub mod UntouchedKeys
 pub mod NextIssue
+pub mod JsonTexts
+pub mod SentTexts
+pub mod SoundTrail
+pub mod OwnChanges

@@ -152,6 +152,12 @@ unfolding all_ascii
 category_ascii ExceptionCategory.DirectAccountingConsolidationParent = refl
 category_ascii ExceptionCategory.UltimateAccountingConsolidationParent = refl
 
+pub type_is_ascii : (kind : RelationType) → IsAscii (relation_type_text kind)
+type_is_ascii kind = all_is_ascii (relation_type_text kind) (type_ascii kind)
+
+pub category_is_ascii : (category : ExceptionCategory) → IsAscii (exception_category_text category)
+category_is_ascii category = all_is_ascii (exception_category_text category) (category_ascii category)
+
 pub lei_ascii : (lei : List ℕ) → IsValid lei → IsAscii lei
 lei_ascii lei valid = code_is_ascii lei valid.characters
 

@@ -19,6 +19,8 @@ ghost use Rattle.lei_office.specs.declared.reply.Reply.TheVariants.{Words};
 ghost use Rattle.lei_office.specs.declared.request.Asked.{Asked};
 ghost use Rattle.lei_office.specs.Legal.{Legal, MomentsNeverFall, Session, UploadsAreNumbered, replies_to};
 ghost use Rattle.lei_office.specs.Parties.{ChangesArePermitted, ChangesMakeRecords};
+ghost use Rattle.copy_forms.specs.Trails.{IsSound as IsSoundTrail};
+ghost use Rattle.lei_office.specs.Publications.{trail};
 ghost use Rattle.lei_office.specs.Kept.{TablesAreOne};
 ghost use Rattle.lei_office.specs.Register.{CellsHaveTheRows, after};
 ghost use Rattle.lei_office.specs.State.{OfficeState};
@@ -95,6 +97,12 @@ pub fn lines_tell_cells()
 /// A store has one first difference at most.
 pub fn damage_is_one()
     ensures { (limits : Limits) (tables : KeptTables) → DamageIsOne limits tables }
+{}
+
+/// The publications of a history that can come about are a sound trail: the rows of each stand in the order of their keys,
+/// and under a key that no entry touched since the one before stands the same row, or none as there.
+pub fn publications_are_a_sound_trail()
+    ensures { (office : OfficeState) → Legal office → IsSoundTrail (trail office) }
 {}
 
 /// No two tables are those that are kept of one office.

@@ -21,8 +21,8 @@ pub use entries::RULES;
 pub use laws::{
     cells_have_the_rows, changes_are_permitted, changes_make_records, damage_is_no_history,
     exceptions_stand_apart, kept_tables_are_one, moments_never_fall, parents_are_chained,
-    registers_are_sound, sessions_are_exact, successors_are_chained, uploads_are_numbered,
-    verdicts_are_told,
+    publications_are_a_sound_trail, registers_are_sound, sessions_are_exact,
+    successors_are_chained, uploads_are_numbered, verdicts_are_told,
 };
 pub use limits::Limits;
 pub use office::Office;
