@@ -7,17 +7,17 @@ use Rattle.upload_format.specs.Bodies.{upload}
 use Rattle.upload_format.specs.declared.fault.Malformed.{Malformed}
 use Rattle.upload_format.specs.declared.fault.Malformed.TheVariants.{NotJson, NotAnUpload, NoItems, TooManyItems}
 use Rattle.lei_records.specs.declared.item.RawItem.{RawItem}
-use Rattle.upload_ledger.specs.History.{History, Place, accredited, ahead, fresh, is_accreditation_of, is_upload_of, last, next_number, number_taken, numbered, place, place_of_taken, repeat_of, stamp, unknown_issuer, upload_at, uploads}
-use Rattle.lei_office.specs.Answers.{accreditation_text, upload_text}
+use Rattle.upload_ledger.specs.History.{History, Place, accredited, ahead, fresh, is_accreditation_of, is_publication, is_upload_of, last, next_number, number_taken, numbered, place, place_of_taken, publications, published, repeat_of, stamp, unknown_issuer, upload_at, uploads}
+use Rattle.lei_office.specs.Answers.{accreditation_text, publication_text, upload_text}
 use Rattle.lei_office.specs.declared.limits.Limits.{Limits}
 use Rattle.lei_office.specs.declared.reply.Refusal.{Refusal}
 use Rattle.lei_office.specs.declared.reply.Refusal.TheVariants as refusals
 use Rattle.lei_office.specs.declared.reply.Reply.TheVariants.{Words}
 use Rattle.lei_office.specs.declared.request.Call.{Call}
 use Rattle.lei_office.specs.declared.request.Request.{Request}
-use Rattle.lei_office.specs.declared.request.Request.TheVariants.{Accredit, Upload}
+use Rattle.lei_office.specs.declared.request.Request.TheVariants.{Accredit, Publish, Upload}
 use Rattle.lei_office.specs.Legal.{IsNext, Legal, LegalAfter, request_of}
-use Rattle.lei_office.specs.Replies.{Outcome, accredit_outcome, accreditation, adds, body_outcome, is_full, is_too_much, outcome_at, place_outcome, stays, taken_upload, upload_outcome}
+use Rattle.lei_office.specs.Replies.{Outcome, accredit_outcome, accreditation, adds, body_outcome, is_full, is_too_much, next_publication, outcome_at, place_outcome, publication_entry, publish_outcome, stays, taken_upload, upload_outcome}
 use Rattle.lei_office.specs.State.{OfficeState, office_of}
 use Rattle.lei_office.specs.Words.{refusal_words, reply_words}
 use Rattle.lei_office.proofs.EntryLines.{first}
@@ -114,12 +114,14 @@ place-apart history issuer number body apart =
 abbrev pub IsFor : Request → KeptEntry → Type 0
 IsFor (Accredit issuer) e = (e.kind ≡ 1) × (e.office ≡ issuer) × (e.number ≡ 0) × (e.body ≡ [])
 IsFor (Upload call) e = (e.kind ≡ 2) × (e.office ≡ call.office) × (e.number ≡ call.number) × (e.body ≡ call.body)
+IsFor (Publish number) e = (e.kind ≡ 3) × (e.office ≡ []) × (e.number ≡ number) × (e.body ≡ [])
 IsFor request e = ⊥
 
 -- the request is one that an entry was taken for
 abbrev pub IsTaken : Request → Type 0
 IsTaken (Accredit issuer) = Unit {0}
 IsTaken (Upload call) = Unit {0}
+IsTaken (Publish number) = Unit {0}
 IsTaken request = ⊥
 
 -- an entry that is made for a request
@@ -175,24 +177,45 @@ upload-comes office call moment apart =
       | false ↦ place-comes office call moment at (place-apart office.history call.office call.number call.body apart)
     ]
 
+publication-made : (office : OfficeState) (number : ℕ) (moment : ℤ) → IsMade office (Publish number) moment (publication_entry office number moment)
+unfolding publication_text
+publication-made office number moment = record { seq = refl; own = (refl, refl, refl, refl); at_moment = refl; rules = omega arith; apart = omega arith }
+
+publish-comes : (office : OfficeState) (number : ℕ) (moment : ℤ) (found : Option Text) → FoundApart found → Comes office (Publish number) moment (publish_outcome office number moment found)
+publish-comes office number moment None apart = by_tests (number == next_publication office.history) (is_full office)
+  where
+    by_tests : (due full : Bool) → Comes office (Publish number) moment
+        (cond due (cond full (stays (Words refusals.LedgerFull)) (adds (publication_entry office number moment))) (stays (Words (refusals.NumberAhead (next_publication office.history)))))
+    by_tests true true = refusal-apart refusals.LedgerFull
+    by_tests true false = publication-made office number moment
+    by_tests false full = refusal-apart (refusals.NumberAhead (next_publication office.history))
+publish-comes office number moment (Some text) apart = apart
+
 pub request-comes : (office : OfficeState) (request : Request) (moment : ℤ) → AreApart office.history → IsTaken request → Comes office request moment (outcome_at office request moment)
 request-comes office (Accredit issuer) moment apart taken =
     accredit-comes office issuer moment (accredited office.history issuer) (answer-apart (find (is_accreditation_of issuer) office.history) (found-apart (is_accreditation_of issuer) office.history apart))
 request-comes office (Upload call) moment apart taken = upload-comes office call moment apart
+request-comes office (Publish number) moment apart taken =
+    let entries = publications office.history in
+    publish-comes office number moment (published office.history number)
+    (answer-apart (numbered entries number) (numbered-apart entries number (filter-apart is_publication office.history apart)))
 request-comes office request moment apart taken = absurd taken
 
 -- ---- legal histories
 
 pub request-taken : (e : KeptEntry) (request : Request) → request_of e ≡ Some request → IsTaken request
-request-taken e request is = by_kind (e.kind == 1) (e.kind == 2) is
+request-taken e request is = by_kind (e.kind == 1) (e.kind == 2) (e.kind == 3) is
   where
     of_one : (one : Request) → IsTaken one → Some one ≡ Some request → IsTaken request
     of_one one taken same = (let this : one ≡ request = cc in subst IsTaken this taken)
 
-    by_kind : (one two : Bool) → cond one (Some (Accredit e.office)) (cond two (Some (Upload (record { office = e.office; number = e.number; body = e.body }))) None) ≡ Some request → IsTaken request
-    by_kind true two same = of_one (Accredit e.office) tt same
-    by_kind false true same = of_one (Upload (record { office = e.office; number = e.number; body = e.body })) tt same
-    by_kind false false same = cc
+    by_kind : (one two three : Bool)
+        → cond one (Some (Accredit e.office)) (cond two (Some (Upload (record { office = e.office; number = e.number; body = e.body }))) (cond three (Some (Publish e.number)) None)) ≡ Some request
+        → IsTaken request
+    by_kind true two three same = of_one (Accredit e.office) tt same
+    by_kind false true three same = of_one (Upload (record { office = e.office; number = e.number; body = e.body })) tt same
+    by_kind false false true same = of_one (Publish e.number) tt same
+    by_kind false false false same = cc
 
 next-apart : (limits : Limits) (before : History) (e : KeptEntry) → AreApart before → IsNext (office_of limits before) e → IsApart e.answer
 next-apart limits before e apart next =

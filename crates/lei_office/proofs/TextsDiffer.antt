@@ -12,7 +12,7 @@ use Rattle.lei_outside.specs.declared.entry.KeptEntry.{KeptEntry}
 use Rattle.upload_ledger.specs.History.{History, stamp}
 use Rattle.lei_office.specs.declared.limits.Limits.{Limits}
 use Rattle.lei_office.specs.declared.request.Request.{Request}
-use Rattle.lei_office.specs.declared.request.Request.TheVariants.{Accredit, Upload}
+use Rattle.lei_office.specs.declared.request.Request.TheVariants.{Accredit, Publish, Upload}
 use Rattle.lei_office.specs.Damage.{EntryTextsDiffer, asked_by, entry_line, is_lei, is_number, outcome_text, request_in, request_text, replayed}
 use Rattle.lei_office.specs.Legal.{IsNext, IsRequest, IsUploadNumber, Legal}
 use Rattle.lei_office.specs.Replies.{adds, outcome, stays}
@@ -69,26 +69,39 @@ of_upload e request true in_range kind tests is =
     (record { own = (kind, refl, refl, refl); valid = (lei-valid e.office parts.0, number-valid e.number parts.1); in_range = in_range })
 of_upload e request false in_range kind tests is = cc
 
+of_publication : (e : KeptEntry) (request : Request) (b : Bool) → IsMoment e.moment → e.kind ≡ 3 → length e.office == 0 && is_number e.number && length e.body == 0 ≡ b
+    → cond b (Some (Publish e.number)) None ≡ Some request → IsAskedBy request e
+of_publication e request true in_range kind tests is =
+    let this : Publish e.number ≡ request = cc in
+    let all = both (length e.office == 0 && is_number e.number) (length e.body == 0) tests in
+    let front = both (length e.office == 0) (is_number e.number) all.0 in
+    subst (λ r. IsAskedBy r e) this
+    (record { own = (kind, nothing_in e.office front.0, refl, nothing_in e.body all.1); valid = number-valid e.number front.1; in_range = in_range })
+of_publication e request false in_range kind tests is = cc
+
 of_stored : (e : KeptEntry) (request : Request) → asked_by e ≡ Some request → IsAskedBy request e
 unfolding asked_by
 of_stored e request is = by_moment (is_moment e.moment) refl is
   where
-    by_kind : IsMoment e.moment → (one two : Bool) → e.kind == 1 ≡ one → e.kind == 2 ≡ two
+    by_kind : IsMoment e.moment → (one two three : Bool) → e.kind == 1 ≡ one → e.kind == 2 ≡ two → e.kind == 3 ≡ three
         → cond one (cond (is_lei e.office && e.number == 0 && length e.body == 0) (Some (Accredit e.office)) None)
-        (cond two (cond (is_lei e.office && is_number e.number) (Some (Upload (record { office = e.office; number = e.number; body = e.body }))) None) None) ≡ Some request
+        (cond two (cond (is_lei e.office && is_number e.number) (Some (Upload (record { office = e.office; number = e.number; body = e.body }))) None)
+        (cond three (cond (length e.office == 0 && is_number e.number && length e.body == 0) (Some (Publish e.number)) None) None)) ≡ Some request
         → IsAskedBy request e
-    by_kind in_range true two of_one of_two asked = of_accreditation e request (is_lei e.office && e.number == 0 && length e.body == 0) in_range (eqb-true e.kind 1 of_one) refl asked
-    by_kind in_range false true of_one of_two asked = of_upload e request (is_lei e.office && is_number e.number) in_range (eqb-true e.kind 2 of_two) refl asked
-    by_kind in_range false false of_one of_two asked = cc
+    by_kind in_range true two three of_one of_two of_three asked = of_accreditation e request (is_lei e.office && e.number == 0 && length e.body == 0) in_range (eqb-true e.kind 1 of_one) refl asked
+    by_kind in_range false true three of_one of_two of_three asked = of_upload e request (is_lei e.office && is_number e.number) in_range (eqb-true e.kind 2 of_two) refl asked
+    by_kind in_range false false true of_one of_two of_three asked = of_publication e request (length e.office == 0 && is_number e.number && length e.body == 0) in_range (eqb-true e.kind 3 of_three) refl asked
+    by_kind in_range false false false of_one of_two of_three asked = cc
 
     by_moment : (b : Bool) → is_moment e.moment ≡ b → cond b (request_in e) None ≡ Some request → IsAskedBy request e
-    by_moment true in_range asked = by_kind (grind (arith, ints)) (e.kind == 1) (e.kind == 2) refl refl asked
+    by_moment true in_range asked = by_kind (grind (arith, ints)) (e.kind == 1) (e.kind == 2) (e.kind == 3) refl refl refl asked
     by_moment false in_range asked = cc
 
 -- two entries with what one request asks
 own-same : (request : Request) (e f : KeptEntry) → IsFor request e → IsFor request f → (e.kind ≡ f.kind) × (e.office ≡ f.office) × (e.number ≡ f.number) × (e.body ≡ f.body)
 own-same (Accredit issuer) e f of_e of_f = (of_e.0 ∙ sym of_f.0, of_e.1 ∙ sym of_f.1, of_e.2 ∙ sym of_f.2, of_e.3 ∙ sym of_f.3)
 own-same (Upload call) e f of_e of_f = (of_e.0 ∙ sym of_f.0, of_e.1 ∙ sym of_f.1, of_e.2 ∙ sym of_f.2, of_e.3 ∙ sym of_f.3)
+own-same (Publish number) e f of_e of_f = (of_e.0 ∙ sym of_f.0, of_e.1 ∙ sym of_f.1, of_e.2 ∙ sym of_f.2, of_e.3 ∙ sym of_f.3)
 own-same request e f of_e of_f = absurd of_e
 
 -- ---- a line and what the replay makes

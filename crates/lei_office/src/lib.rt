@@ -20,9 +20,10 @@ pub use damage::Damage;
 pub use entries::RULES;
 pub use laws::{
     cells_have_the_rows, changes_are_permitted, changes_make_records, damage_is_no_history,
-    exceptions_stand_apart, kept_tables_are_one, moments_never_fall, parents_are_chained,
-    publications_are_a_sound_trail, registers_are_sound, sessions_are_exact,
-    successors_are_chained, uploads_are_numbered, verdicts_are_told,
+    damage_is_one, exceptions_stand_apart, kept_tables_are_one, lines_tell_cells,
+    moments_never_fall, parents_are_chained, publications_are_a_sound_trail, registers_are_sound,
+    sessions_are_exact, successors_are_chained, texts_of_entries_differ, uploads_are_numbered,
+    verdicts_are_told,
 };
 pub use limits::Limits;
 pub use office::Office;
