@@ -4,6 +4,8 @@ use Rattle.std.specs.Str.{bytes_eq}
 use Rattle.std.specs.Str.Parse.{digits_value}
 use Rattle.lei_code.specs.Fault.{fault_of}
 use Rattle.lei_code.specs.Texts.{Lei}
+use Rattle.copy_csv.specs.declared.sheets.Form.{Form}
+use Rattle.copy_csv.specs.declared.sheets.Sheet.{Sheet}
 use Rattle.lei_office.specs.Legal.{TakesMemoryToRead}
 use Rattle.lei_office.specs.Limits.{number_limit}
 use Rattle.lei_office.specs.declared.request.Request.{Request}
@@ -14,7 +16,7 @@ use Rattle.lei_office.specs.declared.reply.Refusal.TheVariants.{TooLong, NoRoute
 use Rattle.leireg_run.specs.Limits.{line_limit}
 use Rattle.leireg_run.specs.Lines.{Line}
 use Rattle.leireg_run.specs.declared.requests.FirstWord.{FirstWord}
-use Rattle.leireg_run.specs.declared.requests.FirstWord.TheVariants.{Accredit, Upload, Kept, Show, Status}
+use Rattle.leireg_run.specs.declared.requests.FirstWord.TheVariants.{Accredit, Upload, Kept, Publish, Show, Copy, Status}
 
 infixl 10 ◌>>=◌
 -- What is made of a value, where there is one.
@@ -39,6 +41,19 @@ plain_number bytes n = if nat_le 1 n && nat_le n number_limit && bytes_eq (decim
 unfoldable pub number_of : List ℕ → Option ℕ
 number_of bytes = plain_number bytes (digits_value 10 bytes)
 
+-- The sheet that has this name.
+abbrev pub sheet_of : List ℕ → Option Sheet
+sheet_of word =
+    if bytes_eq word (codes "lei") then Some Sheet.Lei
+    else (if bytes_eq word (codes "rr") then Some Sheet.Rr
+    else (if bytes_eq word (codes "repex") then Some Sheet.Repex else None))
+
+-- The form that has this name.
+abbrev pub form_of : List ℕ → Option Form
+form_of word =
+    if bytes_eq word (codes "csv") then Some Form.Csv
+    else (if bytes_eq word (codes "json") then Some Form.Json else None)
+
 -- ---- requests, by what stands behind the first word and its space
 
 -- ACCREDIT: the rest is an LEI.
@@ -48,6 +63,18 @@ accreditation_of rest = option_map requests.Accredit (code_of rest)
 -- SHOW: the rest is an LEI.
 abbrev pub show_of : List ℕ → Option Request
 show_of rest = option_map requests.Show (code_of rest)
+
+-- PUBLISH: the rest is a number.
+abbrev pub publication_of : List ℕ → Option Request
+publication_of rest = option_map requests.Publish (number_of rest)
+
+-- COPY: a sheet and a form.
+unfoldable pub copy_of : List ℕ → Option Request
+copy_of rest = do
+  parts ← cut rest
+  sheet ← sheet_of parts.0
+  form ← form_of parts.1
+  Some (requests.Copy sheet form)
 
 -- KEPT: an LEI and a number.
 unfoldable pub kept_of : List ℕ → Option Request
@@ -72,15 +99,19 @@ first_word word =
     if bytes_eq word (codes "ACCREDIT") then Some Accredit
     else (if bytes_eq word (codes "UPLOAD") then Some Upload
     else (if bytes_eq word (codes "KEPT") then Some Kept
+    else (if bytes_eq word (codes "PUBLISH") then Some Publish
     else (if bytes_eq word (codes "SHOW") then Some Show
-    else (if bytes_eq word (codes "STATUS") then Some Status else None))))
+    else (if bytes_eq word (codes "COPY") then Some Copy
+    else (if bytes_eq word (codes "STATUS") then Some Status else None))))))
 
 -- The request that a first word makes alone: STATUS, to which no other word belongs.
 abbrev pub request_alone : FirstWord → Option Request
 request_alone Accredit = None
 request_alone Upload = None
 request_alone Kept = None
+request_alone Publish = None
 request_alone Show = None
+request_alone Copy = None
 request_alone Status = Some requests.Status
 
 -- The request that a first word makes with what stands behind its space.
@@ -88,7 +119,9 @@ abbrev pub request_with : FirstWord → List ℕ → Option Request
 request_with Accredit rest = accreditation_of rest
 request_with Upload rest = upload_of rest
 request_with Kept rest = kept_of rest
+request_with Publish rest = publication_of rest
 request_with Show rest = show_of rest
+request_with Copy rest = copy_of rest
 request_with Status rest = None
 
 -- The request that a first word makes with what stands behind its space, where there is a space.

@@ -47,7 +47,7 @@ fn answer_request<R: Threads + Sync, W: Sink, K: Keeper, C: Clock>(
 {
     outbox.flush(out)?;
     let reply = office.answer(rt, request, moment_of(clock));
-    send_reply(outbox, out, &reply)
+    send_reply(outbox, out, request, &reply)
 }
 
 /// Answers a line. An empty line asks nothing. The clock is asked after the line was read, and only where the line

@@ -1,8 +1,9 @@
 //! What a line asks.
 ghost use Rattle.std.specs.Prelude.{◌≡◌, None, Some, option_map, option_and_then, position, decimal, length, ◌==◌, ◌<◌, ◌↔◌, IfOk, IfSome, OnErr, IsTrue};
 ghost use Rattle.std.specs.Option.{option_copied};
-ghost use Rattle.leireg_run.specs.Requests.{cut, code_of, number_of, accreditation_of, kept_of, show_of, upload_of, first_word, request_alone, request_by, request_with, asked_by, asked, or_path, MayWantMemory};
+ghost use Rattle.leireg_run.specs.Requests.{cut, code_of, number_of, sheet_of, form_of, accreditation_of, copy_of, kept_of, publication_of, show_of, upload_of, first_word, request_alone, request_by, request_with, asked_by, asked, or_path, MayWantMemory};
 
+use copy_csv::{Form, Sheet};
 use lei_code::Lei;
 use lei_office::{Asked, Call, MAX_NUMBER, Refusal, Request};
 use lei_outside::{Bytes, NoMemory};
@@ -17,7 +18,9 @@ enum FirstWord {
     Accredit,
     Upload,
     Kept,
+    Publish,
     Show,
+    Copy,
     Status,
 }
 
@@ -74,6 +77,35 @@ fn is_decimal(text: &str, number: u32) -> bool
     itoa::Buffer::new().format(number) == text
 }
 
+// The sheet that has this name.
+fn sheet_of(word: &[u8]) -> Option<Sheet>
+    ensures { result ≡ sheet_of word.now }
+{
+    if word == b"lei".as_slice() {
+        return Some(Sheet::Lei);
+    }
+    if word == b"rr".as_slice() {
+        return Some(Sheet::Rr);
+    }
+    if word == b"repex".as_slice() {
+        return Some(Sheet::Repex);
+    }
+    None
+}
+
+// The form that has this name.
+fn form_of(word: &[u8]) -> Option<Form>
+    ensures { result ≡ form_of word.now }
+{
+    if word == b"csv".as_slice() {
+        return Some(Form::Csv);
+    }
+    if word == b"json".as_slice() {
+        return Some(Form::Json);
+    }
+    None
+}
+
 #[tactic(auto, unfolding(crate::specs::Requests::upload_of))]
 fn upload_of(alloc: Global, rest: &[u8]) -> Result<Option<Request>, NoMemory>
     ensures ok { IfOk result (λ request. request ≡ upload_of rest.now) }
@@ -117,6 +149,28 @@ fn kept_of(rest: &[u8]) -> Option<Request>
     Some(Request::Kept(issuer, number))
 }
 
+fn publication_of(rest: &[u8]) -> Option<Request>
+    ensures { result ≡ publication_of rest.now }
+{
+    match number_of(rest) {
+        Some(number) => Some(Request::Publish(number)),
+        None => None,
+    }
+}
+
+#[tactic(auto, unfolding(crate::specs::Requests::copy_of))]
+fn copy_of(rest: &[u8]) -> Option<Request>
+    ensures { result ≡ copy_of rest.now }
+{
+    let Some((sheet, form)) = cut(rest) else {
+        return None;
+    };
+    let (Some(sheet), Some(form)) = (sheet_of(sheet), form_of(form)) else {
+        return None;
+    };
+    Some(Request::Copy(sheet, form))
+}
+
 fn show_of(rest: &[u8]) -> Option<Request>
     ensures { result ≡ show_of rest.now }
 {
@@ -138,8 +192,14 @@ fn first_word(word: &[u8]) -> Option<FirstWord>
     if word == b"KEPT".as_slice() {
         return Some(FirstWord::Kept);
     }
+    if word == b"PUBLISH".as_slice() {
+        return Some(FirstWord::Publish);
+    }
     if word == b"SHOW".as_slice() {
         return Some(FirstWord::Show);
+    }
+    if word == b"COPY".as_slice() {
+        return Some(FirstWord::Copy);
     }
     if word == b"STATUS".as_slice() {
         return Some(FirstWord::Status);
@@ -153,7 +213,12 @@ fn request_alone(word: FirstWord) -> Option<Request>
 {
     match word {
         FirstWord::Status => Some(Request::Status),
-        FirstWord::Accredit | FirstWord::Upload | FirstWord::Kept | FirstWord::Show => None,
+        FirstWord::Accredit
+        | FirstWord::Upload
+        | FirstWord::Kept
+        | FirstWord::Publish
+        | FirstWord::Show
+        | FirstWord::Copy => None,
     }
 }
 
@@ -166,7 +231,9 @@ fn request_with(alloc: Global, word: FirstWord, rest: &[u8]) -> Result<Option<Re
         FirstWord::Accredit => Ok(accreditation_of(rest)),
         FirstWord::Upload => upload_of(alloc, rest),
         FirstWord::Kept => Ok(kept_of(rest)),
+        FirstWord::Publish => Ok(publication_of(rest)),
         FirstWord::Show => Ok(show_of(rest)),
+        FirstWord::Copy => Ok(copy_of(rest)),
         FirstWord::Status => Ok(None),
     }
 }

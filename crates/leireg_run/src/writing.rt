@@ -3,15 +3,17 @@ ghost use Rattle.std.specs.Prelude.{◌≡◌, [], ◌++◌, flat_map, IsErrOf, 
 ghost use Rattle.lei_outside.specs.Faults.{FailsLast};
 ghost use Rattle.lei_office.specs.declared.reply.Reply.{Reply};
 ghost use Rattle.lei_office.specs.declared.request.Asked.{Asked};
+ghost use Rattle.lei_office.specs.declared.request.Asked.TheVariants.{Ask};
 ghost use Rattle.leireg_run.specs.Codes.{IsWritten};
 ghost use Rattle.leireg_run.specs.Outbox.{Puts};
-ghost use Rattle.leireg_run.specs.Replies.{reply_text};
+ghost use Rattle.leireg_run.specs.Replies.{reply_bytes, reply_text, wants_file};
 
 use crate::outbox::Outbox;
-use lei_office::{Refusal, Reply};
+use lei_office::{Refusal, Reply, Request};
 use lei_outside::{Sink, SinkFault};
 
-/// Puts the reply that is a refusal.
+/// Puts the reply that is a refusal, whatever was asked.
+#[tactic(auto, unfolding(crate::specs::Replies::reply_bytes))]
 pub fn put_refusal<W: Sink>(
     outbox: &mut Outbox,
     out: &mut W,
@@ -22,32 +24,55 @@ pub fn put_refusal<W: Sink>(
     ensures kept { ¬ (IsErrOf result SinkFault.Failed) → W.faults out.new ≡ W.faults out.old }
     ensures failed { IsErrOf result SinkFault.Failed → FailsLast W.written W.faults out.old out.new }
 {
-    put_reply(outbox, out, &Reply::Words(refusal))
+    put_reply(outbox, out, &Reply::Words(refusal), false)
 }
 
-/// Sends what waits and a reply behind it.
-pub fn send_reply<W: Sink>(outbox: &mut Outbox, out: &mut W, reply: &Reply) -> Result<(), SinkFault>
-    ensures sent { (asked : Asked) → IsWritten (W.written out.old) (W.written out.new)
-        (outbox.old ++ reply_text asked reply.now) result }
+/// Sends what waits, and behind it the reply to a request.
+pub fn send_reply<W: Sink>(
+    outbox: &mut Outbox,
+    out: &mut W,
+    request: &Request,
+    reply: &Reply,
+) -> Result<(), SinkFault>
+    ensures sent { IsWritten (W.written out.old) (W.written out.new)
+        (outbox.old ++ reply_text (Ask request.now) reply.now) result }
     ensures empty { OnOk result (outbox.new ≡ []) }
     ensures kept { ¬ (IsErrOf result SinkFault.Failed) → W.faults out.new ≡ W.faults out.old }
     ensures failed { IsErrOf result SinkFault.Failed → FailsLast W.written W.faults out.old out.new }
 {
-    put_reply(outbox, out, reply)?;
+    put_reply(outbox, out, reply, wants_file(request))?;
     outbox.flush(out)
 }
 
-/// Puts a reply, whatever was asked: its status code, a space, its text and the end of the line.
-#[tactic(auto, unfolding(crate::specs::Replies::reply_text))]
-pub fn put_reply<W: Sink>(outbox: &mut Outbox, out: &mut W, reply: &Reply) -> Result<(), SinkFault>
-    ensures puts { (asked : Asked)
-        → Puts (W.written out.old) (W.written out.new) (outbox.old ++ reply_text asked reply.now) result outbox.new }
+// Whether a request is one for a file.
+fn wants_file(request: &Request) -> bool
+    ensures { result ≡ wants_file request.now }
+{
+    matches!(request, Request::Copy(_, _))
+}
+
+/// Puts a reply: its status code, a space, its text and the end of the line. Where its text is a file, the number of its
+/// bytes stands in a line before it.
+#[tactic(auto, unfolding(crate::specs::Replies::reply_bytes))]
+pub fn put_reply<W: Sink>(
+    outbox: &mut Outbox,
+    out: &mut W,
+    reply: &Reply,
+    is_file: bool,
+) -> Result<(), SinkFault>
+    ensures puts { Puts (W.written out.old) (W.written out.new) (outbox.old ++ reply_bytes reply.now is_file) result outbox.new }
     ensures kept { ¬ (IsErrOf result SinkFault.Failed) → W.faults out.new ≡ W.faults out.old }
     ensures failed { IsErrOf result SinkFault.Failed → FailsLast W.written W.faults out.old out.new }
 {
     let mut code = itoa::Buffer::new();
     let code = code.format(reply.status_code()).as_bytes();
     match reply {
+        Reply::Text { text, .. } if is_file => {
+            let mut digits = itoa::Buffer::new();
+            let digits = digits.format(text.len()).as_bytes();
+            let pieces = &[code, b" ", digits, b"\n", text.as_slice(), b"\n"];
+            put_all(outbox, out, pieces)
+        }
         Reply::Text { text, .. } => { put_all(outbox, out, &[code, b" ", text.as_slice(), b"\n"]) }
         Reply::Words(refusal) => match refusal.number() {
             None => put_all(outbox, out, &[code, b" ", refusal.name().as_bytes(), b"\n"]),

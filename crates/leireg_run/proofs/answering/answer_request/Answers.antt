@@ -39,5 +39,5 @@ returns-clause-answered g c start all ran =
           c.answer-reply.ensures.faultless c.answer-reply.ensures.fault;
     } in
     request_goes sent then ask (m ∷ []) c.answer-reply.result c.send_reply.result c.send_reply.ensures.empty answered
-    (c.send_reply.ensures.sent ask) start all
+    c.send_reply.ensures.sent start all
     (ran_flushed start now all c.flush.new.self (written c.flush.new.out) ran none c.in_ok-flush.ensures.ok)
