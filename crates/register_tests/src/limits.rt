@@ -43,20 +43,31 @@ pub const TWO_RECORDS: &str = concat!(
     r#""Registration.ValidationSources":"FULLY_CORROBORATED"}]}"#
 );
 
-// What is sent, and what comes back: the number of an upload and its body, or 0 and the issuer that is accredited; the
-// status code, a space, and the text or the refusal in words.
-type Step = (u32, &'static str, &'static str);
+// What is sent.
+#[derive(Clone, Copy)]
+enum Sent {
+    // The issuer that is accredited.
+    Accredit(&'static str),
+    // The number of an upload of [`ISSUER`], and its body.
+    Upload(u32, &'static str),
+    // The number of a publication.
+    Publish(u32),
+}
+
+// What is sent, and what comes back: the status code, a space, and the text or the refusal in words.
+type Step = (Sent, &'static str);
 
 // What a step asks.
-fn request(alloc: Global, number: u32, text: &str) -> Result<Request, Fail> {
-    if number == 0 {
-        return Ok(Request::Accredit(Lei::read(text.as_bytes())?));
+fn request(alloc: Global, sent: Sent) -> Result<Request, Fail> {
+    match sent {
+        Sent::Accredit(issuer) => Ok(Request::Accredit(Lei::read(issuer.as_bytes())?)),
+        Sent::Upload(number, body) => Ok(Request::Upload(Call {
+            office: Lei::read(ISSUER.as_bytes())?,
+            number,
+            body: Bytes::copy_of(alloc, body.as_bytes())?,
+        })),
+        Sent::Publish(number) => Ok(Request::Publish(number)),
     }
-    Ok(Request::Upload(Call {
-        office: Lei::read(ISSUER.as_bytes())?,
-        number,
-        body: Bytes::copy_of(alloc, text.as_bytes())?,
-    }))
 }
 
 fn told(alloc: Global, reply: &Reply) -> Result<String, Fail> {
@@ -78,7 +89,7 @@ fn reply_of<R: Threads + Sync>(
 ) -> Result<Reply, Fail> {
     let number = match request {
         Request::Upload(call) => call.number,
-        Request::Kept(_, number) => *number,
+        Request::Kept(_, number) | Request::Publish(number) => *number,
         Request::Accredit(_) | Request::Show(_) | Request::Status => 1,
     };
     if !is_upload_number(number) {
@@ -94,8 +105,8 @@ fn takes<R: Abort + Threads + Sync>(
     office: &mut Office<SureKeeper>,
     step: Step,
 ) -> Result<(), Fail> {
-    let (number, text, want) = step;
-    let request = request(alloc, number, text)?;
+    let (sent, want) = step;
+    let request = request(alloc, sent)?;
     let reply = reply_of(rt, office, &request)?;
     let told = told(alloc, &reply)?;
     assert_eq!(rt; told.as_str(), want);
@@ -134,8 +145,7 @@ fn answers<R: Abort + Threads + Sync>(
 }
 
 const ACCREDITED: Step = (
-    0,
-    ISSUER,
+    Sent::Accredit(ISSUER),
     r#"200 {"entry":1,"issuer":"506700GE1G29325QX363"}"#,
 );
 
@@ -153,7 +163,7 @@ fn an_office_takes_an_upload_where_there_is_room(rt: HostRuntime) -> Result<(), 
         entries: 3,
         records: 1,
     };
-    let full = [ACCREDITED, (1, TWO_RECORDS, "507 LEDGER_FULL")];
+    let full = [ACCREDITED, (Sent::Upload(1, TWO_RECORDS), "507 LEDGER_FULL")];
     answers(&rt, rt.alloc(), few, &full)?;
     let more = Limits {
         kept: 100_000,
@@ -162,10 +172,14 @@ fn an_office_takes_an_upload_where_there_is_room(rt: HostRuntime) -> Result<(), 
     let taken = [
         ACCREDITED,
         (
-            1,
-            TWO_RECORDS,
+            Sent::Upload(1, TWO_RECORDS),
             r#"200 {"entry":2,"issuer":"506700GE1G29325QX363","items":["ACCEPTED","C20 REGISTER_FULL"],"number":1}"#,
         ),
+        (
+            Sent::Publish(1),
+            r#"201 {"contentDate":"2025-01-11T00:00:00Z","entry":3,"lei":1,"publication":1,"repex":0,"rr":0}"#,
+        ),
+        (Sent::Publish(2), "507 LEDGER_FULL"),
     ];
     answers(&rt, rt.alloc(), more, &taken)
 }
@@ -181,16 +195,16 @@ fn an_office_keeps_bodies_to_their_limits(rt: HostRuntime) -> Result<(), Fail> {
     };
     let steps = [
         ACCREDITED,
-        (1, TWO_RECORDS, "507 LEDGER_FULL"),
-        (1, ONE_ITEM, KEPT),
-        (2, ONE_ITEM, "507 LEDGER_FULL"),
-        (2, "{}", "400 MALFORMED NO_ITEMS"),
-        (1, "{}", "409 NUMBER_TAKEN"),
-        (1, ONE_ITEM, KEPT),
+        (Sent::Upload(1, TWO_RECORDS), "507 LEDGER_FULL"),
+        (Sent::Upload(1, ONE_ITEM), KEPT),
+        (Sent::Upload(2, ONE_ITEM), "507 LEDGER_FULL"),
+        (Sent::Upload(2, "{}"), "400 MALFORMED NO_ITEMS"),
+        (Sent::Upload(1, "{}"), "409 NUMBER_TAKEN"),
+        (Sent::Upload(1, ONE_ITEM), KEPT),
     ];
     answers(&rt, rt.alloc(), room, &steps)?;
     let shorter = Limits { body: 43, ..room };
-    let refused = [ACCREDITED, (1, ONE_ITEM, "413 TOO_LONG")];
+    let refused = [ACCREDITED, (Sent::Upload(1, ONE_ITEM), "413 TOO_LONG")];
     answers(&rt, rt.alloc(), shorter, &refused)
 }
 
@@ -205,13 +219,13 @@ fn an_office_keeps_entries_to_their_limit(rt: HostRuntime) -> Result<(), Fail> {
     let steps = [
         ACCREDITED,
         (
-            0,
-            OTHER,
+            Sent::Accredit(OTHER),
             r#"200 {"entry":2,"issuer":"HWUPKR0MPOU8FGXBT394"}"#,
         ),
-        (0, "5493001KJTIIGC8Y1R12", "507 LEDGER_FULL"),
+        (Sent::Accredit("5493001KJTIIGC8Y1R12"), "507 LEDGER_FULL"),
         ACCREDITED,
-        (1, ONE_ITEM, "507 LEDGER_FULL"),
+        (Sent::Upload(1, ONE_ITEM), "507 LEDGER_FULL"),
+        (Sent::Publish(1), "507 LEDGER_FULL"),
     ];
     answers(&rt, rt.alloc(), limits, &steps)
 }
