@@ -9,23 +9,24 @@ use Rattle.lei_outside.specs.declared.entry.KeptEntry.{KeptEntry}
 use Rattle.upload_format.specs.Bodies.{upload}
 use Rattle.upload_format.specs.declared.fault.Malformed.{Malformed}
 use Rattle.lei_records.specs.declared.item.RawItem.{RawItem}
-use Rattle.upload_ledger.specs.History.{History, accredited, ahead, fresh, number_taken, Place, place, repeat_of, stamp, unknown_issuer}
+use Rattle.upload_ledger.specs.History.{History, accredited, ahead, fresh, number_taken, Place, place, published, repeat_of, stamp, unknown_issuer}
 use Rattle.lei_office.specs.declared.limits.Limits.{Limits}
 use Rattle.register_table.specs.Undos.{WriteList}
 use Rattle.lei_office.specs.Deciding.{Decides}
 use Rattle.lei_office.specs.declared.deciding.Decision.{Decision}
 use Rattle.lei_office.specs.declared.deciding.Decision.TheVariants.{Adds}
-use Rattle.lei_office.specs.Damage.{accreditation_in, asked_by, entry_line, is_lei, is_number, outcome_text, replayed, request_in, request_text, upload_in}
+use Rattle.lei_office.specs.Damage.{accreditation_in, asked_by, entry_line, is_lei, is_number, outcome_text, publication_in, replayed, request_in, request_text, upload_in}
 use Rattle.lei_office.specs.declared.reply.Reply.{Reply}
 use Rattle.lei_office.specs.declared.reply.Reply.TheVariants.{Words}
 use Rattle.lei_office.specs.declared.reply.Refusal.TheVariants.{LedgerFull, TooLong}
 use Rattle.lei_office.specs.declared.request.Call.{Call}
 use Rattle.lei_office.specs.declared.request.Request.{Request}
-use Rattle.lei_office.specs.declared.request.Request.TheVariants.{Accredit, Upload}
+use Rattle.lei_office.specs.declared.request.Request.TheVariants.{Accredit, Publish, Upload}
 use Rattle.lei_office.specs.Legal.{IsNext, IsRequest, IsUploadNumber, request_of}
 use Rattle.lei_office.specs.Replies.{Outcome, accredit_outcome, accreditation, adds, body_outcome, is_full, is_too_much, outcome, outcome_at, place_outcome, stays, taken_upload, upload_outcome}
 use Rattle.lei_office.specs.State.{OfficeState, office_of}
 use Rattle.lei_office.specs.Words.{reply_words}
+use Rattle.lei_office.proofs.Histories.{publish_adds}
 
 -- ---- the number of an entry that is added
 
@@ -63,19 +64,24 @@ upload_adds office call moment e is = short_adds (nat_lt office.limits.body (len
 
 -- ---- requests of entries
 
--- an entry of one kind or the other was taken for that request
-one_of : (one two : Bool) (a b request : Request) → cond one (Some a) (cond two (Some b) None) ≡ Some request → ((one ≡ true) × (request ≡ a)) ⊎ ((one ≡ false) × (two ≡ true) × (request ≡ b))
-one_of true two a b request is = inl (refl, (let same : a ≡ request = cc in sym same))
-one_of false true a b request is = inr (refl, refl, (let same : b ≡ request = cc in sym same))
-one_of false false a b request is = cc
+-- an entry of one of the kinds was taken for that request
+abbrev IsOneOf : (one two three : Bool) (a b c request : Request) → Type 0
+IsOneOf one two three a b c request =
+    ((one ≡ true) × (request ≡ a)) ⊎ ((one ≡ false) × (two ≡ true) × (request ≡ b)) ⊎ ((one ≡ false) × (two ≡ false) × (three ≡ true) × (request ≡ c))
+
+one_of : (one two three : Bool) (a b c request : Request) → cond one (Some a) (cond two (Some b) (cond three (Some c) None)) ≡ Some request → IsOneOf one two three a b c request
+one_of true two three a b c request is = inl (refl, (let same : a ≡ request = cc in sym same))
+one_of false true three a b c request is = inr (inl (refl, refl, (let same : b ≡ request = cc in sym same)))
+one_of false false true a b c request is = inr (inr (refl, refl, refl, (let same : c ≡ request = cc in sym same)))
+one_of false false false a b c request is = cc
 
 abbrev call_of : KeptEntry → Call
 call_of e = record { office = e.office; number = e.number; body = e.body }
 
 -- the requests that entries of a kind were taken for
 of_kind : (e : KeptEntry) (request : Request) → request_of e ≡ Some request
-    → ((e.kind == 1 ≡ true) × (request ≡ Accredit e.office)) ⊎ ((e.kind == 1 ≡ false) × (e.kind == 2 ≡ true) × (request ≡ Upload (call_of e)))
-of_kind e request is = one_of (e.kind == 1) (e.kind == 2) (Accredit e.office) (Upload (record { office = e.office; number = e.number; body = e.body })) request is
+    → IsOneOf (e.kind == 1) (e.kind == 2) (e.kind == 3) (Accredit e.office) (Upload (call_of e)) (Publish e.number) request
+of_kind e request is = one_of (e.kind == 1) (e.kind == 2) (e.kind == 3) (Accredit e.office) (Upload (call_of e)) (Publish e.number) request is
 
 -- what is next has the next number
 pub next-seq : (limits : Limits) (before : History) (e : KeptEntry) → IsNext (office_of limits before) e → e.seq ≡ length before + 1
@@ -85,9 +91,12 @@ next-seq limits before e next =
       | inl a ↦
           let added : outcome_at office (Accredit e.office) (stamp before e.moment) ≡ adds e = ap (λ r. outcome office r e.moment) (sym a.1) ∙ next.4 in
           ap (λ x. x.seq) (sym (accredit_adds office e.office (stamp before e.moment) (accredited before e.office) e added))
-      | inr u ↦
+      | inr (inl u) ↦
           let added : outcome_at office (Upload (call_of e)) (stamp before e.moment) ≡ adds e = ap (λ r. outcome office r e.moment) (sym u.2) ∙ next.4 in
           upload_adds office (call_of e) (stamp before e.moment) e added
+      | inr (inr p) ↦
+          let added : outcome_at office (Publish e.number) (stamp before e.moment) ≡ adds e = ap (λ r. outcome office r e.moment) (sym p.3) ∙ next.4 in
+          ap (λ x. x.seq) (sym (publish_adds office e.number (stamp before e.moment) (published before e.number) e added).is)
     ]
 
 lei_is : (text : List ℕ) → IsValid text → is_lei text ≡ true
@@ -115,9 +124,16 @@ asked-next office e next =
           let none : e.number ≡ 0 = ap (λ x. x.number) (sym made) in
           let empty : e.body ≡ [] = ap (λ x. x.body) (sym made) in
           rw (a.0, lei_is e.office asked, none, empty) (ap Some (sym a.1))
-      | inr u ↦
+      | inr (inl u) ↦
           let asked : IsRequest (Upload (call_of e)) = subst IsRequest u.2 next.2 in
           rw (u.0, u.1, lei_is e.office asked.0, number_is e.number asked.1) (ap Some (sym u.2))
+      | inr (inr p) ↦
+          let asked : IsUploadNumber e.number = subst IsRequest p.3 next.2 in
+          let added : outcome_at office (Publish e.number) (stamp office.history e.moment) ≡ adds e = ap (λ r. outcome office r e.moment) (sym p.3) ∙ next.4 in
+          let made = (publish_adds office e.number (stamp office.history e.moment) (published office.history e.number) e added).is in
+          let none : e.office ≡ [] = ap (λ x. x.office) (sym made) in
+          let empty : e.body ≡ [] = ap (λ x. x.body) (sym made) in
+          rw (p.0, p.1, p.2, number_is e.number asked, none, empty) (ap Some (sym p.3))
     ])
 
 -- ---- what a replay makes
@@ -134,13 +150,19 @@ asked-request e request is = by_moment (is_moment e.moment) is
     of_accredit true found = found
     of_accredit false found = cc
 
-    by_kind : (one two : Bool) → cond one (accreditation_in e) (cond two (upload_in e) None) ≡ Some request → cond one (Some (Accredit e.office)) (cond two (Some (Upload (call_of e))) None) ≡ Some request
-    by_kind true two found = of_accredit (is_lei e.office && e.number == 0 && length e.body == 0) found
-    by_kind false true found = of_upload (is_lei e.office && is_number e.number) found
-    by_kind false false found = found
+    of_publish : (b : Bool) → cond b (Some (Publish e.number)) None ≡ Some request → Some (Publish e.number) ≡ Some request
+    of_publish true found = found
+    of_publish false found = cc
+
+    by_kind : (one two three : Bool) → cond one (accreditation_in e) (cond two (upload_in e) (cond three (publication_in e) None)) ≡ Some request
+        → cond one (Some (Accredit e.office)) (cond two (Some (Upload (call_of e))) (cond three (Some (Publish e.number)) None)) ≡ Some request
+    by_kind true two three found = of_accredit (is_lei e.office && e.number == 0 && length e.body == 0) found
+    by_kind false true three found = of_upload (is_lei e.office && is_number e.number) found
+    by_kind false false true found = of_publish (length e.office == 0 && is_number e.number && length e.body == 0) found
+    by_kind false false false found = found
 
     by_moment : (b : Bool) → cond b (request_in e) None ≡ Some request → request_of e ≡ Some request
-    by_moment true found = by_kind (e.kind == 1) (e.kind == 2) found
+    by_moment true found = by_kind (e.kind == 1) (e.kind == 2) (e.kind == 3) found
     by_moment false found = cc
 
 same_some : {X : Type 0} (x y : X) → Some x ≡ Some y → x ≡ y

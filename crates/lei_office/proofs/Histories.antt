@@ -1,5 +1,5 @@
 -- Histories that grow by an entry: the table after them, and that they stay legal.
-use Rattle.std.proofs.Common.{◌≡◌, ℕ, ℤ, List, [], ◌∷◌, ◌++◌, ◌-◌, Bool, true, false, cond, ◌||◌, is_some, ltb, int_lt, length, Option, Some, None, option_map, Result, Ok, Err, refl, sym, ap, ◌∙◌, subst, append_assoc, append-nil, arith, length-append, inl, inr}
+use Rattle.std.proofs.Common.{◌≡◌, ℕ, ℤ, List, [], ◌∷◌, ◌++◌, ◌-◌, Bool, true, false, cond, ◌||◌, ◌==◌, is_some, ltb, int_lt, length, Option, Some, None, option_map, Result, Ok, Err, refl, sym, ap, ◌∙◌, subst, append_assoc, append-nil, arith, length-append, inl, inr}
 use Rattle.std.proofs.Math.Seq.{get_or-append_seam}
 use Rattle.std.proofs.lemmas.Option.{slice_get-get_or}
 use Rattle.std.proofs.lemmas.List.Sums.{fold-append}
@@ -11,17 +11,22 @@ use Rattle.lei_records.specs.Rows.{Row}
 use Rattle.lei_records.specs.Tables.{Table, row_at}
 use Rattle.lei_records.specs.declared.item.RawItem.{RawItem}
 use Rattle.lei_shapes.specs.Moment.{IsMoment}
+use Rattle.copy_csv.specs.declared.sheets.Form.{Form}
+use Rattle.copy_csv.specs.declared.sheets.Sheet.{Sheet}
+use Rattle.copy_forms.specs.Trails.{Publication}
+use Rattle.golden_shelf.specs.Shelves.{latest}
 use Rattle.register_table.specs.Held.{no_rows}
 use Rattle.lei_office.specs.declared.limits.Limits.{Limits}
 use Rattle.lei_office.specs.declared.request.Call.{Call}
 use Rattle.lei_office.specs.declared.request.Request.{Request}
-use Rattle.lei_office.specs.declared.request.Request.TheVariants.{Accredit, Kept, Show, Status, Upload}
-use Rattle.lei_office.specs.declared.reply.Refusal.TheVariants.{IssuerUnknown, LedgerFull, TooLong}
+use Rattle.lei_office.specs.declared.request.Request.TheVariants.{Accredit, Copy, Kept, Publish, Show, Status, Upload}
+use Rattle.lei_office.specs.declared.reply.Refusal.TheVariants.{IssuerUnknown, LedgerFull, NumberAhead, TooLong}
 use Rattle.lei_office.specs.declared.reply.Reply.{Reply}
 use Rattle.lei_office.specs.declared.reply.Reply.TheVariants.{Words}
-use Rattle.upload_ledger.specs.History.{History, accredited, kept, Place, unknown_issuer, repeat_of, number_taken, ahead, fresh, place, last_entry, later, stamp}
+use Rattle.upload_ledger.specs.History.{History, accredited, kept, Place, unknown_issuer, repeat_of, number_taken, ahead, fresh, place, published, last_entry, later, stamp}
+use Rattle.lei_office.specs.Publications.{trail}
 use Rattle.lei_office.specs.Register.{after, after_entry}
-use Rattle.lei_office.specs.Replies.{stays, adds, outcome, outcome_at, show_outcome, accredit_outcome, answer_outcome, is_full, is_too_much, status_outcome, upload_outcome, place_outcome, body_outcome, accreditation, taken_upload, history_after, next, next_of, StepOf}
+use Rattle.lei_office.specs.Replies.{stays, adds, outcome, outcome_at, copied, show_outcome, accredit_outcome, answer_outcome, is_full, is_too_much, next_publication, publication_entry, publish_outcome, status_outcome, upload_outcome, place_outcome, body_outcome, accreditation, taken_upload, history_after, next, next_of, StepOf}
 use Rattle.lei_office.specs.Legal.{IsRequest, request_of, IsNext, LegalAfter, Legal}
 use Rattle.lei_office.specs.State.{OfficeState, office_of, opened}
 
@@ -83,6 +88,33 @@ pub upload_adds : (office : OfficeState) (call : Call) (moment : ℤ) (e : KeptE
 unfolding upload_outcome
 upload_adds office call moment e is = short_adds (ltb office.limits.body (length call.body)) office call moment (place office.history call.office call.number call.body) e is
 
+next_adds : (next full : Bool) (early : Reply) (a e : KeptEntry) → cond next (cond full (stays (Words LedgerFull)) (adds a)) (stays early) ≡ adds e → (next ≡ true) × (full ≡ false) × (a ≡ e)
+next_adds true true early a e is = cc
+next_adds true false early a e is = (refl, refl, (let same : a ≡ e = cc in same))
+next_adds false full early a e is = cc
+
+-- a publication that is added has the next number
+pub record IsPublished (office : OfficeState) (number : ℕ) (moment : ℤ) (found : Option (List ℕ)) (e : KeptEntry) : Type 0 where
+  pub made_none : found ≡ None
+  pub next : (number == next_publication office.history) ≡ true
+  pub room : is_full office ≡ false
+  pub is : publication_entry office number moment ≡ e
+
+pub publish_adds : (office : OfficeState) (number : ℕ) (moment : ℤ) (found : Option (List ℕ)) (e : KeptEntry) → publish_outcome office number moment found ≡ adds e → IsPublished office number moment found e
+publish_adds office number moment None e is =
+    let next = next_adds (number == next_publication office.history) (is_full office) (Words (NumberAhead (next_publication office.history))) (publication_entry office number moment) e is in
+    record { made_none = refl; next = next.0; room = next.1; is = next.2 }
+publish_adds office number moment (Some text) e is = cc
+
+publication-added : (office : OfficeState) (number : ℕ) (moment : ℤ) (found : Option (List ℕ)) (e : KeptEntry) → publish_outcome office number moment found ≡ adds e → IsAdded (Publish number) moment e
+publication-added office number moment found e is =
+    let same = (publish_adds office number moment found e is).is in
+    record { for_request = ap request_of (sym same); at_moment = ap (λ a. a.moment) (sym same) }
+
+copy_adds_none : (sheet : Sheet) (form : Form) (number : ℕ) (found : Option Publication) (e : KeptEntry) → copied sheet form number found ≡ adds e → ⊥
+copy_adds_none sheet form number None e is = cc
+copy_adds_none sheet form number (Some publication) e is = cc
+
 show_adds_none : (found : Option Row) (e : KeptEntry) → show_outcome found ≡ adds e → ⊥
 show_adds_none None e is = cc
 show_adds_none (Some row) e is = cc
@@ -99,6 +131,8 @@ pub request_adds : (office : OfficeState) (request : Request) (moment : ℤ) (e 
 request_adds office (Accredit lei) moment e is = accredit_adds office lei moment (accredited office.history lei) e is
 request_adds office (Upload call) moment e is = (upload_adds office call moment e is).1
 request_adds office (Kept lei number) moment e is = absurd (kept_adds_none (is_some (accredited office.history lei)) (kept office.history lei number) e is)
+request_adds office (Publish number) moment e is = publication-added office number moment (published office.history number) e is
+request_adds office (Copy sheet form) moment e is = absurd (copy_adds_none sheet form (length (trail office)) (latest (trail office)) e is)
 request_adds office Status moment e is = absurd (status_adds_none office.history (after office.limits office.history) e is)
 request_adds office (Show lei) moment e is = absurd (show_adds_none (row_at (after office.limits office.history) lei) e is)
 

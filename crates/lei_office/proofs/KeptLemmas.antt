@@ -12,7 +12,7 @@ use Rattle.std.proofs.lemmas.Cmp.{nat_list_cmp_total}
 use Rattle.std.proofs.lemmas.Bool.{leb-true, ltb-true}
 use Rattle.std.proofs.lemmas.Bool.Decides.{nat_tests}
 use mathlib.Core.Bool.{true≢false}
-use Rattle.lei_code.specs.Code.{IsValid}
+use Rattle.std.specs.Str.{IsAscii}
 use Rattle.lei_outside.specs.Keeping.{AreApart, Becomes, CellContent, CellPlace, Cells, IsBatch, IsCellOf, KeptTables, content_of, nothing_kept, place_of, put_cell, put_cells, with_batch}
 use Rattle.lei_outside.specs.declared.keeper.Batch.{Batch}
 use Rattle.lei_outside.specs.declared.keeper.KeptCell.{KeptCell}
@@ -38,7 +38,7 @@ use Rattle.lei_office.specs.Kept.{AreCellsOf, AreTablesWith, IsKey, TablesAreOne
 use Rattle.lei_office.specs.Register.{held_after}
 use Rattle.lei_office.specs.State.{OfficeState}
 use Rattle.lei_office.specs.Touching.{AreTouchedCells, Touches}
-use Rattle.lei_office.proofs.PlaceLemmas.{lei_ascii, name_ascii, place-kept, same_place}
+use Rattle.lei_office.proofs.PlaceLemmas.{name_ascii, place-kept, same_place}
 
 -- ---- what is kept under a function of keys
 
@@ -289,15 +289,15 @@ cells_apart (told ∷ list) keys sorted =
       cells_apart list keys.1 (second_of (below_all key_cmp (cell_key told.key) es) (is_sorted key_cmp es) sorted),
     )
 
-pub touched-batch : (batch : Batch) (after : Held) → 1 ≤ batch.entry.seq → batch.entry.seq ≤ 9223372036854775807 → IsValid batch.entry.office
+pub touched-batch : (batch : Batch) (after : Held) → 1 ≤ batch.entry.seq → batch.entry.seq ≤ 9223372036854775807 → IsAscii batch.entry.office
     → AreTouchedCells batch.entry.seq after batch.cells → IsBatch batch
-touched-batch batch after some most valid is =
+touched-batch batch after some most ascii is =
     let number = batch.entry.seq in
     let P : List (KeyTexts × Cell) → Type 0 = λ l. AllByRecursion (λ e. is_touched (number - 1) number e.1 ≡ true) l in
     let S : List (KeyTexts × Cell) → Type 0 = λ l. T (is_sorted key_cmp l) in
     record {
       number = most;
-      office = lei_ascii batch.entry.office valid;
+      office = ascii;
       cells = subst (AllByRecursion (IsCellOf number)) (sym is.are) (own_cells number is.list some is.keys (subst P (sym is.told) (all_pass (is_touched (number - 1) number) (entries after))));
       apart = subst AreApart (sym is.are) (cells_apart is.list is.keys (subst S (sym is.told) (touched-sorted (number - 1) number after)));
     }

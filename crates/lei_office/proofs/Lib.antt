@@ -35,3 +35,4 @@ pub mod JsonTexts
 pub mod SentTexts
 pub mod SoundTrail
 pub mod OwnChanges
+pub mod Shelved

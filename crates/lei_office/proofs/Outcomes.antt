@@ -1,5 +1,5 @@
 -- What a request is not refused with: that nothing can be kept is found by the keeper alone.
-use Rattle.std.proofs.Common.{◌≡◌, ◌+◌, ℤ, List, ◌||◌, Bool, true, false, cond, ltb, length, is_some, Option, Some, None, Result, Ok, Err, subst, ◌∙◌}
+use Rattle.std.proofs.Common.{◌≡◌, ℕ, ◌+◌, ℤ, List, ◌||◌, ◌==◌, Bool, true, false, cond, ltb, length, is_some, Option, Some, None, Result, Ok, Err, subst, ◌∙◌}
 use Rattle.upload_format.specs.Bodies.{upload}
 use Rattle.upload_format.specs.declared.fault.Malformed.{Malformed}
 use Rattle.lei_code.specs.Texts.{Lei, Text}
@@ -10,17 +10,22 @@ use Rattle.lei_outside.specs.declared.entry.KeptEntry.{KeptEntry}
 use Rattle.lei_office.specs.Deciding.{AddsNext, Decides}
 use Rattle.lei_office.specs.declared.deciding.Decision.{Decision}
 use Rattle.lei_office.specs.declared.deciding.Decision.TheVariants.{Adds, Stays}
+use Rattle.copy_csv.specs.declared.sheets.Form.{Form}
+use Rattle.copy_csv.specs.declared.sheets.Sheet.{Sheet}
+use Rattle.copy_forms.specs.Trails.{Publication}
+use Rattle.golden_shelf.specs.Shelves.{latest}
 use Rattle.register_table.specs.Undos.{WriteList}
-use Rattle.upload_ledger.specs.History.{History, accredited, ahead, fresh, kept, number_taken, Place, place, repeat_of, unknown_issuer}
+use Rattle.upload_ledger.specs.History.{History, accredited, ahead, fresh, kept, number_taken, Place, place, published, repeat_of, unknown_issuer}
 use Rattle.lei_office.specs.declared.reply.Refusal.TheVariants as refusals
 use Rattle.lei_office.specs.declared.reply.Refusal.TheVariants.{KeeperFault}
 use Rattle.lei_office.specs.declared.reply.Reply.{Reply}
 use Rattle.lei_office.specs.declared.reply.Reply.TheVariants.{Words}
 use Rattle.lei_office.specs.declared.request.Call.{Call}
 use Rattle.lei_office.specs.declared.request.Request.{Request}
-use Rattle.lei_office.specs.declared.request.Request.TheVariants.{Accredit, Kept, Show, Status, Upload}
+use Rattle.lei_office.specs.declared.request.Request.TheVariants.{Accredit, Copy, Kept, Publish, Show, Status, Upload}
+use Rattle.lei_office.specs.Publications.{trail}
 use Rattle.lei_office.specs.Register.{after}
-use Rattle.lei_office.specs.Replies.{Outcome, accredit_outcome, accreditation, adds, answer_outcome, body_outcome, is_full, is_too_much, outcome_at, place_outcome, show_outcome, stays, taken_upload, upload_outcome}
+use Rattle.lei_office.specs.Replies.{Outcome, accredit_outcome, accreditation, adds, answer_outcome, body_outcome, copied, is_full, is_too_much, next_publication, outcome_at, place_outcome, publication_entry, publish_outcome, show_outcome, stays, taken_upload, upload_outcome}
 use Rattle.lei_office.specs.State.{OfficeState}
 
 -- what was decided, by what it is
@@ -78,11 +83,26 @@ kept-none : (known : Bool) (found : Option Text) → IsNoFault (cond known (answ
 kept-none true found = answer-none found
 kept-none false found = λ is. cc
 
+publish-none : (office : OfficeState) (number : ℕ) (moment : ℤ) (found : Option Text) → IsNoFault (publish_outcome office number moment found)
+publish-none office number moment None = by_tests (number == next_publication office.history) (is_full office)
+  where
+    by_tests : (next full : Bool) → IsNoFault (cond next (cond full (stays (Words refusals.LedgerFull)) (adds (publication_entry office number moment))) (stays (Words (refusals.NumberAhead (next_publication office.history)))))
+    by_tests true true = λ is. cc
+    by_tests true false = tt
+    by_tests false full = λ is. cc
+publish-none office number moment (Some text) = λ is. cc
+
+copy-none : (sheet : Sheet) (form : Form) (number : ℕ) (found : Option Publication) → IsNoFault (copied sheet form number found)
+copy-none sheet form number None = λ is. cc
+copy-none sheet form number (Some publication) = λ is. cc
+
 outcome-none : (office : OfficeState) (request : Request) (moment : ℤ) → IsNoFault (outcome_at office request moment)
 outcome-none office (Accredit issuer) moment = accredit-none office issuer moment (accredited office.history issuer)
 outcome-none office (Upload call) moment = upload-none office call moment
 outcome-none office (Kept issuer number) moment = kept-none (is_some (accredited office.history issuer)) (kept office.history issuer number)
 outcome-none office (Show lei) moment = show-none (row_at (after office.limits office.history) lei)
+outcome-none office (Publish number) moment = publish-none office number moment (published office.history number)
+outcome-none office (Copy sheet form) moment = copy-none sheet form (length (trail office)) (latest (trail office))
 outcome-none office Status moment = λ is. cc
 
 pub never_fault : (office : OfficeState) (request : Request) (moment : ℤ) (reply : Reply) → outcome_at office request moment ≡ stays reply → reply ≡ Words KeeperFault → ⊥

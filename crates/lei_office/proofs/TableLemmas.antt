@@ -4,6 +4,7 @@ use Rattle.std.specs.Prelude.{IfSome, OnErr, OnOk, Result, Ok, Err}
 use Rattle.lei_outside.specs.declared.faults.KeepFault.{KeepFault}
 use Rattle.lei_office.specs.declared.reply.Reply.{Reply}
 use Rattle.std.specs.FinMap.{empty}
+use Rattle.std.specs.Str.{IsAscii}
 use Rattle.std.proofs.lemmas.Bool.{leb-false, ltb-false}
 use Rattle.std.proofs.lemmas.List.Sums.{fold-append, sum_by_push}
 use Rattle.lei_code.specs.Code.{IsValid}
@@ -24,8 +25,9 @@ use Rattle.register_judge.specs.declared.outcome.Verdict.{Verdict}
 use Rattle.lei_office.specs.declared.request.Call.{Call}
 use Rattle.lei_office.specs.Kept.{AreTablesWith, Keeps}
 use Rattle.lei_office.specs.Limits.{AreLimits}
-use Rattle.lei_office.specs.Replies.{is_full, is_too_much, upload_entry}
+use Rattle.lei_office.specs.Replies.{accreditation, is_full, is_too_much, upload_entry}
 use Rattle.lei_office.proofs.KeptLemmas.{nothing-of}
+use Rattle.lei_office.proofs.PlaceLemmas.{lei_ascii}
 use Rattle.lei_office.specs.Register.{CellsHaveTheRows, IsKeptAfter, after, after_entry, entry_writes, held_after, held_after_entry, items_of, take_items}
 use Rattle.lei_office.specs.State.{OfficeState, office_of}
 use Rattle.lei_office.proofs.Histories.{after-push, last_entry-push}
@@ -146,7 +148,7 @@ held-told limits history table told kept keeps = subst (λ h. IfSome told (AreTa
 
 pub upload-next : (limits : Limits) (history : History) (call : Call) (moment : ℤ) (verdicts : List Verdict) (e : KeptEntry) → AreLimits limits → IsValid call.office
     → e ≡ upload_entry history call moment verdicts → is_full (office_of limits history) ≡ false → is_too_much (office_of limits history) call.body ≡ false
-    → (e.seq ≡ length history + 1) × IsValid e.office × AreFew (history ++ e ∷ [])
+    → (e.seq ≡ length history + 1) × IsAscii e.office × AreFew (history ++ e ∷ [])
 upload-next limits history call moment verdicts e are valid added room few =
     let entries = leb-false limits.entries (length history) room in
     let bodies = ltb-false limits.kept (kept_bytes history + length call.body) few in
@@ -154,10 +156,25 @@ upload-next limits history call moment verdicts e are valid added room few =
     let most = are.2.1 in
     let kept = are.1.1 in (
       ap (λ x. x.seq) added,
-      subst IsValid (sym (ap (λ x. x.office) added)) valid,
+      subst IsAscii (sym (ap (λ x. x.office) added)) (lei_ascii call.office valid),
       record {
         entries = omega (arith, entries, most, length-append history (e ∷ []));
         kept = omega (arith, bodies, kept, body, sum_by_push (λ x. length x.body) history e);
+      },
+    )
+
+pub accreditation-next : (limits : Limits) (history : History) (issuer : List ℕ) (moment : ℤ) (e : KeptEntry) → AreLimits limits → IsValid issuer → AreFew history
+    → e ≡ accreditation history issuer moment → is_full (office_of limits history) ≡ false → (e.seq ≡ length history + 1) × IsAscii e.office × AreFew (history ++ e ∷ [])
+accreditation-next limits history issuer moment e are valid few added room =
+    let entries = leb-false limits.entries (length history) room in
+    let body : length e.body ≡ 0 = ap (λ x. length x.body) added in
+    let most = are.2.1 in
+    let kept = few.kept in (
+      ap (λ x. x.seq) added,
+      subst IsAscii (sym (ap (λ x. x.office) added)) (lei_ascii issuer valid),
+      record {
+        entries = omega (arith, entries, most, length-append history (e ∷ []));
+        kept = omega (arith, kept, body, sum_by_push (λ x. length x.body) history e);
       },
     )
 

@@ -1,6 +1,6 @@
 -- What is decided of a request before anything changes.
 use Rattle.std.specs.Prelude.{◌≡◌, ◌+◌, ◌++◌, ◌∷◌, [], length, IsTrue, Result, Ok, Err}
-use Rattle.lei_code.specs.Code.{IsValid}
+use Rattle.std.specs.Str.{IsAscii}
 use Rattle.lei_outside.specs.declared.faults.KeepFault.{KeepFault}
 use Rattle.lei_outside.specs.declared.faults.KeepFault.TheVariants as keep_faults
 use Rattle.lei_outside.specs.declared.entry.KeptEntry.{KeptEntry}
@@ -28,11 +28,11 @@ abbrev pub Tells : Request → Outcome → Result Reply NoMemory → Type 0
 Tells request outcome (Ok reply) = outcome ≡ stays reply
 Tells request outcome (Err wanted) = IsTrue (takes_memory request (reply_of outcome))
 
--- an entry that is decided to be added has the next number, an LEI as its office, and a place in the ledger
+-- an entry that is decided to be added has the next number, an office that is ASCII, and a place in the ledger
 abbrev pub AddsNext : History → Result Decision NoMemory → Type 0
 AddsNext history (Ok (Stays reply)) = Unit {0}
 AddsNext history (Ok (Adds entry list)) =
-    (entry.seq ≡ length history + 1) × IsValid entry.office × AreFew (history ++ entry ∷ [])
+    (entry.seq ≡ length history + 1) × IsAscii entry.office × AreFew (history ++ entry ∷ [])
 AddsNext history (Err wanted) = Unit {0}
 
 -- what is answered where an entry was to be added: its reply, or why it wasn't

@@ -11,6 +11,7 @@ pub mod Parties
 pub mod Words
 pub mod Kept
 pub mod Deciding
+pub mod Shelving
 pub mod Offices
 pub mod Touching
 pub mod Damage

@@ -7,6 +7,7 @@ use Rattle.lei_outside.specs.declared.entry.KeptEntry.{KeptEntry}
 use Rattle.lei_outside.specs.declared.keeper.KeptCell.{KeptCell}
 use Rattle.lei_records.specs.Tables.{KeyTexts}
 use Rattle.lei_records.specs.declared.view.RowKey.{RowKey}
+use Rattle.golden_shelf.specs.Shelves.{Kept}
 use Rattle.register_table.specs.Held.{Cell, Held, TableState, cell_key}
 use Rattle.upload_ledger.specs.History.{History}
 use Rattle.lei_office.specs.declared.damage.Damage.{Damage}
@@ -17,6 +18,7 @@ use Rattle.lei_office.specs.Damage.{DifferFirst, EntryDiffers, IsCellDamage, IsD
 use Rattle.lei_office.specs.Kept.{AreCellsOf, IsKey, Keeps}
 use Rattle.lei_office.specs.Legal.{IsNext, Legal}
 use Rattle.lei_office.specs.Register.{IsKeptAfter}
+use Rattle.lei_office.specs.Shelving.{IsShelved}
 use Rattle.lei_office.specs.State.{OfficeState, office_of}
 
 -- A stored entry was replayed: where it is what the replay makes, it stands behind the others, and the table is the one
@@ -72,12 +74,17 @@ abbrev pub Compares : List KeptCell → List KeptCell → Option Damage → Type
 Compares kept made None = kept ≡ made
 Compares kept made (Some damage) = DifferFirst kept made damage
 
--- What a store was found to have: a legal history whose tables the keeper tells, with the table that it leaves; or damage
--- of the tables that the keeper tells.
+-- A store was read: its entries are a legal history whose tables the keeper tells, the table is the one that it leaves, and
+-- the shelf keeps its publications; or this is damage of the tables that the keeper tells.
+abbrev pub IsRead : Limits → Option KeptTables → History → TableState → Kept → Option Damage → Type 0
+IsRead limits told history table shelf None =
+    Legal (office_of limits history) × IsKeptAfter limits history table × Keeps told (office_of limits history)
+    × IsShelved limits history shelf
+IsRead limits told history table shelf (Some damage) = IfSome told (λ tables. IsDamage limits tables damage)
+
+-- What a store was found to have: the history with its table and its shelf, or damage.
 abbrev pub IsFound : Limits → Option KeptTables → Found → Type 0
-IsFound limits told (Sound ledger table) =
-    Legal (office_of limits ledger.entries) × IsKeptAfter limits ledger.entries table
-    × Keeps told (office_of limits ledger.entries)
+IsFound limits told (Sound ledger table shelf) = IsRead limits told ledger.entries table shelf.now None
 IsFound limits told (Damaged damage) = IfSome told (λ tables. IsDamage limits tables damage)
 
 -- All pages of cells are the same, so that the keeper tells the cells of the register; or the first difference was found.

@@ -12,7 +12,7 @@ use Rattle.lei_records.specs.Tables.{KeyTexts, Rows, Table}
 use Rattle.copy_csv.specs.Sheets.{SheetRow, row_of}
 use Rattle.copy_csv.specs.declared.sheets.Sheet.{Sheet}
 use Rattle.copy_forms.specs.Trails.{Publication, Trail}
-use Rattle.register_table.specs.Held.{Cell, Held, exception_kind, record_kind, relation_kind}
+use Rattle.register_table.specs.Held.{Held, exception_kind, record_kind, relation_kind}
 use Rattle.register_table.specs.Touched.{touched}
 use Rattle.upload_ledger.specs.History.{History, is_publication, last_entry, publications}
 use Rattle.lei_office.specs.declared.limits.Limits.{Limits}

@@ -1,4 +1,4 @@
-//! What is decided of a request. Nothing changes by it.
+//! What is decided of a request. Nothing but the shelf changes by it, where a publication is made.
 ghost use Rattle.std.specs.Prelude.{◌≡◌, IfOk};
 ghost use Rattle.lei_code.specs.Code.{IsValid};
 ghost use Rattle.lei_shapes.specs.Moment.{IsMoment};
@@ -7,9 +7,10 @@ ghost use Rattle.upload_format.specs.Bodies.{upload as items_of};
 ghost use Rattle.upload_ledger.specs.History.{accredited};
 ghost use Rattle.upload_ledger.specs.Limits.{AreFew};
 ghost use Rattle.lei_office.specs.declared.request.Request.TheVariants.{Accredit, Kept, Show, Status, Upload};
+ghost use Rattle.lei_office.specs.Shelving.{IsShelved, Shelves};
 ghost use Rattle.lei_office.specs.Deciding.{AddsNext, Decides, Tells};
 ghost use Rattle.lei_office.specs.Replies.{accredit_outcome, body_outcome, is_full, is_too_much, json_reply, kept_outcome, outcome_at, show_outcome, status_outcome, upload_outcome};
-ghost use Rattle.lei_office.specs.Legal.{IsNumbered, IsRequest};
+ghost use Rattle.lei_office.specs.Legal.{IsNumbered, IsRequest, Legal};
 ghost use Rattle.lei_office.specs.Limits.{AreLimits};
 ghost use Rattle.lei_office.specs.Register.{IsKeptAfter, after, entry_writes};
 ghost use Rattle.register_table.specs.Held.{rows};
@@ -18,15 +19,18 @@ ghost use Rattle.lei_office.specs.State.{office_of};
 use crate::entries::{accreditation, taken_upload};
 use crate::judge::judge;
 use crate::limits::Limits;
+use crate::publishing::{copy, publish};
 use crate::reply::{Kind, Refusal, Reply};
 use crate::request::{Call, Request};
 use crate::texts::status_text;
 use copy_forms::item_text;
+use golden_shelf::Shelf;
 use lei_code::Lei;
 use lei_outside::{Bytes, KeptEntry, List, NoMemory};
 use lei_records::{Item, Writes};
 use register_table::Table;
 use std::alloc::Global;
+use std::thread::Threads;
 use upload_format::{UploadFault, read_upload};
 use upload_ledger::{Ledger, Place};
 
@@ -39,22 +43,28 @@ pub enum Decision {
     Adds(KeptEntry, Writes),
 }
 
-/// Decides a request, where an entry that is added has this moment.
-pub fn decide(
+/// Decides a request, where an entry that is added has this moment. A publication that is made stands on the shelf then,
+/// and can be taken back.
+pub fn decide<R: Threads + Sync>(
+    rt: &R,
     alloc: Global,
     limits: Limits,
     ledger: &Ledger,
     table: &Table,
+    shelf: &mut Shelf,
     request: &Request,
     moment: i64,
 ) -> Result<Decision, NoMemory>
     requires limits { AreLimits limits }
     requires numbered { IsNumbered request.now }
     requires moment { IsMoment moment }
+    requires legal { Legal (office_of limits ledger.now.entries) }
     requires table { IsKeptAfter limits ledger.now.entries table.now }
+    requires shelf { IsShelved limits ledger.now.entries shelf.old.now }
     ensures decides { Decides request.now (outcome_at (office_of limits ledger.now.entries) request.now moment)
         (entry_writes limits (after limits ledger.now.entries)) result }
     ensures next { AddsNext ledger.now.entries result }
+    ensures shelf { Shelves limits ledger.now.entries shelf.old result shelf.new }
     ensures request { IsRequest request.now }
 {
     match request {
@@ -63,12 +73,17 @@ pub fn decide(
         Request::Kept(issuer, number) => {
             Ok(Decision::Stays(kept(alloc, ledger, issuer, *number)?))
         }
+        Request::Publish(number) => {
+            publish(rt, alloc, limits, ledger, table, shelf, *number, moment)
+        }
         Request::Show(lei) => Ok(Decision::Stays(show(alloc, table, lei)?)),
+        Request::Copy(sheet, form) => Ok(Decision::Stays(copy(shelf, *sheet, *form)?)),
         Request::Status => Ok(Decision::Stays(status(alloc, ledger, table)?)),
     }
 }
 
-fn refused(refusal: Refusal) -> Decision
+// The refusal of a request that adds nothing.
+pub fn refused(refusal: Refusal) -> Decision
     ensures { result ≡ Decision.Stays (Reply.Words refusal) }
 {
     Decision::Stays(Reply::Words(refusal))
@@ -129,7 +144,7 @@ fn status(alloc: Global, ledger: &Ledger, table: &Table) -> Result<Reply, NoMemo
 }
 
 // Whether there are as many entries as the limit.
-fn is_full(limits: Limits, ledger: &Ledger) -> bool
+pub fn is_full(limits: Limits, ledger: &Ledger) -> bool
     ensures value { result ≡ is_full (office_of limits ledger.now.entries) }
     ensures few { AreFew ledger.now.entries }
 {

@@ -2,16 +2,19 @@
 ghost use Rattle.std.specs.Prelude.{◌≡◌, ◌+◌, length, IfOk};
 ghost use Rattle.lei_shapes.specs.Moment.{IsMoment};
 ghost use Rattle.upload_ledger.specs.History.{stamp};
-ghost use Rattle.lei_office.specs.Replies.{accreditation, upload_entry};
+ghost use Rattle.lei_office.specs.Register.{after};
+ghost use Rattle.lei_office.specs.Replies.{accreditation, publication_entry, published_counts, upload_entry};
+ghost use Rattle.lei_office.specs.State.{office_of};
+ghost use Rattle.lei_office.specs.declared.limits.Limits.{Limits};
 
 use crate::request::Call;
-use crate::texts::{accreditation_text, upload_text};
+use crate::texts::{accreditation_text, publication_text, upload_text};
 use lei_code::Lei;
 use lei_outside::{Bytes, KeptEntry, NoMemory};
 use lei_shapes::Moment;
 use register_judge::Verdict;
 use std::alloc::Global;
-use upload_ledger::{ACCREDIT, UPLOAD};
+use upload_ledger::{ACCREDIT, PUBLISH, UPLOAD};
 
 /// The rules that uploads are judged by.
 pub const RULES: u16 = 1;
@@ -70,6 +73,30 @@ pub fn taken_upload(
         rules: RULES,
         body: Bytes::copy_of(alloc, call.body.as_slice())?,
         answer: upload_text(alloc, seq, &call.office, call.number, verdicts)?,
+    })
+}
+
+// The publication of this number, with so many records, relationships and exceptions.
+pub fn publication(
+    alloc: Global,
+    entries: &[KeptEntry],
+    number: u32,
+    moment: Moment,
+    counts: (u64, u64, u64),
+) -> Result<KeptEntry, NoMemory>
+    ensures { IfOk result (λ entry. (limits : Limits) → counts ≡ published_counts (after limits entries.now)
+        → entry ≡ publication_entry (office_of limits entries.now) number moment) }
+{
+    let seq = next_seq(entries)?;
+    Ok(KeptEntry {
+        seq,
+        kind: PUBLISH,
+        office: Bytes::copy_of(alloc, &[])?,
+        number,
+        moment: moment.seconds(),
+        rules: RULES,
+        body: Bytes::copy_of(alloc, &[])?,
+        answer: publication_text(alloc, seq, number, moment, counts)?,
     })
 }
 

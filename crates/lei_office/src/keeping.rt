@@ -1,8 +1,7 @@
 //! An entry that is added: its writes go into the table, and it is kept with the cells that it touched.
-ghost use Rattle.std.specs.Prelude.{◌≡◌, ◌≤◌, ◌+◌, ◌++◌, ◌∷◌, [], IfOk, IfSome, OnOk, OnErr, IsErrOf, length, map, option_map};
+ghost use Rattle.std.specs.Prelude.{◌≡◌, ◌≤◌, ◌+◌, ◌++◌, ◌∷◌, [], IfOk, IfSome, OnOk, OnErr, IsAscii, IsErrOf, length, map, option_map};
 ghost use Rattle.std.specs.List.{AllByRecursion};
 ghost use Rattle.copy_forms.specs.Items.{item_text};
-ghost use Rattle.lei_code.specs.Code.{IsValid};
 ghost use Rattle.lei_outside.specs.Count.{Rose};
 ghost use Rattle.lei_outside.specs.Keeping.{Stays, last_number};
 ghost use Rattle.lei_records.specs.Tables.{put_all};
@@ -38,7 +37,7 @@ pub fn add<K: Keeper>(
     requires later { IsLater (length ledger.old.entries + 1) table.old.held }
     requires number { entry.seq ≡ length ledger.old.entries + 1 }
     requires few { AreFew (ledger.old.entries ++ entry ∷ []) }
-    requires office { IsValid entry.office }
+    requires office { IsAscii entry.office }
     requires next { IfSome (K.tables keeper.old) (λ told. entry.seq ≡ last_number told + 1) }
     requires kept { IfSome (K.tables keeper.old) (AreTablesWith ledger.old.entries table.old.held) }
     ensures reply { IfOk result (λ reply. reply ≡ told entry) }
@@ -85,7 +84,7 @@ fn keep<K: Keeper>(
 ) -> Result<(), KeepFault>
     requires number { entry.seq ≡ length ledger.old.entries + 1 }
     requires few { AreFew (ledger.old.entries ++ entry ∷ []) }
-    requires office { IsValid entry.office }
+    requires office { IsAscii entry.office }
     requires next { IfSome (K.tables keeper.old) (λ told. entry.seq ≡ last_number told + 1) }
     ensures entries { OnOk result (ledger.new.entries ≡ ledger.old.entries ++ entry ∷ []) }
     ensures entries_stay { OnErr result (ledger.new.entries ≡ ledger.old.entries) }

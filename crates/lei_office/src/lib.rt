@@ -11,11 +11,13 @@ mod laws;
 mod limits;
 mod office;
 mod opening;
+mod publishing;
 mod replaying;
 mod reply;
 mod request;
 mod texts;
 
+pub use copy_csv::{Form, Sheet};
 pub use damage::Damage;
 pub use entries::RULES;
 pub use laws::{
@@ -30,4 +32,4 @@ pub use office::Office;
 pub use opening::OpenFault;
 pub use reply::{Kind, Refusal, Reply};
 pub use request::{Asked, Call, MAX_NUMBER, Request, is_upload_number};
-pub use upload_ledger::{ACCREDIT, UPLOAD};
+pub use upload_ledger::{ACCREDIT, PUBLISH, UPLOAD};

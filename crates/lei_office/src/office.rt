@@ -1,5 +1,5 @@
 //! One caller's register.
-ghost use Rattle.std.specs.Prelude.{◌≡◌, ◌≤◌, Some, IfErr, IfOk, option_map};
+ghost use Rattle.std.specs.Prelude.{◌≡◌, ◌≤◌, Some, IfErr, IfOk, IsSome, OnErr, OnOk, option_map};
 ghost use Rattle.lei_shapes.specs.Moment.{IsMoment};
 ghost use Rattle.lei_outside.specs.Count.{Rose};
 ghost use Rattle.lei_outside.specs.Keeping.{LeavesNoMore, Stays};
@@ -17,6 +17,7 @@ ghost use Rattle.lei_office.specs.Deciding.{reply_or};
 ghost use Rattle.lei_office.specs.Offices.{FaultRose, IsRefused, keeper_back};
 ghost use Rattle.lei_office.specs.Register.{IsKeptAfter, after};
 ghost use Rattle.lei_office.specs.Replies.{Step, StepOf, outcome_at};
+ghost use Rattle.lei_office.specs.Shelving.{IsShelved, back_to};
 ghost use Rattle.lei_office.specs.State.{office_of};
 
 use crate::deciding::{Decision, decide};
@@ -26,13 +27,14 @@ use crate::limits::Limits;
 use crate::opening::{Found, OpenFault, read_store};
 use crate::reply::{Refusal, Reply};
 use crate::request::Request;
+use golden_shelf::Shelf;
 use lei_outside::{KeepFault, Keeper, KeptEntry, NoMemory};
 use lei_shapes::Moment;
 use register_table::Table;
 use std::alloc::Global;
 use std::marker::Model;
 use std::thread::Threads;
-use upload_ledger::Ledger;
+use upload_ledger::{Ledger, PUBLISH};
 
 /// The register of one caller at a time, over a keeper of what it takes. Contracts see it as its limits with its history,
 /// the list of the entries that it took, and beside them the keeper.
@@ -42,6 +44,7 @@ pub struct Office<K: Keeper> {
     limits: Limits,
     ledger: Ledger,
     table: Table,
+    shelf: Shelf,
     keeper: K,
 }
 
@@ -51,6 +54,7 @@ impl<K: Keeper> Model for Office<K> {
     ghost use Rattle.lei_office.specs.Limits.{AreLimits};
     ghost use Rattle.lei_office.specs.Offices.{KeptOffice};
     ghost use Rattle.lei_office.specs.Register.{IsKeptAfter};
+    ghost use Rattle.lei_office.specs.Shelving.{IsShelved};
     ghost use Rattle.lei_office.specs.State.{office_of};
 
     ghost Value = { KeptOffice K };
@@ -59,7 +63,8 @@ impl<K: Keeper> Model for Office<K> {
 
     ghost invariant = { λ o. AreLimits o.limits × Legal (office_of o.limits o.ledger.entries)
         × IsKeptAfter o.limits o.ledger.entries o.table
-        × Keeps (K.tables o.keeper) (office_of o.limits o.ledger.entries) };
+        × Keeps (K.tables o.keeper) (office_of o.limits o.ledger.entries)
+        × IsShelved o.limits o.ledger.entries o.shelf.now };
 }
 
 impl<K: Keeper> Office<K> {
@@ -67,7 +72,7 @@ impl<K: Keeper> Office<K> {
     /// read and replayed, and then the cells compared, in pages of 16 entries. Where it can't be opened, the keeper comes
     /// back.
     pub fn open<R: Threads + Sync>(
-        _rt: &R,
+        rt: &R,
         alloc: Global,
         mut keeper: K,
         limits: Limits,
@@ -84,12 +89,13 @@ impl<K: Keeper> Office<K> {
         ensures back_crash { IfErr result (λ fault. LeavesNoMore (K.leaves keeper) (K.leaves (keeper_back fault))) }
         ensures failed { IfErr result (λ fault. FaultRose (K.faults keeper) (K.faults (keeper_back fault)) fault) }
     {
-        match read_store(alloc, limits, &mut keeper) {
-            Ok(Found::Sound(ledger, table)) => Ok(Office {
+        match read_store(rt, alloc, limits, &mut keeper) {
+            Ok(Found::Sound(ledger, table, shelf)) => Ok(Office {
                 alloc,
                 limits,
                 ledger,
                 table,
+                shelf,
                 keeper,
             }),
             Ok(Found::Damaged(damage)) => Err(OpenFault::StoreDamaged(keeper, damage)),
@@ -125,7 +131,7 @@ impl<K: Keeper> Office<K> {
     /// Answers a request that came at this moment, by one step of the history. An entry that is added has the
     /// moment, or that of the last entry where it is later, and is kept before it is answered. A repeat of an upload gets
     /// the answer that was kept.
-    pub fn answer<R: Threads + Sync>(&mut self, _rt: &R, request: &Request, moment: Moment) -> Reply
+    pub fn answer<R: Threads + Sync>(&mut self, rt: &R, request: &Request, moment: Moment) -> Reply
         requires { IsNumbered request.now }
         ensures step { Step self.old.office request.now moment result self.new.office }
         ensures kept { Keeps (K.tables self.new.keeper) self.new.office }
@@ -143,10 +149,12 @@ impl<K: Keeper> Office<K> {
     {
         let moment = stamp(self.ledger.entries(), moment);
         reply_to(
+            rt,
             self.alloc,
             self.limits,
             &mut self.ledger,
             &mut self.table,
+            &mut self.shelf,
             &mut self.keeper,
             request,
             moment,
@@ -162,11 +170,13 @@ fn moment_of(entry: &KeptEntry) -> Option<Moment>
 }
 
 // The reply to a request, where an entry that is added has this moment.
-fn reply_to<K: Keeper>(
+fn reply_to<K: Keeper, R: Threads + Sync>(
+    rt: &R,
     alloc: Global,
     limits: Limits,
     ledger: &mut Ledger,
     table: &mut Table,
+    shelf: &mut Shelf,
     keeper: &mut K,
     request: &Request,
     moment: i64,
@@ -174,29 +184,41 @@ fn reply_to<K: Keeper>(
     requires limits { AreLimits limits }
     requires numbered { IsNumbered request.now }
     requires moment { IsMoment moment }
+    requires legal { Legal (office_of limits ledger.old.entries) }
     requires table { IsKeptAfter limits ledger.old.entries table.old }
+    requires shelf { IsShelved limits ledger.old.entries shelf.old.now }
     requires kept { Keeps (K.tables keeper.old) (office_of limits ledger.old.entries) }
     ensures step { StepOf request.now (outcome_at (office_of limits ledger.old.entries) request.now moment)
         (office_of limits ledger.old.entries) result (office_of limits ledger.new.entries) }
     ensures table { IsKeptAfter limits ledger.new.entries table.new }
+    ensures shelf { IsShelved limits ledger.new.entries shelf.new.now }
     ensures kept { Keeps (K.tables keeper.new) (office_of limits ledger.new.entries) }
     ensures count { K.faults keeper.old ≤ K.faults keeper.new }
     ensures faultless { ¬ (result ≡ Words KeeperFault) → K.faults keeper.new ≡ K.faults keeper.old }
     ensures fault { result ≡ Words KeeperFault → Rose (K.faults keeper.old) (K.faults keeper.new) }
     ensures request { IsRequest request.now }
 {
-    match decide(alloc, limits, ledger, table, request, moment) {
+    match decide(rt, alloc, limits, ledger, table, shelf, request, moment) {
         Ok(Decision::Stays(reply)) => reply,
-        Ok(Decision::Adds(entry, writes)) => told_or_refused(add(
-            alloc, ledger, table, keeper, entry, &writes,
-        )),
+        Ok(Decision::Adds(entry, writes)) => {
+            let publishes = entry.kind == PUBLISH;
+            let added = add(alloc, ledger, table, keeper, entry, &writes);
+            told_or_taken_back(shelf, publishes, added)
+        }
         Err(NoMemory) => Reply::Words(Refusal::NoMemory),
     }
 }
 
-fn told_or_refused(added: Result<Reply, KeepFault>) -> Reply
-    ensures { result ≡ reply_or added }
+// The reply where an entry was to be added. Where it wasn't and is a publication, that is taken back from the shelf.
+fn told_or_taken_back(shelf: &mut Shelf, publishes: bool, added: Result<Reply, KeepFault>) -> Reply
+    requires shelf { IsSome (back_to publishes shelf.old) }
+    ensures reply { result ≡ reply_or added }
+    ensures kept { OnOk added (shelf.new.now ≡ shelf.old.now) }
+    ensures back { OnErr added (Some shelf.new.now ≡ back_to publishes shelf.old) }
 {
+    if publishes && added.is_err() {
+        shelf.undo();
+    }
     match added {
         Ok(reply) => reply,
         Err(KeepFault::NoMemory) => Reply::Words(Refusal::NoMemory),

@@ -6,11 +6,12 @@ ghost use Rattle.register_table.specs.Held.{rows};
 ghost use Rattle.register_table.specs.Undos.{IsLater, MayApply, touch_all};
 ghost use Rattle.upload_ledger.specs.History.{stamp};
 ghost use Rattle.upload_ledger.specs.Limits.{AreFew};
-ghost use Rattle.lei_office.specs.Damage.{asked_by, missing, request_in};
+ghost use Rattle.lei_office.specs.Damage.{accreditation_in, asked_by, missing, publication_in, request_in, upload_in};
 ghost use Rattle.lei_office.specs.Legal.{IsNumbered, Legal};
 ghost use Rattle.lei_office.specs.Limits.{AreLimits};
 ghost use Rattle.lei_office.specs.Opening.{PageReplays, Replays};
 ghost use Rattle.lei_office.specs.Register.{IsKeptAfter};
+ghost use Rattle.lei_office.specs.Shelving.{IsShelved, ShelvesUnless};
 ghost use Rattle.lei_office.specs.State.{office_of};
 ghost use Rattle.lei_office.specs.Words.{reply_words};
 
@@ -20,34 +21,40 @@ use crate::entries::stamp;
 use crate::limits::Limits;
 use crate::reply::Reply;
 use crate::request::{Call, Request, is_upload_number};
+use golden_shelf::Shelf;
 use lei_code::Lei;
 use lei_outside::{Bytes, KeptEntry, NoMemory};
 use lei_records::Writes;
 use lei_shapes::Moment;
 use register_table::Table;
 use std::alloc::Global;
-use upload_ledger::{ACCREDIT, Ledger, UPLOAD};
+use std::thread::Threads;
+use upload_ledger::{ACCREDIT, Ledger, PUBLISH, UPLOAD};
 
 /// Replays the stored entries of a page, which are to be those up to the number `upto`. Says the first that differs.
-pub fn replay_page(
+pub fn replay_page<R: Threads + Sync>(
+    rt: &R,
     alloc: Global,
     limits: Limits,
     ledger: &mut Ledger,
     table: &mut Table,
+    shelf: &mut Shelf,
     page: &[KeptEntry],
     upto: u64,
 ) -> Result<Option<Damage>, NoMemory>
     requires limits { AreLimits limits }
     requires legal { Legal (office_of limits ledger.old.entries) }
     requires table { IsKeptAfter limits ledger.old.entries table.old }
-    ensures { IfOk result (PageReplays limits ledger.old.entries page.now upto ledger.new.entries table.new) }
+    requires shelf { IsShelved limits ledger.old.entries shelf.old.now }
+    ensures replays { IfOk result (PageReplays limits ledger.old.entries page.now upto ledger.new.entries table.new) }
+    ensures shelf { IfOk result (λ damage. ShelvesUnless damage limits ledger.new.entries shelf.new.now) }
 {
     for stored in page {
         let number = ledger.entries().len() as u64 + 1;
         if stored.seq != number {
             return Ok(Some(missing(alloc, number)?));
         }
-        match replay(alloc, limits, ledger, table, stored)? {
+        match replay(rt, alloc, limits, ledger, table, shelf, stored)? {
             Some(replayed) => {
                 let kept = entry_line(alloc, stored)?;
                 return Ok(Some(Damage {
@@ -78,33 +85,41 @@ fn missing(alloc: Global, number: u64) -> Result<Damage, NoMemory>
 }
 
 // Replays a stored entry. Where it is what the replay makes, it is added; else that is told.
-fn replay(
+fn replay<R: Threads + Sync>(
+    rt: &R,
     alloc: Global,
     limits: Limits,
     ledger: &mut Ledger,
     table: &mut Table,
+    shelf: &mut Shelf,
     stored: &KeptEntry,
 ) -> Result<Option<Bytes>, NoMemory>
     requires limits { AreLimits limits }
     requires legal { Legal (office_of limits ledger.old.entries) }
     requires table { IsKeptAfter limits ledger.old.entries table.old }
-    ensures { IfOk result (Replays limits ledger.old.entries stored.now ledger.new.entries table.new) }
+    requires shelf { IsShelved limits ledger.old.entries shelf.old.now }
+    ensures replays { IfOk result (Replays limits ledger.old.entries stored.now ledger.new.entries table.new) }
+    ensures shelf { IfOk result (λ told. ShelvesUnless told limits ledger.new.entries shelf.new.now) }
 {
     match asked_by(alloc, stored)? {
         Some((request, moment)) => {
             let moment = stamp(ledger.entries(), moment);
-            replay_request(alloc, limits, ledger, table, &request, moment, stored)
+            replay_request(
+                rt, alloc, limits, ledger, table, shelf, &request, moment, stored,
+            )
         }
         None => Ok(Some(Bytes::copy_of(alloc, b"NOT_AN_ENTRY")?)),
     }
 }
 
 // Replays a stored entry that was taken for this request, where the next entry has this moment.
-fn replay_request(
+fn replay_request<R: Threads + Sync>(
+    rt: &R,
     alloc: Global,
     limits: Limits,
     ledger: &mut Ledger,
     table: &mut Table,
+    shelf: &mut Shelf,
     request: &Request,
     moment: i64,
     stored: &KeptEntry,
@@ -115,10 +130,13 @@ fn replay_request(
     requires stored_moment { IsMoment stored.now.moment }
     requires stamp { moment ≡ stamp ledger.old.entries stored.now.moment }
     requires asked { asked_by stored.now ≡ Some request.now }
+    requires legal { Legal (office_of limits ledger.old.entries) }
     requires table { IsKeptAfter limits ledger.old.entries table.old }
-    ensures { IfOk result (Replays limits ledger.old.entries stored.now ledger.new.entries table.new) }
+    requires shelf { IsShelved limits ledger.old.entries shelf.old.now }
+    ensures replays { IfOk result (Replays limits ledger.old.entries stored.now ledger.new.entries table.new) }
+    ensures shelf { IfOk result (λ told. ShelvesUnless told limits ledger.new.entries shelf.new.now) }
 {
-    match decide(alloc, limits, ledger, table, request, moment)? {
+    match decide(rt, alloc, limits, ledger, table, shelf, request, moment)? {
         Decision::Stays(reply) => Ok(Some(reply_words(alloc, reply)?)),
         Decision::Adds(entry, writes) => {
             if !is_same(&entry, stored) {
@@ -195,21 +213,53 @@ fn request_in(alloc: Global, stored: &KeptEntry) -> Result<Option<Request>, NoMe
     ensures request { IfOk result (λ request. request ≡ request_in stored.now) }
     ensures numbered { IfOk result (λ request. IfSome request IsNumbered) }
 {
-    let Ok(issuer) = Lei::read(stored.office.as_slice()) else {
-        return Ok(None);
-    };
     match stored.kind {
-        ACCREDIT if stored.number == 0 && stored.body.is_empty() => Ok(Some(Request::Accredit(
+        ACCREDIT => Ok(accreditation_in(stored)),
+        UPLOAD => upload_in(alloc, stored),
+        PUBLISH => Ok(publication_in(stored)),
+        _ => Ok(None),
+    }
+}
+
+// The accreditation that an entry is one of: it has neither a number nor a body.
+fn accreditation_in(stored: &KeptEntry) -> Option<Request>
+    ensures request { result ≡ accreditation_in stored.now }
+    ensures numbered { IfSome result IsNumbered }
+{
+    match Lei::read(stored.office.as_slice()) {
+        Ok(issuer) if stored.number == 0 && stored.body.is_empty() => Some(Request::Accredit(
             issuer,
-        ))),
-        UPLOAD if is_upload_number(stored.number) => {
+        )),
+        _ => None,
+    }
+}
+
+// The upload that an entry is one of.
+fn upload_in(alloc: Global, stored: &KeptEntry) -> Result<Option<Request>, NoMemory>
+    ensures request { IfOk result (λ request. request ≡ upload_in stored.now) }
+    ensures numbered { IfOk result (λ request. IfSome request IsNumbered) }
+{
+    match Lei::read(stored.office.as_slice()) {
+        Ok(office) if is_upload_number(stored.number) => {
             let body = Bytes::copy_of(alloc, stored.body.as_slice())?;
             Ok(Some(Request::Upload(Call {
-                office: issuer,
+                office,
                 number: stored.number,
                 body,
             })))
         }
         _ => Ok(None),
+    }
+}
+
+// The publication that an entry is one of: it has neither an office nor a body.
+fn publication_in(stored: &KeptEntry) -> Option<Request>
+    ensures request { result ≡ publication_in stored.now }
+    ensures numbered { IfSome result IsNumbered }
+{
+    if stored.office.is_empty() && is_upload_number(stored.number) && stored.body.is_empty() {
+        Some(Request::Publish(stored.number))
+    } else {
+        None
     }
 }

@@ -1,13 +1,15 @@
 // The texts of answers.
-ghost use Rattle.std.specs.Prelude.{◌≡◌, IfOk, map, string_bytes};
+ghost use Rattle.std.specs.Prelude.{◌≡◌, IfOk, IsAscii, map, string_bytes};
 ghost use Rattle.serde_json.specs.View.{view, items_view};
-ghost use Rattle.lei_office.specs.Answers.{accreditation_answer, accreditation_text, status_answer, status_text, upload_answer, upload_text, verdict_text, strings};
+ghost use Rattle.lei_office.specs.Answers.{accreditation_answer, accreditation_text, publication_answer, publication_text, status_answer, status_text, upload_answer, upload_text, verdict_text, strings};
 
 use lei_code::Lei;
 use lei_outside::{Bytes, NoMemory};
+use lei_shapes::Moment;
 use register_judge::Verdict;
 use serde_json::{Value, json};
 use std::alloc::Global;
+use std::str;
 use upload_ledger::Totals;
 
 // What is answered when the issuer is accredited by the entry of this number.
@@ -55,6 +57,53 @@ fn upload_answer(
         "items": Value::Array(items),
         "number": number
     })?)
+}
+
+// What is answered when a publication is made at this moment by the entry of that number: its own number, and how many
+// records, relationships and exceptions it has.
+pub fn publication_text(
+    alloc: Global,
+    entry: u64,
+    publication: u32,
+    moment: Moment,
+    counts: (u64, u64, u64),
+) -> Result<Bytes, NoMemory>
+    ensures { IfOk result (λ text. text ≡ publication_text entry publication moment counts) }
+{
+    let answer = publication_answer(alloc, entry, publication, moment, counts)?;
+    Ok(Bytes::from(answer.to_vec(alloc)?))
+}
+
+fn publication_answer(
+    alloc: Global,
+    entry: u64,
+    publication: u32,
+    moment: Moment,
+    counts: (u64, u64, u64),
+) -> Result<Value, NoMemory>
+    ensures { IfOk result (λ answer. view answer ≡ publication_answer entry publication moment counts) }
+{
+    let (lei, rr, repex) = counts;
+    let date = moment.text();
+    Ok(json!(in alloc; {
+        "contentDate": ascii(date.as_slice()),
+        "entry": entry,
+        "lei": lei,
+        "publication": publication,
+        "repex": repex,
+        "rr": rr
+    })?)
+}
+
+// The text of bytes that are ASCII.
+fn ascii(bytes: &[u8]) -> &str
+    requires { IsAscii bytes.now }
+    ensures { result.now ≡ bytes.now }
+{
+    match str::from_utf8(bytes) {
+        Ok(text) => text,
+        Err(_) => unreachable!(),
+    }
 }
 
 // What is answered of the numbers of what is kept, and of the records, relationships and exceptions that are held.

@@ -4,6 +4,7 @@ use Rattle.lei_outside.specs.Keeping.{entries_between}
 use Rattle.lei_office.specs.Legal.{Legal}
 use Rattle.lei_office.specs.Opening.{PageReplays}
 use Rattle.lei_office.specs.Register.{IsKeptAfter}
+use Rattle.lei_office.specs.Shelving.{IsShelved, ShelvesUnless}
 use Rattle.lei_office.specs.State.{office_of}
 use Rattle.lei_office.proofs.ComparedPages.{leaves-join, stays-itself, stays-join, stays-told}
 use Rattle.lei_office.proofs.Histories.{Legal-opened}
@@ -16,6 +17,7 @@ loop-after-init g c =
     record {
       legal = subst (λ h. Legal (office_of c.args.limits h)) (sym c.requires.empty) (Legal-opened c.args.limits);
       table = subst (λ h. IsKeptAfter c.args.limits h c.args.table.now) (sym c.requires.empty) c.requires.table;
+      shelf = subst (λ h. IsShelved c.args.limits h c.args.shelf.now.now) (sym c.requires.empty) c.requires.shelf;
       within = omega arith;
       stays = stays-itself told;
       crash = λ left is. is;
@@ -31,7 +33,7 @@ returns-in-Some-clause-replays g c =
     let now = tables c.entries.new.self in
     let more = c.page_end-upto.ensures.more in
     let reached = stays-told (Reached c.args.last c.loop-after.after before) (tables c.loop-after.keeper) now c.in_ok-page.ensures.same c.loop-after.invariant.reached in
-    let made = subst (λ o. PageReplays c.args.limits before c.as_slice.result.now upto c.replay_page.new.ledger.entries c.replay_page.new.table o) c.in-Some.is c.in_ok-damage.ensures in
+    let made = subst (λ o. PageReplays c.args.limits before c.as_slice.result.now upto c.replay_page.new.ledger.entries c.replay_page.new.table o) c.in-Some.is c.in_ok-damage.ensures.replays in
     told-damage c.args.limits c.loop-after.after upto c.args.last before c.as_slice.result.now c.in-Some.damage now (omega (arith, more)) c.page_end-upto.ensures.most reached
     (subst (λ l. IfSome now (λ t. l ≡ entries_between c.loop-after.after upto t)) (sym c.as_slice.ensures) c.in_ok-page.ensures.answer) made
 
@@ -44,10 +46,11 @@ loop-after-preserved g c =
     let now = tables c.entries.new.self in
     let more = c.page_end-upto.ensures.more in
     let reached = stays-told (Reached c.args.last c.loop-after.after before) (tables c.loop-after.keeper) now c.in_ok-page.ensures.same c.loop-after.invariant.reached in
-    let made = subst (λ o. PageReplays c.args.limits before c.as_slice.result.now upto c.replay_page.new.ledger.entries c.replay_page.new.table o) c.in-None.is c.in_ok-damage.ensures in
+    let made = subst (λ o. PageReplays c.args.limits before c.as_slice.result.now upto c.replay_page.new.ledger.entries c.replay_page.new.table o) c.in-None.is c.in_ok-damage.ensures.replays in
     record {
       legal = made.2;
       table = made.3;
+      shelf = subst (λ o. ShelvesUnless o c.args.limits c.replay_page.new.ledger.entries c.replay_page.new.shelf.now) c.in-None.is c.in_ok-damage.ensures.shelf;
       within = c.page_end-upto.ensures.most;
       stays = stays-join (tables c.args.keeper.now) (tables c.loop-after.keeper) now c.loop-after.invariant.stays c.in_ok-page.ensures.same;
       crash = leaves-join (leaves c.args.keeper.now) (leaves c.loop-after.keeper) (leaves c.entries.new.self) c.loop-after.invariant.crash c.in_ok-page.ensures.crash;

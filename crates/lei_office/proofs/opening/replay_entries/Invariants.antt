@@ -3,6 +3,7 @@ use Rattle.std.specs.Prelude.{IfSome}
 use Rattle.lei_outside.specs.Keeping.{LeavesNoMore, Stays}
 use Rattle.lei_office.specs.Legal.{Legal}
 use Rattle.lei_office.specs.Register.{IsKeptAfter}
+use Rattle.lei_office.specs.Shelving.{IsShelved}
 use Rattle.lei_office.specs.State.{office_of}
 use Rattle.lei_office.proofs.ReplayedPages.{Reached}
 use Rattle.lei_office.proofs.opening.replay_entries.Given as goal
@@ -15,6 +16,7 @@ invariant-loop-after g l =
     record {
       legal : Legal (office_of l.limits l.ledger.entries);
       table : IsKeptAfter l.limits l.ledger.entries l.table;
+      shelf : IsShelved l.limits l.ledger.entries l.shelf.now;
       within : l.after ≤ l.last;
       stays : Stays (tables l.fn.keeper) (tables l.keeper);
       crash : LeavesNoMore (leaves l.fn.keeper) (leaves l.keeper);

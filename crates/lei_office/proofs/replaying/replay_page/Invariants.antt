@@ -1,12 +1,14 @@
 use Rattle.std.proofs.Common.{◌≡◌, ◌++◌, take}
 use Rattle.lei_office.specs.Legal.{Legal}
 use Rattle.lei_office.specs.Register.{IsKeptAfter}
+use Rattle.lei_office.specs.Shelving.{IsShelved}
 use Rattle.lei_office.specs.State.{office_of}
 use Rattle.lei_office.proofs.replaying.replay_page.Given as goal
 
 abbrev pub invariant-loop-stored : goal.invariant-loop-stored
-invariant-loop-stored l = record {
+invariant-loop-stored g l = record {
   legal : Legal (office_of l.limits l.ledger.entries);
   table : IsKeptAfter l.limits l.ledger.entries l.table;
+  shelf : IsShelved l.limits l.ledger.entries l.shelf.now;
   grown : l.ledger.entries ≡ l.fn.ledger.entries ++ take l.stored-index l.page;
 }

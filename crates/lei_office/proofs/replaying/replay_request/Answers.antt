@@ -10,8 +10,8 @@ use Rattle.lei_office.proofs.Outcomes.{adds_of, next_number, stays_of}
 use Rattle.lei_office.proofs.TableLemmas.{entry-may, kept-push}
 use Rattle.lei_office.proofs.replaying.replay_request.Goals as goal
 
-pub returns-in_ok-reply_words-in-Stays : goal.returns-in_ok-reply_words-in-Stays
-returns-in_ok-reply_words-in-Stays c =
+pub returns-in_ok-reply_words-in-Stays-clause-replays : goal.returns-in_ok-reply_words-in-Stays-clause-replays
+returns-in_ok-reply_words-in-Stays-clause-replays g c =
     let office = office_of c.args.limits c.args.ledger.now.entries in
     let request = c.args.request.now in
     let z = to_z w64 (of_z w64 c.args.moment) in
@@ -20,8 +20,8 @@ returns-in_ok-reply_words-in-Stays c =
     let differs = stays-differs office c.args.stored.now request c.in-Stays.reply c.requires.asked (ap (outcome_at office request) (sym (same ∙ c.requires.stamp)) ∙ comes) in
     (differs.0, c.in_ok-reply_words-in-Stays.ensures ∙ differs.1)
 
-pub returns-then-not-is_same : goal.returns-then-not-is_same
-returns-then-not-is_same c =
+pub returns-then-not-is_same-clause-replays : goal.returns-then-not-is_same-clause-replays
+returns-then-not-is_same-clause-replays g c =
     let office = office_of c.args.limits c.args.ledger.now.entries in
     let request = c.args.request.now in
     let z = to_z w64 (of_z w64 c.args.moment) in
@@ -32,19 +32,19 @@ returns-then-not-is_same c =
     (differs.0, c.in_ok-entry_line-in-Adds.ensures ∙ differs.1)
 
 pub put-requires-clause-may : goal.put-requires-clause-may
-put-requires-clause-may c =
+put-requires-clause-may g c =
     let bound : c.args.limits.records ≤ 4294967295 = search rules in
     let z = to_z w64 (of_z w64 c.args.moment) in
     entry-may c.args.limits c.args.ledger.now.entries (rows c.args.table.now.held) c.in-Adds.entry c.in-Adds.writes bound c.requires.table.rows
     (adds_of c.args.request.now (outcome_at (office_of c.args.limits c.args.ledger.now.entries) c.args.request.now z) (entry_writes c.args.limits (after c.args.limits c.args.ledger.now.entries)) c.in_ok-reply.field-0 c.in-Adds.entry c.in-Adds.writes c.in-Adds.is c.in_ok-reply.ensures.decides)
 
 pub put-requires-clause-later : goal.put-requires-clause-later
-put-requires-clause-later c =
+put-requires-clause-later g c =
     let number = next_number c.args.ledger.now.entries c.in_ok-reply.field-0 c.in-Adds.entry c.in-Adds.writes c.in-Adds.is c.in_ok-reply.ensures.next in
     subst (λ n. IsLater n c.args.table.now.held) (sym number) c.requires.table.numbers
 
-pub returns-in_ok-put-in-Adds : goal.returns-in_ok-put-in-Adds
-returns-in_ok-put-in-Adds c =
+pub returns-in_ok-put-in-Adds-clause-replays : goal.returns-in_ok-put-in-Adds-clause-replays
+returns-in_ok-put-in-Adds-clause-replays g c =
     let history = c.args.ledger.now.entries in
     let office = office_of c.args.limits history in
     let request = c.args.request.now in

@@ -14,7 +14,7 @@ reply_to-requires-clause-moment g c =
     let same : to_z w64 (of_z w64 c.stamp-moment.result) ≡ c.stamp-moment.result = search rules in
     let stamped = same ∙ (c.stamp-moment.ensures.stamp ∙ ap (λ h. stamp h c.args.moment) c.entries.ensures) in
     let M : ℤ → Type 0 = λ m. IsMoment m in
-    subst M (sym stamped) (stamp-is_moment inside.limits inside.ledger.entries c.args.moment c.self.invariant.1 c.stamp-moment.ensures.moment)
+    λ _ _. subst M (sym stamped) (stamp-is_moment inside.limits inside.ledger.entries c.args.moment c.self.invariant.1 c.stamp-moment.ensures.moment)
 
 pub invariant_of-self : goal.invariant_of-self
 invariant_of-self g c =
@@ -22,7 +22,7 @@ invariant_of-self g c =
     let answered = c.reply_to in
     let same : to_z w64 (of_z w64 c.stamp-moment.result) ≡ c.stamp-moment.result = search rules in
     let stamped = same ∙ (c.stamp-moment.ensures.stamp ∙ ap (λ h. stamp h c.args.moment) c.entries.ensures) in
-    (c.self.invariant.0, Legal-step inside.limits inside.ledger.entries c.args.request.now c.args.moment _ answered.result answered.new.ledger.entries answered.ensures.request c.stamp-moment.ensures.moment stamped c.self.invariant.1 answered.ensures.step, answered.ensures.table, answered.ensures.kept)
+    (c.self.invariant.0, Legal-step inside.limits inside.ledger.entries c.args.request.now c.args.moment _ answered.result answered.new.ledger.entries answered.ensures.request c.stamp-moment.ensures.moment stamped c.self.invariant.1 answered.ensures.step, answered.ensures.table, answered.ensures.kept, answered.ensures.shelf)
 
 pub returns-clause-legal : goal.returns-clause-legal
 returns-clause-legal g c =
