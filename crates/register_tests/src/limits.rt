@@ -163,7 +163,10 @@ fn an_office_takes_an_upload_where_there_is_room(rt: HostRuntime) -> Result<(), 
         entries: 3,
         records: 1,
     };
-    let full = [ACCREDITED, (Sent::Upload(1, TWO_RECORDS), "507 LEDGER_FULL")];
+    let full = [
+        ACCREDITED,
+        (Sent::Upload(1, TWO_RECORDS), "507 LEDGER_FULL"),
+    ];
     answers(&rt, rt.alloc(), few, &full)?;
     let more = Limits {
         kept: 100_000,
