@@ -32,12 +32,14 @@ impl Clock for Still {
 enum Change {
     Nothing,
     Answer(usize),
+    Number(usize),
     Moment(usize),
     Out(usize),
     Row,
     Touched,
     Withdrawn,
     Fewer,
+    More,
 }
 
 // The entries of a store with a change.
@@ -53,6 +55,7 @@ fn entries_with(
             Change::Answer(changed) if changed == place => entry.answer = Bytes::copy_of(
                 alloc, b"x",
             )?,
+            Change::Number(changed) if changed == place => entry.number = 1,
             Change::Moment(changed) if changed == place => entry.moment = 0,
             Change::Out(changed) if changed == place => continue,
             _ => {}
@@ -80,7 +83,20 @@ fn cells_with(
         }
         list.push(cell)?;
     }
+    if matches!(change, Change::More) {
+        list.push(withdrawn(alloc)?)?;
+    }
     Ok(List::from(list))
+}
+
+// A cell of the last kind without a row, which the second entry touched.
+fn withdrawn(alloc: Global) -> Result<KeptCell, NoMemory> {
+    Ok(KeptCell {
+        kind: 3,
+        name: Bytes::copy_of(alloc, b"A")?,
+        touched: 2,
+        row: None,
+    })
 }
 
 // A keeper that has a store with a change.
@@ -169,11 +185,14 @@ fn are_told<R: Abort + Threads + Sync>(
     }
     for (change, number) in [
         (Change::Nothing, 0),
+        (Change::Number(0), 1),
+        (Change::Number(999), 1000),
         (Change::Moment(1), 2),
         (Change::Row, 2),
         (Change::Withdrawn, 2),
         (Change::Touched, 3),
         (Change::Fewer, 2),
+        (Change::More, 2),
     ] {
         is_damaged_at(rt, alloc, entries, cells, change, number)?;
     }
