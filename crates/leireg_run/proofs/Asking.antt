@@ -14,9 +14,9 @@ use Rattle.leireg_run.proofs.Numbers.{number_of-range}
 use Rattle.leireg_run.specs.Faults.{keeper_faults}
 use Rattle.leireg_run.specs.Lines.{Line}
 use Rattle.leireg_run.specs.Limits.{line_limit}
-use Rattle.leireg_run.specs.Requests.{asked, asked_in, asked_by, or_path, cut, code_of, upload_of, kept_of, number_of, first_word, MayWantMemory}
+use Rattle.leireg_run.specs.Requests.{asked, asked_in, asked_by, or_path, cut, code_of, copy_of, form_of, sheet_of, upload_of, kept_of, number_of, first_word, MayWantMemory}
 use Rattle.leireg_run.specs.declared.requests.FirstWord.{FirstWord}
-use Rattle.leireg_run.specs.declared.requests.FirstWord.TheVariants.{Accredit, Upload, Kept, Show, Status}
+use Rattle.leireg_run.specs.declared.requests.FirstWord.TheVariants.{Accredit, Upload, Kept, Publish, Show, Copy, Status}
 
 -- want of memory for an upload's body leaves the office, and asks for no moment
 pub AskStep-no_memory : (old : OfficeState) (what : Asked) → MayWantMemory what → AskStep old what [] (Words NoMemory) old
@@ -59,6 +59,15 @@ show_range : (code : Option (List ℕ)) → AsksInRange (or_path (option_map req
 show_range None = refl
 show_range (Some code) = tt
 
+publication_range : (rest : List ℕ) (number : Option ℕ) → number_of rest ≡ number → AsksInRange (or_path (option_map requests.Publish number))
+publication_range rest None is = refl
+publication_range rest (Some number) is = number_of-range rest number is
+
+copy_range : (rest : List ℕ) → AsksInRange (or_path (copy_of rest))
+unfolding copy_of
+copy_range rest =
+    bind_range (cut rest) _ (λ parts _. bind_range (sheet_of parts.0) _ (λ sheet _. bind_range (form_of parts.1) _ (λ form _. tt)))
+
 by_range : (word : Option FirstWord) (rest : Option (List ℕ)) → AsksInRange (asked_by word rest)
 by_range None rest = refl
 by_range (Some Accredit) None = refl
@@ -67,8 +76,12 @@ by_range (Some Upload) None = refl
 by_range (Some Upload) (Some rest) = upload_range rest
 by_range (Some Kept) None = refl
 by_range (Some Kept) (Some rest) = kept_range rest
+by_range (Some Publish) None = refl
+by_range (Some Publish) (Some rest) = publication_range rest (number_of rest) refl
 by_range (Some Show) None = refl
 by_range (Some Show) (Some rest) = show_range (code_of rest)
+by_range (Some Copy) None = refl
+by_range (Some Copy) (Some rest) = copy_range rest
 by_range (Some Status) None = tt
 by_range (Some Status) (Some rest) = refl
 

@@ -30,6 +30,7 @@ refusal_is (refusals.Malformed fault) is = cc
 refusal_is refusals.LedgerFull is = cc
 refusal_is refusals.NotKept is = cc
 refusal_is refusals.LeiUnknown is = cc
+refusal_is refusals.NothingPublished is = cc
 refusal_is refusals.NoMemory is = cc
 refusal_is refusals.KeeperFault is = refl
 
