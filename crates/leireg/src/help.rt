@@ -4,7 +4,7 @@ use leireg_run::status::{
 };
 
 const COMMANDS: &'static str = "usage:
-  leireg lines [--store PATH]  answers each line of the standard input, as in ACCREDIT OFFICE, UPLOAD OFFICE NUMBER BODY, KEPT OFFICE NUMBER, SHOW LEI or STATUS, and keeps the register in the file PATH
+  leireg lines [--store PATH]  answers each line of the standard input, as in ACCREDIT OFFICE, UPLOAD OFFICE NUMBER BODY, KEPT OFFICE NUMBER, PUBLISH NUMBER, SHOW LEI, COPY TABLE FORM or STATUS, and keeps the register in the file PATH
   leireg check CODE            tells whether CODE is a Legal Entity Identifier
   leireg digits TEXT           makes the check digits of TEXT, the first 18 characters of a code";
 
