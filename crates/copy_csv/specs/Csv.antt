@@ -3,6 +3,7 @@ use Rattle.std.specs.Prelude.{ℕ, List, [], ◌∷◌, ◌++◌, ◌==◌, if�
 use Rattle.lei_code.specs.Texts.{Text}
 use Rattle.copy_csv.specs.declared.sheets.Sheet.{Sheet}
 use Rattle.copy_csv.specs.declared.rows.Change.{Change}
+use Rattle.copy_csv.specs.declared.rows.RowTexts.{RowTexts}
 use Rattle.copy_csv.specs.declared.rows.TextChange.{TextChange}
 use Rattle.copy_csv.specs.Sheets.{SheetRow, names}
 
@@ -43,7 +44,21 @@ csv_delta sheet changes = line (codes "Delta.Action" ∷ names sheet) ++ flat_ma
 
 -- ---- joined
 
+-- What a delta has of a key: the texts of the row that is put, or the row of the key that is dropped.
+pub data Rendered : Type 0 where
+  put : RowTexts → Rendered
+  drop : SheetRow → Rendered
+
+-- The same of a change that refers to the texts of its row.
+abbrev pub rendered_in : TextChange → Rendered
+rendered_in (TextChange.Put texts) = Rendered.put texts.now
+rendered_in (TextChange.Drop row) = Rendered.drop row
+
 -- The line of a change whose row is rendered.
+abbrev pub rendered_line : Rendered → Text
+rendered_line (Rendered.put texts) = codes "\"PUT\"," ++ texts.csv
+rendered_line (Rendered.drop row) = codes "\"DROP\"," ++ row_line row
+
+-- The line of a change that refers to the texts of its row.
 abbrev pub text_change_line : TextChange → Text
-text_change_line (TextChange.Put texts) = codes "\"PUT\"," ++ texts.csv
-text_change_line (TextChange.Drop row) = codes "\"DROP\"," ++ row_line row
+text_change_line change = rendered_line (rendered_in change)

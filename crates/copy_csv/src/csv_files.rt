@@ -76,7 +76,7 @@ pub fn csv_copy_text(alloc: Global, sheet: Sheet, rows: &[RowTexts]) -> Result<B
 pub fn csv_delta_text(
     alloc: Global,
     sheet: Sheet,
-    changes: &[TextChange],
+    changes: &[TextChange<'_>],
 ) -> Result<Bytes, NoMemory>
     ensures { IfOk result (λ bytes. bytes ≡ line (codes "Delta.Action" ∷ names sheet) ++ flat_map text_change_line changes.now) }
 {
@@ -88,7 +88,7 @@ pub fn csv_delta_text(
 }
 
 // Puts the line of a change behind the others.
-fn put_change(out: &mut Vec<u8>, change: &TextChange) -> Result<(), NoMemory>
+fn put_change(out: &mut Vec<u8>, change: &TextChange<'_>) -> Result<(), NoMemory>
     ensures { OnOk result (out.new.items ≡ out.old.items ++ text_change_line change.now) }
 {
     match change {

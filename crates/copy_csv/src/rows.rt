@@ -118,11 +118,11 @@ pub struct RowTexts {
     pub json: Bytes,
 }
 
-/// What a delta has of a key, with a row that is rendered.
+/// What a delta has of a key, with a row that is rendered elsewhere.
 #[derive(Debug, Drop)]
-pub enum TextChange {
+pub enum TextChange<'a> {
     /// The row that the key has now, as its texts.
-    Put(RowTexts),
+    Put(&'a RowTexts),
     /// The key has no row now. Of the row, the texts behind the key are empty.
     Drop(Row),
 }

@@ -8,6 +8,7 @@ use Rattle.copy_csv.specs.declared.sheets.Form.{Form}
 use Rattle.copy_csv.specs.declared.sheets.Sheet.{Sheet}
 use Rattle.copy_csv.specs.declared.rows.RowTexts.{RowTexts}
 use Rattle.copy_csv.specs.declared.rows.TextChange.{TextChange}
+use Rattle.copy_csv.specs.Csv.{rendered_in}
 use Rattle.copy_forms.specs.Files.{IsCopy, IsDelta, rendered, rendered_change}
 use Rattle.copy_forms.specs.Json.{json_copy, json_delta}
 use Rattle.copy_forms.specs.JsonTexts.{before_copy, before_delta, records_text, text_change_record}
@@ -94,6 +95,6 @@ json-copy-ok head texts (Err e) is = tt
 
 pub json-delta-ok : {E : Type 0} (head : Head) (texts : List TextChange) (r : Result (List ℕ) E)
     → IfOk r (λ bytes. bytes ≡ before_delta head (length texts) (records_text false (map text_change_record texts) ++ 125 ∷ []))
-    → IfOk r (λ bytes. (changes : List Change) → texts ≡ map rendered_change changes → bytes ≡ json_delta head changes)
+    → IfOk r (λ bytes. (changes : List Change) → map rendered_in texts ≡ map rendered_change changes → bytes ≡ json_delta head changes)
 json-delta-ok head texts (Ok bytes) is = λ changes e. is ∙ delta-joined head texts changes e
 json-delta-ok head texts (Err e) is = tt

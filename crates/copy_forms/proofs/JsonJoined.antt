@@ -7,7 +7,8 @@ use Rattle.copy_csv.specs.declared.rows.RowTexts.{RowTexts}
 use Rattle.copy_csv.specs.declared.rows.TextChange.{TextChange}
 use Rattle.copy_forms.specs.Files.{rendered, rendered_change}
 use Rattle.copy_forms.specs.Json.{json_copy, json_delta, json_record}
-use Rattle.copy_forms.specs.JsonTexts.{before_copy, before_delta, records_text, text_change_record}
+use Rattle.copy_csv.specs.Csv.{rendered_in}
+use Rattle.copy_forms.specs.JsonTexts.{before_copy, before_delta, records_text, rendered_record, text_change_record}
 use Rattle.copy_csv.specs.Sheets.{SheetRow}
 use Rattle.copy_forms.proofs.JsonCopies.{copy-text}
 use Rattle.copy_forms.proofs.JsonDeltas.{delta-text, json_change}
@@ -25,19 +26,25 @@ copy-joined head texts rows is =
     ∙ ap (λ l. before_copy head (length rows) (records_text false l ++ 125 ∷ [])) (records-of rows)
     ∙ ap (before_copy head (length rows)) (sym (end-is false (map json_record rows))) ∙ sym (copy-text head rows)
 
-change-of : (change : Change) → text_change_record (rendered_change change) ≡ json_change change
+change-of : (change : Change) → rendered_record (rendered_change change) ≡ json_change change
 unfolding json_change
 change-of (Change.Put row) = refl
 change-of (Change.Drop row) = refl
 
-changes-of : (changes : List Change) → map text_change_record (map rendered_change changes) ≡ map json_change changes
+changes-of : (changes : List Change) → map rendered_record (map rendered_change changes) ≡ map json_change changes
 changes-of [] = refl
-changes-of (change ∷ changes) = ap (λ l. text_change_record (rendered_change change) ∷ l) (changes-of changes) ∙ ap (λ t. t ∷ map json_change changes) (change-of change)
+changes-of (change ∷ changes) = ap (λ l. rendered_record (rendered_change change) ∷ l) (changes-of changes) ∙ ap (λ t. t ∷ map json_change changes) (change-of change)
 
-pub delta-joined : (head : Head) (texts : List TextChange) (changes : List Change) → texts ≡ map rendered_change changes
+records-in : (texts : List TextChange) → map text_change_record texts ≡ map rendered_record (map rendered_in texts)
+records-in [] = refl
+records-in (change ∷ texts) = ap (λ l. text_change_record change ∷ l) (records-in texts)
+
+pub delta-joined : (head : Head) (texts : List TextChange) (changes : List Change) → map rendered_in texts ≡ map rendered_change changes
     → before_delta head (length texts) (records_text false (map text_change_record texts) ++ 125 ∷ []) ≡ json_delta head changes
 delta-joined head texts changes is =
-    ap (λ l. before_delta head (length l) (records_text false (map text_change_record l) ++ 125 ∷ [])) is
-    ∙ ap (λ n. before_delta head n (records_text false (map text_change_record (map rendered_change changes)) ++ 125 ∷ [])) (length-map changes rendered_change)
+    ap (λ n. before_delta head n (records_text false (map text_change_record texts) ++ 125 ∷ [])) (sym (length-map texts rendered_in))
+    ∙ ap (λ l. before_delta head (length (map rendered_in texts)) (records_text false l ++ 125 ∷ [])) (records-in texts)
+    ∙ ap (λ l. before_delta head (length l) (records_text false (map rendered_record l) ++ 125 ∷ [])) is
+    ∙ ap (λ n. before_delta head n (records_text false (map rendered_record (map rendered_change changes)) ++ 125 ∷ [])) (length-map changes rendered_change)
     ∙ ap (λ l. before_delta head (length changes) (records_text false l ++ 125 ∷ [])) (changes-of changes)
     ∙ ap (before_delta head (length changes)) (sym (end-is false (map json_change changes))) ∙ sym (delta-text head changes)

@@ -6,10 +6,9 @@ use Rattle.copy_csv.specs.declared.heads.DeltaRead.{DeltaRead}
 use Rattle.copy_csv.specs.declared.heads.Head.{Head}
 use Rattle.copy_csv.specs.declared.rows.Change.{Change}
 use Rattle.copy_csv.specs.declared.rows.RowTexts.{RowTexts}
-use Rattle.copy_csv.specs.declared.rows.TextChange.{TextChange}
 use Rattle.copy_csv.specs.declared.sheets.Form.{Form}
 use Rattle.copy_csv.specs.declared.sheets.Sheet.{Sheet}
-use Rattle.copy_csv.specs.Csv.{csv_copy, csv_delta, row_line}
+use Rattle.copy_csv.specs.Csv.{Rendered, csv_copy, csv_delta, row_line}
 use Rattle.copy_forms.specs.Json.{json_copy, json_delta, json_record}
 use Rattle.copy_csv.specs.Rows.{AreChanges, AreRows, IsCopyHead, IsDeltaHead}
 use Rattle.copy_csv.specs.Sheets.{SheetRow}
@@ -19,9 +18,9 @@ abbrev pub rendered : SheetRow → RowTexts
 rendered row = record { csv = row_line row; json = json_record row }
 
 -- A change whose row is rendered, if it is put.
-abbrev pub rendered_change : Change → TextChange
-rendered_change (Change.Put row) = TextChange.Put (rendered row)
-rendered_change (Change.Drop row) = TextChange.Drop row
+abbrev pub rendered_change : Change → Rendered
+rendered_change (Change.Put row) = Rendered.put (rendered row)
+rendered_change (Change.Drop row) = Rendered.drop row
 
 -- The text of a copy. In CSV its head isn't printed.
 abbrev pub copy : Sheet → Form → Head → List SheetRow → Text

@@ -8,6 +8,7 @@ use Rattle.lei_records.specs.Spelled.{is_absent}
 use Rattle.lei_shapes.specs.Clock.{moment_text}
 use Rattle.copy_csv.specs.declared.heads.Head.{Head}
 use Rattle.copy_csv.specs.declared.rows.TextChange.{TextChange}
+use Rattle.copy_csv.specs.Csv.{Rendered, rendered_in}
 use Rattle.copy_forms.specs.Json.{Field, json_record}
 
 -- What stands before the text of a field: a comma where a field stands before it, its name, a colon and the quote that
@@ -57,6 +58,10 @@ before_record action rest =
     123 ∷ (quoted (codes "action") ++ 58 ∷ (quoted action ++ 44 ∷ (quoted (codes "record") ++ 58 ∷ rest)))
 
 -- The text of a change whose row is rendered.
+abbrev pub rendered_record : Rendered → Text
+rendered_record (Rendered.put texts) = before_record (codes "PUT") (texts.json ++ 125 ∷ [])
+rendered_record (Rendered.drop row) = before_record (codes "DROP") (json_record row ++ 125 ∷ [])
+
+-- The text of a change that refers to the texts of its row.
 abbrev pub text_change_record : TextChange → Text
-text_change_record (TextChange.Put texts) = before_record (codes "PUT") (texts.json ++ 125 ∷ [])
-text_change_record (TextChange.Drop row) = before_record (codes "DROP") (json_record row ++ 125 ∷ [])
+text_change_record change = rendered_record (rendered_in change)

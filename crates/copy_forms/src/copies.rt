@@ -5,7 +5,7 @@ ghost use Rattle.copy_csv.specs.declared.heads.Head.{Head as DeclaredHead};
 ghost use Rattle.copy_csv.specs.declared.sheets.Form.{Form};
 ghost use Rattle.copy_csv.specs.declared.rows.Change.{Change};
 ghost use Rattle.std.specs.List.{All};
-ghost use Rattle.copy_csv.specs.Csv.{csv_copy, csv_delta};
+ghost use Rattle.copy_csv.specs.Csv.{csv_copy, csv_delta, rendered_in};
 ghost use Rattle.copy_forms.specs.Json.{json_copy, json_delta};
 ghost use Rattle.copy_forms.specs.Files.{IsCopy, IsCopyRead, IsDelta, IsDeltaRead, copy, delta, rendered, rendered_change};
 ghost use Rattle.copy_csv.specs.Rows.{IsChangeOf};
@@ -158,9 +158,9 @@ pub fn delta_text(
     sheet: Sheet,
     form: Form,
     head: &Head,
-    changes: &[TextChange],
+    changes: &[TextChange<'_>],
 ) -> Result<Bytes, NoMemory>
-    ensures { IfOk result (λ bytes. (sheet_changes : Items Change) → changes.now ≡ map rendered_change sheet_changes
+    ensures { IfOk result (λ bytes. (sheet_changes : Items Change) → map rendered_in changes.now ≡ map rendered_change sheet_changes
         → All (IsChangeOf sheet) sheet_changes → bytes ≡ delta sheet form head.now sheet_changes) }
 {
     match form {
@@ -169,15 +169,15 @@ pub fn delta_text(
     }
 }
 
-fn delta_in_csv(alloc: Global, sheet: Sheet, changes: &[TextChange]) -> Result<Bytes, NoMemory>
-    ensures { IfOk result (λ bytes. (sheet_changes : Items Change) → changes.now ≡ map rendered_change sheet_changes
+fn delta_in_csv(alloc: Global, sheet: Sheet, changes: &[TextChange<'_>]) -> Result<Bytes, NoMemory>
+    ensures { IfOk result (λ bytes. (sheet_changes : Items Change) → map rendered_in changes.now ≡ map rendered_change sheet_changes
         → All (IsChangeOf sheet) sheet_changes → bytes ≡ csv_delta sheet sheet_changes) }
 {
     csv_delta_text(alloc, sheet, changes)
 }
 
-fn delta_in_json(alloc: Global, head: &Head, changes: &[TextChange]) -> Result<Bytes, NoMemory>
-    ensures { IfOk result (λ bytes. (sheet_changes : Items Change) → changes.now ≡ map rendered_change sheet_changes
+fn delta_in_json(alloc: Global, head: &Head, changes: &[TextChange<'_>]) -> Result<Bytes, NoMemory>
+    ensures { IfOk result (λ bytes. (sheet_changes : Items Change) → map rendered_in changes.now ≡ map rendered_change sheet_changes
         → bytes ≡ json_delta head.now sheet_changes) }
 {
     json_delta_text(alloc, head, changes)

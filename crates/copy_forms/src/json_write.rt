@@ -30,7 +30,7 @@ pub fn json_copy_text(alloc: Global, head: &Head, rows: &[RowTexts]) -> Result<B
 pub fn json_delta_text(
     alloc: Global,
     head: &Head,
-    changes: &[TextChange],
+    changes: &[TextChange<'_>],
 ) -> Result<Bytes, NoMemory>
     ensures { IfOk result (λ bytes. bytes
         ≡ before_delta head.now (length changes.now) (records_text false (map text_change_record changes.now) ++ 125 ∷ [])) }
@@ -49,7 +49,7 @@ fn put_change(
     alloc: Global,
     out: &mut Vec<u8>,
     later: bool,
-    change: &TextChange,
+    change: &TextChange<'_>,
 ) -> Result<(), NoMemory>
     ensures { OnOk result (out.new.items ≡ out.old.items ++ (comma_if later ++ text_change_record change.now)) }
 {

@@ -2,8 +2,8 @@
 // differs from such a text in little isn't read.
 
 use copy_forms::{
-    Change, CopyRead, DeltaRead, Form, FormFault, Head, Sheet, TextChange, copy_text, delta_text,
-    read_copy, read_delta, row_texts,
+    Change, CopyRead, DeltaRead, Form, FormFault, Head, RowTexts, Sheet, TextChange, copy_text,
+    delta_text, read_copy, read_delta, row_texts,
 };
 use lei_outside::Bytes;
 use lei_shapes::Moment;
@@ -423,20 +423,33 @@ fn printed_copy(alloc: Global, sheet: Sheet, form: Form, read: &CopyRead) -> Res
     Ok(copy_text(alloc, sheet, form, &head, rows.as_slice())?)
 }
 
-// A change with its row rendered.
-fn rendered(alloc: Global, change: Change) -> Result<TextChange, Fail> {
+// The texts of the rows of changes.
+fn texts_of(alloc: Global, changes: &[Change]) -> Result<Vec<RowTexts>, Fail> {
+    let mut texts = Vec::new(alloc);
+    for change in changes {
+        texts.push(row_texts(alloc, change.row())?)?;
+    }
+    Ok(texts)
+}
+
+// A change with these texts of its row.
+fn rendered(change: Change, texts: &RowTexts) -> TextChange<'_> {
     match change {
-        Change::Put(row) => Ok(TextChange::Put(row_texts(alloc, &row)?)),
-        Change::Drop(row) => Ok(TextChange::Drop(row)),
+        Change::Put(_) => TextChange::Put(texts),
+        Change::Drop(row) => TextChange::Drop(row),
     }
 }
 
 // The text of a delta that was read.
 fn printed_delta(alloc: Global, sheet: Sheet, form: Form, read: DeltaRead) -> Result<Bytes, Fail> {
     let head = head_of(read.head)?;
+    let texts = texts_of(alloc, read.changes.as_slice())?;
     let mut changes = Vec::new(alloc);
     for change in read.changes.into_vec() {
-        changes.push(rendered(alloc, change)?)?;
+        let Some(row) = texts.as_slice().get(changes.len()) else {
+            return Err(Fail::from("a text for each change"));
+        };
+        changes.push(rendered(change, row))?;
     }
     Ok(delta_text(alloc, sheet, form, &head, changes.as_slice())?)
 }
