@@ -6,3 +6,5 @@ pub mod Clock
 pub mod Pieces
 pub mod Keeping
 pub mod CellLists
+pub mod Links
+pub mod Doors

@@ -1,5 +1,5 @@
 -- Sources, sinks and keepers in memory, as contracts see them.
-use Rattle.std.specs.Prelude.{ℕ, List, [], ◌∷◌, ◌++◌, Contains}
+use Rattle.std.specs.Prelude.{ℕ, List, [], ◌∷◌, ◌++◌, Bool, Contains}
 use Rattle.std.specs.FinMap.{empty}
 use Rattle.lei_outside.specs.Count.{counted}
 use Rattle.std.specs.List.{AllByRecursion}
@@ -35,6 +35,17 @@ pub record SureSourceState : Type 0 where
 pub record SureSinkState : Type 0 where
   pub written : List ℕ
   pub most : ℕ
+
+-- A link in memory: where its bytes come from, and where they go.
+pub record LinkState : Type 0 where
+  pub source : SourceState
+  pub sink : SinkState
+
+-- A door in memory: the links to come, those that came back, and whether one is out.
+pub record DoorState : Type 0 where
+  pub to_come : List LinkState
+  pub back : List LinkState
+  pub out : Bool
 
 -- A keeper in memory that never fails: the entries, and each cell that was kept, in the order in which they came.
 pub record SureKeeperState : Type 0 where
