@@ -12,14 +12,15 @@ use Rattle.example_sessions.specs.declared.texts.Part.{Part}
 use Rattle.example_sessions.specs.declared.texts.Named.{Named}
 
 -- A run of the program: its words, what is changed of its store before it, the moments of its clock, the numbers of the
--- calls that its keeper refuses, the bytes that are sent, the bytes that must come back, and the status that it must end
--- with.
+-- calls that its keeper refuses, the bytes that are sent, those of a second file, the bytes that must come back, and the
+-- status that it must end with.
 pub record RunState : Type 0 where
   pub words : List (List ℕ)
   pub changes : List Change
   pub moments : List ℤ
   pub refused : List ℕ
   pub sent : List ℕ
+  pub second : List ℕ
   pub expected : List ℕ
   pub status : ℕ
 
@@ -38,7 +39,7 @@ word_of text = if bytes_eq text (codes "\"\"") then [] else text
 abbrev pub run_of_words : List (List ℕ) → Option RunState
 run_of_words [] = None
 run_of_words (program ∷ words) = if bytes_eq program (codes "./leireg")
-    then Some (record { words = map word_of words; changes = []; moments = []; refused = []; sent = []; expected = []; status = 0 })
+    then Some (record { words = map word_of words; changes = []; moments = []; refused = []; sent = []; second = []; expected = []; status = 0 })
     else None
 
 -- `$ ./leireg WORD ..`: a run with these words, in which nothing is sent
@@ -63,10 +64,11 @@ with_refused run text = option_map (λ n. record run { refused = run.refused ++ 
 abbrev pub with_status : RunState → List ℕ → Option RunState
 with_status run text = option_map (λ status. record run { status = status }) (number 255 text)
 
--- bytes that are sent, with `>`, or that must come back, with `<`
+-- bytes that are sent, with `>`, that the second file has, with `+`, or that must come back, with `<`
 abbrev pub with_bytes : RunState → List ℕ → List ℕ → Option RunState
 with_bytes run sign bytes = if bytes_eq sign (codes ">") then Some (record run { sent = run.sent ++ bytes })
-    else (if bytes_eq sign (codes "<") then Some (record run { expected = run.expected ++ bytes }) else None)
+    else (if bytes_eq sign (codes "+") then Some (record run { second = run.second ++ bytes })
+    else (if bytes_eq sign (codes "<") then Some (record run { expected = run.expected ++ bytes }) else None))
 
 -- a text whose last character is `\` has no line end
 abbrev pub goes_on : List ℕ → Bool
@@ -80,7 +82,7 @@ front_of text = if goes_on text then take (length text - 1) text else text
 abbrev pub end_of : List ℕ → List ℕ
 end_of text = if goes_on text then [] else 10 ∷ []
 
--- `> TEXT` or `< TEXT`
+-- `> TEXT`, `+ TEXT` or `< TEXT`
 abbrev pub with_text : List Named → RunState → List ℕ → List ℕ → Option RunState
 with_text known run sign text =
     option_and_then (λ parts. with_bytes run sign (filled [] parts ++ end_of text)) (text_parts known [] (front_of text))
@@ -102,13 +104,13 @@ repeated parts end numbers = flat_map (λ n. filled (number_texts n) parts ++ en
 abbrev pub numbers_between : ℕ → ℕ → List ℕ
 numbers_between first last = range_with_len first (last + 1 - first)
 
--- a line for each number from the first to the last is sent or must come back
+-- a line for each number from the first to the last is sent, stands in the second file or must come back
 abbrev pub with_repeated : List Named → RunState → ℕ → ℕ → List ℕ → List ℕ → Option RunState
 with_repeated known run first last sign text =
     option_and_then (λ parts. with_bytes run sign (repeated parts (end_of text) (numbers_between first last)))
     (text_parts known number_names (front_of text))
 
--- `each FIRST LAST > TEXT` or `each FIRST LAST < TEXT`
+-- `each FIRST LAST > TEXT`, and so for the two other signs
 abbrev pub with_each : List Named → RunState → List ℕ → Option RunState
 with_each known run range =
     option_and_then (λ first. option_and_then (λ last. option_and_then (λ line.

@@ -25,8 +25,8 @@ pub struct Change {
 }
 
 /// A run of the program: its words, what is changed of its store before it, the moments of its clock, the numbers of the
-/// calls that its keeper refuses, the bytes that are sent, the bytes that must come back, and the status that it must end
-/// with.
+/// calls that its keeper refuses, the bytes that are sent, those of a second file, the bytes that must come back, and the
+/// status that it must end with.
 #[derive(Drop)]
 pub struct Run {
     words: Vec<String>,
@@ -34,6 +34,7 @@ pub struct Run {
     moments: Vec<i64>,
     refused: Vec<u64>,
     sent: Vec<u8>,
+    second: Vec<u8>,
     expected: Vec<u8>,
     status: u8,
 }
@@ -45,7 +46,7 @@ impl Model for Run {
 
     ghost Value = { RunState };
 
-    ghost view = { λ r. record { words = map string_bytes r.words.items; changes = r.changes.items; moments = r.moments.items; refused = r.refused.items; sent = r.sent.items; expected = r.expected.items; status = r.status } };
+    ghost view = { λ r. record { words = map string_bytes r.words.items; changes = r.changes.items; moments = r.moments.items; refused = r.refused.items; sent = r.sent.items; second = r.second.items; expected = r.expected.items; status = r.status } };
 
     ghost invariant = { λ r. All IsClockMoment r.moments.items };
 }
@@ -68,6 +69,7 @@ impl Run {
             moments: Vec::new(alloc),
             refused: Vec::new(alloc),
             sent: Vec::new(alloc),
+            second: Vec::new(alloc),
             expected: Vec::new(alloc),
             status: 0,
         })
@@ -123,6 +125,13 @@ impl Run {
         ensures { result.now ≡ self.now.sent }
     {
         self.sent.as_slice()
+    }
+
+    /// The bytes of the second file.
+    pub fn second(&self) -> &[u8]
+        ensures { result.now ≡ self.now.second }
+    {
+        self.second.as_slice()
     }
 
     /// The bytes that must come back.
@@ -215,12 +224,16 @@ impl Run {
         Ok(self)
     }
 
-    // The run with these bytes sent or expected.
+    // The run with these bytes sent, in the second file or expected.
     fn with_bytes(mut self, sign: &str, bytes: &[u8]) -> Result<Self, Fault>
         ensures { Gives (λ run. run) result (Sessions.with_bytes self sign.now bytes.now) }
     {
         if sign == ">" {
             self.sent.extend_from_slice(bytes)?;
+            return Ok(self);
+        }
+        if sign == "+" {
+            self.second.extend_from_slice(bytes)?;
             return Ok(self);
         }
         if sign == "<" {
