@@ -160,7 +160,7 @@ module _ (sheet : Sheet) where
   values_rows (e ∷ es) are = All-cons (IsRowOf sheet) e.1 (map (λ (e : KeyTexts × SheetRow). e.1) es) are.0.row_is (values_rows es are.1)
 
 -- the lines of rows are found by these
-find_lines : (rows : List SheetRow) (k : KeyTexts) → find key_cmp k (map line_of rows) ≡ option_map rendered (find key_cmp k (under_keys rows))
+pub find_lines : (rows : List SheetRow) (k : KeyTexts) → find key_cmp k (map line_of rows) ≡ option_map rendered (find key_cmp k (under_keys rows))
 find_lines [] k = refl
 find_lines (x ∷ rows) k = by (eq_by_cmp key_cmp k (key x)) (find_lines rows k)
   where

@@ -4,3 +4,6 @@ pub mod SideLemmas
 pub mod WeaveSteps
 pub mod Keeping
 pub mod Publishing
+pub mod BaseLemmas
+pub mod DeltaLemmas
+pub mod PlaceLemmas

@@ -31,15 +31,15 @@ less Ordering.Greater e = absurd (false≢true e)
 turned : (j k : KeyTexts) → key_cmp j k ≡ Ordering.Greater → key_cmp k j ≡ Ordering.Less
 turned j k e = key_total.antisymm k j ∙ ap ordering_reverse e
 
-back : (j k : KeyTexts) → key_cmp j k ≡ Ordering.Less → key_cmp k j ≡ Ordering.Greater
+pub back : (j k : KeyTexts) → key_cmp j k ≡ Ordering.Less → key_cmp k j ≡ Ordering.Greater
 back j k e = key_total.antisymm k j ∙ ap ordering_reverse e
 
 -- what is above a key is above those below it
-higher : (m k j : KeyTexts) → key_cmp m k ≡ Ordering.Greater → key_cmp k j ≡ Ordering.Greater → key_cmp m j ≡ Ordering.Greater
+pub higher : (m k j : KeyTexts) → key_cmp m k ≡ Ordering.Greater → key_cmp k j ≡ Ordering.Greater → key_cmp m j ≡ Ordering.Greater
 higher m k j a b = back j m (key_total.trans j k m (turned k j b) (turned m k a))
 
 module _ {X : Type 0} where
-  below_trans : (k j : KeyTexts) (es : List (KeyTexts × X)) → key_cmp k j ≡ Ordering.Less → below_all key_cmp j es ≡ true → below_all key_cmp k es ≡ true
+  pub below_trans : (k j : KeyTexts) (es : List (KeyTexts × X)) → key_cmp k j ≡ Ordering.Less → below_all key_cmp j es ≡ true → below_all key_cmp k es ≡ true
   below_trans k j [] lt e = refl
   below_trans k j (x ∷ es) lt e =
       let parts = both (is_lt (key_cmp j x.0)) (below_all key_cmp j es) e in

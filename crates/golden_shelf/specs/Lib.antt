@@ -6,3 +6,6 @@ pub mod Sides
 pub mod Parts
 pub mod Walks
 pub mod Beside
+pub mod Bases
+pub mod Deltas
+pub mod Places

@@ -1,17 +1,23 @@
 //! The shelf: golden copies of a trail of publications, joined of texts that are kept.
 #![tactic(auto)]
 
+mod base;
+mod bases;
+mod deltas;
 mod fault;
 mod issue;
 mod keys;
 mod lines;
 mod notes;
+mod order;
 mod rest;
 mod shelf;
 mod side;
 mod sides;
+mod touched;
 mod weaving;
 
+pub use base::Base;
 pub use fault::ShelfFault;
 pub use issue::Issue;
 pub use shelf::Shelf;

@@ -1,13 +1,18 @@
 // The lines of a sheet: keys beside the texts of their rows, so that the texts are one slice.
-ghost use Rattle.std.specs.Prelude.{◌≡◌, ◌<◌, ◌≤◌, ◌++◌, ◌∷◌, [], MatchOption, length, map, option_map, ◌-◌, ℕ, OnOk};
+ghost use Rattle.std.specs.Prelude.{◌≡◌, ◌<◌, ◌≤◌, ◌++◌, ◌∷◌, [], MatchOption, length, map, option_map, ◌-◌, ℕ, OnOk, Some};
 ghost use Rattle.std.specs.List.{slice_get};
 ghost use Rattle.golden_shelf.specs.Keys.{key_texts};
+ghost use Rattle.golden_shelf.specs.Lines.{AreSorted};
+ghost use Rattle.golden_shelf.specs.Places.{IsPlaceOf, texts_of, with_texts};
 
+use crate::keys::compare;
 use copy_csv::RowTexts;
 use lei_outside::NoMemory;
 use lei_records::RowKey;
 use std::alloc::Global;
+use std::cmp::Ordering;
 use std::marker::Model;
+use std::mem;
 
 /// A key with the texts of its row, or with none.
 #[derive(Drop)]
@@ -67,6 +72,35 @@ impl Lines {
         ensures { option_map (λ key. key_texts key.now) result ≡ slice_get (map (λ line. line.0) self.now.lines) (length self.now.lines - 1) }
     {
         self.keys.as_slice().last()
+    }
+
+    /// Where the line of a key stands, if there is one. The condition is that the keys rise.
+    pub fn place(&self, key: &RowKey) -> Option<usize>
+        requires { AreSorted self.now.lines }
+        ensures { IsPlaceOf (key_texts key.now) self.now.lines result }
+    {
+        let keys = self.keys.as_slice();
+        let mut low = 0;
+        let mut high = keys.len();
+        while low < high {
+            let middle = low + (high - low) / 2;
+            match compare(key, &keys[middle]) {
+                Ordering::Less => high = middle,
+                Ordering::Equal => return Some(middle),
+                Ordering::Greater => low = middle + 1,
+            }
+        }
+        None
+    }
+
+    /// Exchanges the texts of a line for others.
+    pub fn exchange(&mut self, index: usize, texts: &mut RowTexts)
+        requires { index < length self.old.lines }
+        ensures lines { self.new.lines ≡ with_texts self.old.lines index texts.old }
+        ensures texts { Some texts.new ≡ texts_of self.old.lines index }
+        ensures room { self.new.room ≡ self.old.room }
+    {
+        mem::swap(&mut self.texts[index], texts);
     }
 
     /// Makes room for so many lines in all.

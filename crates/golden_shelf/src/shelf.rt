@@ -1,17 +1,27 @@
 //! The shelf.
-ghost use Rattle.std.specs.Prelude.{◌≡◌, ◌+◌, ◌<◌, ◌≤◌, ◌++◌, ◌∷◌, ◌↔◌, ◌⊎◌, [], None, Some, List as Items, IfErr, IfOk, IsErrOf, IsSome, OnErr, OnOk, length, option_map};
+ghost use Rattle.std.specs.Prelude.{◌≡◌, ◌+◌, ◌<◌, ◌≤◌, ◌++◌, ◌∷◌, ◌↔◌, ◌⊎◌, [], ℕ, None, Some, Ok, Err, List as Items, MatchResult, drop, map, IfErr, IfOk, IsErrOf, IsSome, OnErr, OnOk, length, option_map};
+ghost use Rattle.std.specs.List.{All};
 ghost use Rattle.copy_csv.specs.declared.sheets.Sheet.{Sheet as DeclaredSheet};
-ghost use Rattle.copy_forms.specs.Trails.{Publication, Trail, copy_of};
+ghost use Rattle.copy_csv.specs.declared.rows.Change.{Change};
+ghost use Rattle.copy_csv.specs.Rows.{IsChangeOf};
+ghost use Rattle.copy_forms.specs.Files.{delta, rendered_change};
+ghost use Rattle.copy_forms.specs.Trails.{Publication, Trail, copy_of, delta_between, in_order};
 ghost use Rattle.golden_shelf.specs.declared.fault.ShelfFault.{ShelfFault as DeclaredFault};
+ghost use Rattle.golden_shelf.specs.Bases.{base_in, moments_in, moments_of};
 ghost use Rattle.golden_shelf.specs.Changes.{AreOwnChanges, IsIssued};
-ghost use Rattle.golden_shelf.specs.Shelves.{Keeps, latest, latest_rows, nothing_kept};
+ghost use Rattle.golden_shelf.specs.Deltas.{changed_in, shown_in};
+ghost use Rattle.golden_shelf.specs.Shelves.{Keeps, latest, latest_rows, lines_of, nothing_kept};
 
+use crate::base::Base;
+use crate::bases::base_number;
+use crate::deltas::changes_of;
 use crate::fault::ShelfFault;
 use crate::issue::Issue;
 use crate::notes::{keys_of, parted, render_all};
 use crate::sides::Sides;
+use crate::touched::touched;
 use copy_csv::{Form, Head, Row, Sheet};
-use copy_forms::copy_text;
+use copy_forms::{copy_text, delta_text};
 use lei_outside::{Bytes, List, NoMemory};
 use lei_records::RowKey;
 use lei_shapes::Moment;
@@ -127,6 +137,60 @@ impl Shelf {
             Ok(text) => Ok(text),
             Err(NoMemory) => Err(ShelfFault::NoMemory),
         }
+    }
+
+    /// The delta of a sheet to the latest publication from the one that a base names, joined of texts that are kept. It costs
+    /// the keys that changed since then, their order, and what it gives. A refusal takes no memory.
+    pub fn delta(&self, base: Base, sheet: Sheet, form: Form) -> Result<Bytes, ShelfFault>
+        ensures refused { (trail : Trail) (fault : DeclaredFault) → Keeps trail self.now.now
+            → base_in (moments_of trail) base ≡ Err fault → result ≡ Err fault }
+        ensures given { (trail : Trail) (from : ℕ) (last : Publication) → Keeps trail self.now.now → latest trail ≡ Some last
+            → base_in (moments_of trail) base ≡ Ok from
+            → MatchResult result (λ bytes. bytes ≡ delta_between trail from (length trail) last sheet form)
+            (λ fault. fault ≡ DeclaredFault.NoMemory) }
+        ensures faults { IfErr result (λ fault. (fault ≡ DeclaredFault.NoMemory)
+            ⊎ (base_in (moments_in self.now.now.issues) base ≡ Err fault)) }
+    {
+        match base_number(self.issues.as_slice(), base) {
+            Ok(from) => self.delta_from(from, sheet, form),
+            Err(fault) => Err(fault),
+        }
+    }
+
+    // The delta from the publication with this number.
+    fn delta_from(&self, from: u32, sheet: Sheet, form: Form) -> Result<Bytes, ShelfFault>
+        requires some { self.now.now.issues ≡ [] → ⊥ }
+        requires from { from ≤ length self.now.now.issues }
+        ensures given { IfOk result (λ bytes. (trail : Trail) (last : Publication) → Keeps trail self.now.now
+            → latest trail ≡ Some last → bytes ≡ delta_between trail from (length trail) last sheet form) }
+        ensures faults { IfErr result (λ fault. fault ≡ DeclaredFault.NoMemory) }
+    {
+        let Some(newest) = self.latest() else {
+            unreachable!();
+        };
+        let head = Head {
+            moment: newest.1,
+            publication: newest.0,
+            from,
+        };
+        match self.delta_behind(sheet, form, &head) {
+            Ok(text) => Ok(text),
+            Err(NoMemory) => Err(ShelfFault::NoMemory),
+        }
+    }
+
+    // What is joined of the keys that changed behind the publication that a head has the delta go from.
+    fn delta_behind(&self, sheet: Sheet, form: Form, head: &Head) -> Result<Bytes, NoMemory>
+        requires { head.now.from ≤ length self.now.now.issues }
+        ensures { IfOk result (λ bytes. (changes : Items Change) → All (IsChangeOf sheet) changes
+            → map (shown_in sheet (lines_of self.now.now sheet)) (in_order (changed_in sheet (drop head.now.from self.now.now.issues)))
+            ≡ map rendered_change changes → bytes ≡ delta sheet form head.now changes) }
+    {
+        let behind = &self.issues.as_slice()[head.from as usize..];
+        let keys = touched(self.alloc, behind, sheet)?;
+        let side = self.sides.of(sheet);
+        let changes = changes_of(self.alloc, sheet, side, keys.as_slice())?;
+        delta_text(self.alloc, sheet, form, head, changes.as_slice())
     }
 
     /// How many rows the latest publication has: records, relationships and exceptions.

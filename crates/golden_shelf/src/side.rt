@@ -1,5 +1,8 @@
 // The lines of one sheet, with what the last publication replaced among them.
-ghost use Rattle.std.specs.Prelude.{◌≡◌, ◌+◌, ◌≤◌, [], length, map, IfSome, OnOk};
+ghost use Rattle.std.specs.Prelude.{◌≡◌, ◌+◌, ◌≤◌, [], length, map, IfSome, OnOk, option_map};
+ghost use Rattle.std.specs.FinMap.Entries.{find};
+ghost use Rattle.lei_records.specs.Tables.{key_cmp};
+ghost use Rattle.golden_shelf.specs.Keys.{key_texts};
 ghost use Rattle.golden_shelf.specs.Lines.{with_lines};
 ghost use Rattle.golden_shelf.specs.Sides.{AreRisingChanges, HasRoom, IsChanged, IsSame, notes_of};
 
@@ -8,6 +11,7 @@ use crate::rest::Rest;
 use crate::weaving::weave;
 use copy_csv::RowTexts;
 use lei_outside::NoMemory;
+use lei_records::RowKey;
 use std::alloc::Global;
 use std::marker::Model;
 
@@ -55,6 +59,14 @@ impl Side {
         ensures { result.now ≡ map (λ line. line.1) self.now.lines }
     {
         self.rows.texts()
+    }
+
+    /// The texts of the line of a key, if there is one.
+    pub fn texts_under(&self, key: &RowKey) -> Option<&RowTexts>
+        ensures { option_map (λ texts. texts.now) result ≡ find key_cmp (key_texts key.now) self.now.lines }
+    {
+        let index = self.rows.place(key)?;
+        self.rows.texts().get(index)
     }
 
     /// Makes room to put so many changes and to take them back.

@@ -32,6 +32,17 @@ impl Sides {
         }
     }
 
+    /// The lines of a sheet.
+    pub fn of(&self, sheet: Sheet) -> &Side
+        ensures { result.now ≡ side_of self.now sheet }
+    {
+        match sheet {
+            Sheet::Lei => &self.lei,
+            Sheet::Rr => &self.rr,
+            Sheet::Repex => &self.repex,
+        }
+    }
+
     /// The texts of the lines of a sheet, in order.
     pub fn texts(&self, sheet: Sheet) -> &[RowTexts]
         ensures { result.now ≡ map (λ line. line.1) (side_of self.now sheet).lines }

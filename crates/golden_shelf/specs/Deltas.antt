@@ -1,0 +1,30 @@
+-- Deltas: what is joined of texts that are kept.
+use Rattle.std.specs.Prelude.{List, map, flat_map, Option, Some, None}
+use Rattle.std.specs.FinMap.Entries.{find}
+use Rattle.std.specs.List.{filter}
+use Rattle.lei_records.specs.Tables.{KeyTexts, key_cmp}
+use Rattle.copy_csv.specs.Csv.{Rendered}
+use Rattle.copy_csv.specs.declared.rows.RowTexts.{RowTexts}
+use Rattle.copy_csv.specs.declared.sheets.Sheet.{Sheet}
+use Rattle.copy_forms.specs.Trails.{dropped_row}
+use Rattle.golden_shelf.specs.declared.issue.Issue.{Issue}
+use Rattle.golden_shelf.specs.declared.order.TextKey.{TextKey}
+use Rattle.golden_shelf.specs.Keys.{is_of, key_texts}
+use Rattle.golden_shelf.specs.Lines.{Line}
+
+-- The keys of a sheet that publications changed.
+abbrev pub changed_in : Sheet → List Issue → List KeyTexts
+changed_in sheet issues = flat_map (λ issue. map key_texts (filter (is_of sheet) issue.keys)) issues
+
+-- The texts of a key.
+abbrev pub texts_in : TextKey → KeyTexts
+texts_in key = key_texts key.key
+
+-- What a delta has of a key whose row has these texts, or that has no row.
+abbrev pub shown : Sheet → KeyTexts → Option RowTexts → Rendered
+shown sheet k (Some texts) = Rendered.put texts
+shown sheet k None = Rendered.drop (dropped_row sheet k)
+
+-- What a delta has of a key, by the lines of its sheet.
+abbrev pub shown_in : Sheet → List Line → KeyTexts → Rendered
+shown_in sheet lines k = shown sheet k (find key_cmp k lines)

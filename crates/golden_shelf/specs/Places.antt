@@ -1,0 +1,33 @@
+-- Places of lines, and lines of which the texts are exchanged where they stand.
+use Rattle.std.specs.Prelude.{◌≡◌, ℕ, zero, suc, ◌&&◌, ◌<◌, List, [], ◌∷◌, length, Bool, is_some, Option, Some, None}
+use Rattle.std.specs.FinMap.Entries.{find}
+use Rattle.copy_csv.specs.declared.rows.RowTexts.{RowTexts}
+use Rattle.lei_records.specs.Tables.{KeyTexts, key_cmp}
+use Rattle.golden_shelf.specs.Lines.{Line, LineChange}
+
+-- The key of the line at a place.
+abbrev pub key_of : List Line → ℕ → Option KeyTexts
+key_of [] n = None
+key_of (line ∷ lines) zero = Some line.0
+key_of (line ∷ lines) (suc n) = key_of lines n
+
+-- The texts of the line at a place.
+abbrev pub texts_of : List Line → ℕ → Option RowTexts
+texts_of [] n = None
+texts_of (line ∷ lines) zero = Some line.1
+texts_of (line ∷ lines) (suc n) = texts_of lines n
+
+-- Lines with other texts at a place.
+abbrev pub with_texts : List Line → ℕ → RowTexts → List Line
+with_texts [] n texts = []
+with_texts (line ∷ lines) zero texts = (line.0, texts) ∷ lines
+with_texts (line ∷ lines) (suc n) texts = line ∷ with_texts lines n texts
+
+-- The key stands at this place, or nowhere.
+abbrev pub IsPlaceOf : KeyTexts → List Line → Option ℕ → Type 0
+IsPlaceOf k lines (Some n) = (n < length lines) × (key_of lines n ≡ Some k)
+IsPlaceOf k lines None = find key_cmp k lines ≡ None
+
+-- The change gives texts to a key that has a line.
+abbrev pub is_there : List Line → LineChange → Bool
+is_there lines change = is_some change.1 && is_some (find key_cmp change.0 lines)

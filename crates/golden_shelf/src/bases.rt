@@ -1,0 +1,67 @@
+// The publication that a delta goes from, among those that are kept.
+ghost use Rattle.std.specs.Prelude.{◌≡◌, ◌≤◌, ◌-ℤ◌, int_le, length, pos};
+ghost use Rattle.golden_shelf.specs.Bases as spec;
+ghost use Rattle.golden_shelf.specs.Bases.{base_in, moments_in};
+
+use crate::base::Base;
+use crate::fault::ShelfFault;
+use crate::issue::Issue;
+use lei_shapes::Moment;
+
+/// The number of the publication that a base names, or why it names none.
+pub fn base_number(issues: &[Issue], base: Base) -> Result<u32, ShelfFault>
+    requires { length issues.now ≤ 1_000_000 }
+    ensures { result ≡ base_in (moments_in issues.now) base }
+{
+    let Some(latest) = issues.last() else {
+        return Err(ShelfFault::NothingPublished);
+    };
+    match base {
+        Base::Number(number) => numbered(issues.len(), number),
+        Base::LastDay => aged(issues, latest.moment, 86_400),
+        Base::LastWeek => aged(issues, latest.moment, 604_800),
+        Base::LastMonth => aged(issues, latest.moment, 2_678_400),
+    }
+}
+
+// The publication with a number, where there are so many.
+fn numbered(count: usize, number: u32) -> Result<u32, ShelfFault>
+    ensures { result ≡ spec.numbered count number }
+{
+    if 1 <= number && number as usize <= count {
+        Ok(number)
+    } else {
+        Err(ShelfFault::PublicationUnknown)
+    }
+}
+
+// The last publication that is so many seconds older than this moment.
+fn aged(issues: &[Issue], latest: Moment, seconds: u32) -> Result<u32, ShelfFault>
+    requires few { length issues.now ≤ 1_000_000 }
+    ensures { result ≡ spec.aged (spec.last_until (latest -ℤ pos seconds) (moments_in issues.now)) }
+{
+    match last_until(issues, latest, seconds) {
+        Some(number) => Ok(number),
+        None => Err(ShelfFault::NoBase),
+    }
+}
+
+// Whether a publication is so many seconds older than this moment.
+fn is_older(issue: &Issue, latest: Moment, seconds: u32) -> bool
+    ensures { result ≡ int_le issue.now.moment (latest -ℤ pos seconds) }
+{
+    issue.moment.seconds() <= latest.seconds() - i64::from(seconds)
+}
+
+// The number of the last publication that is so much older. It is looked for from the back.
+fn last_until(issues: &[Issue], latest: Moment, seconds: u32) -> Option<u32>
+    requires { length issues.now ≤ 1_000_000 }
+    ensures { result ≡ spec.last_until (latest -ℤ pos seconds) (moments_in issues.now) }
+{
+    for index in (0..issues.len()).rev() {
+        if is_older(&issues[index], latest, seconds) {
+            return Some(index as u32 + 1);
+        }
+    }
+    None
+}
