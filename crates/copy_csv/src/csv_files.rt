@@ -16,8 +16,8 @@ use lei_outside::{Bytes, List, NoMemory};
 use std::alloc::Global;
 use std::str;
 
-// The first line of a copy.
-fn copy_head(alloc: Global, sheet: Sheet) -> Result<Vec<u8>, NoMemory>
+/// The first line of a copy.
+pub fn copy_head(alloc: Global, sheet: Sheet) -> Result<Vec<u8>, NoMemory>
     ensures { IfOk result (λ head. head.items ≡ line (names sheet)) }
 {
     let mut head = Vec::new(alloc);
@@ -104,8 +104,8 @@ fn put_change(out: &mut Vec<u8>, change: &TextChange<'_>) -> Result<(), NoMemory
     Ok(())
 }
 
-// The bytes behind the first line, where they begin with this line and are UTF-8 behind it.
-fn text_behind<'a>(bytes: &'a [u8], head: &[u8]) -> Option<&'a [u8]>
+/// The bytes behind the first line, where they begin with this line and are UTF-8 behind it.
+pub fn text_behind<'a>(bytes: &'a [u8], head: &[u8]) -> Option<&'a [u8]>
     ensures { MatchOption result ((rest : Items ℕ) → IsUtf8 rest → bytes.now ≢ head.now ++ rest)
         (λ rest. (bytes.now ≡ head.now ++ rest.now) × IsUtf8 rest.now) }
 {

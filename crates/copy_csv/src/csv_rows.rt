@@ -16,8 +16,12 @@ use crate::sheets::Sheet;
 use lei_outside::{List, NoMemory};
 use std::alloc::Global;
 
-// The row of the next line.
-fn read_row(alloc: Global, sheet: Sheet, reader: &mut Reader<'_>) -> Result<Option<Row>, NoMemory>
+/// The row of the next line.
+pub fn read_row(
+    alloc: Global,
+    sheet: Sheet,
+    reader: &mut Reader<'_>,
+) -> Result<Option<Row>, NoMemory>
     requires { IsUtf8 reader.old }
     ensures read { IfOk result (λ row. Reads row_line (IsRowOf sheet) reader.old row reader.new) }
     ensures utf8 { IfOk result (λ row. IsSome row → IsUtf8 reader.new) }

@@ -80,22 +80,30 @@ impl Row {
     ghost use Rattle.std.specs.Ordering.{is_lt};
     ghost use Rattle.lei_records.specs.Tables.{key_cmp};
 
-    /// Whether its key stands before that of another row of the sheet.
-    pub fn precedes(&self, other: &Row) -> bool
+    /// How its key compares to that of another row of the sheet, text by text.
+    pub fn order(&self, other: &Row) -> Ordering
         requires { self.now.sheet ≡ other.now.sheet }
-        ensures { result ≡ is_lt (key_cmp (spec.key self.now) (spec.key other.now)) }
+        ensures { result ≡ key_cmp (spec.key self.now) (spec.key other.now) }
     {
         let alike = self.sheet() == other.sheet();
         prove!(alike);
         for index in 0..self.sheet().key_len() {
             let (text, other_text) = (self.text_bytes(index + 1), other.text_bytes(index + 1));
             match text.cmp(&other_text) {
-                Ordering::Less => return true,
-                Ordering::Greater => return false,
+                Ordering::Less => return Ordering::Less,
+                Ordering::Greater => return Ordering::Greater,
                 Ordering::Equal => {}
             }
         }
-        false
+        Ordering::Equal
+    }
+
+    /// Whether its key stands before that of another row of the sheet.
+    pub fn precedes(&self, other: &Row) -> bool
+        requires { self.now.sheet ≡ other.now.sheet }
+        ensures { result ≡ is_lt (key_cmp (spec.key self.now) (spec.key other.now)) }
+    {
+        matches!(self.order(other), Ordering::Less)
     }
 
     /// Whether the texts behind its key are empty.

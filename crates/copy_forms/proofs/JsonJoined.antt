@@ -1,5 +1,6 @@
 -- What is joined of rendered rows and changes is the text of their file.
 use Rattle.std.proofs.Common.{◌≡◌, List, [], ◌∷◌, ◌++◌, false, refl, sym, ap, ◌∙◌, length, map}
+use Rattle.std.specs.Borrow.{Bor}
 use Rattle.std.proofs.lemmas.List.{length-map}
 use Rattle.copy_csv.specs.declared.heads.Head.{Head}
 use Rattle.copy_csv.specs.declared.rows.Change.{Change}
@@ -48,3 +49,16 @@ delta-joined head texts changes is =
     ∙ ap (λ n. before_delta head n (records_text false (map rendered_record (map rendered_change changes)) ++ 125 ∷ [])) (length-map changes rendered_change)
     ∙ ap (λ l. before_delta head (length changes) (records_text false l ++ 125 ∷ [])) (changes-of changes)
     ∙ ap (before_delta head (length changes)) (sym (end-is false (map json_change changes))) ∙ sym (delta-text head changes)
+
+-- records that are printed one by one
+pub rows-joined : (head : Head) (rows : List (Bor SheetRow))
+    → before_copy head (length rows) (records_text false (map (λ row. json_record row.now) rows) ++ 125 ∷ []) ≡ json_copy head (map (λ row. row.now) rows)
+rows-joined head rows =
+    let held : List SheetRow = map (λ row. row.now) rows in
+    ap (λ n. before_copy head n (records_text false (map (λ row. json_record row.now) rows) ++ 125 ∷ [])) (sym (length-map rows (λ row. row.now)))
+    ∙ ap (λ l. before_copy head (length held) (records_text false l ++ 125 ∷ [])) (records rows)
+    ∙ ap (before_copy head (length held)) (sym (end-is false (map json_record held))) ∙ sym (copy-text head held)
+  where
+    records : (rows : List (Bor SheetRow)) → map (λ row. json_record row.now) rows ≡ map json_record (map (λ row. row.now) rows)
+    records [] = refl
+    records (row ∷ rows) = ap (λ l. json_record row.now ∷ l) (records rows)

@@ -16,15 +16,16 @@ use Rattle.std.proofs.lemmas.Str.{IsUtf8-nil, is_utf8-from_IsUtf8}
 use Rattle.lei_shapes.specs.Moment.{IsMoment}
 use Rattle.lei_records.specs.Tables.{KeyTexts, key_cmp}
 use Rattle.copy_csv.specs.declared.rows.Change.{Change}
+use Rattle.copy_csv.specs.declared.sheets.Form.{Form}
 use Rattle.copy_csv.specs.declared.sheets.Sheet.{Sheet}
 use Rattle.copy_forms.specs.Files.{copy}
-use Rattle.copy_forms.specs.Patching.{Keyed, all_changed, changed, keyed, patched}
+use Rattle.copy_forms.specs.Patching.{IsPatched, Keyed, all_changed, changed, keyed, patched}
 use Rattle.copy_csv.specs.Rows.{AreChanges, AreRising, AreRows, IsChangeOf, IsRowOf, changed_key}
 use Rattle.copy_csv.specs.Sheets.{SheetRow, key, key_len, width}
-use Rattle.copy_forms.specs.Trails.{DeltasLeadOn, FollowOn, IsKeyOf, IsSound, Publication, Trail, change_of, change_to, changes_between, copy_head, delta_head, dropped_row, in_order, is_among, no_rows, row_under, touched_in}
+use Rattle.copy_forms.specs.Trails.{DeltasLeadOn, FollowOn, IsKeyOf, IsSound, Publication, Trail, change_of, change_to, changes_between, copy_head, copy_of, delta_between, delta_head, dropped_row, in_order, is_among, no_rows, publication_at, row_under, touched_in}
 use Rattle.copy_csv.proofs.RowLemmas.{key_total}
 
-key_same : IsAntisymmetric key_cmp
+pub key_same : IsAntisymmetric key_cmp
 key_same = slice_cmp-IsAntisymmetric (slice_cmp-IsAntisymmetric nat_cmp-IsAntisymmetric)
 
 equal : (o : Ordering) → is_eq o ≡ true → o ≡ Ordering.Equal
@@ -46,7 +47,7 @@ joined true b p q = q
 joined false b p q = p
 
 -- keys that tie are one
-tied : (j k : KeyTexts) → eq_by_cmp key_cmp j k ≡ true → j ≡ k
+pub tied : (j k : KeyTexts) → eq_by_cmp key_cmp j k ≡ true → j ≡ k
 tied j k e = key_same j k (equal (key_cmp j k) e)
 
 -- ---- rows under their keys
@@ -72,7 +73,7 @@ found_good P (x ∷ rows) k row all e = by (found_good P rows k row (All-tail P 
     by others true e = subst P (ap (λ r. unwrap_or r x) e) (All-head P x rows all)
     by others false e = others e
 
-under : (rows : List SheetRow) (k : KeyTexts) → row_under rows k ≡ find key_cmp k (map (λ row. (key row, row)) rows)
+pub under : (rows : List SheetRow) (k : KeyTexts) → row_under rows k ≡ find key_cmp k (map (λ row. (key row, row)) rows)
 under rows k = get-from_entries key_total (map (λ row. (key row, row)) rows) k
 
 -- ---- a change, and many
@@ -213,7 +214,7 @@ sorted_rows (x ∷ rows) rising =
     (above (key x) rows rising.0) (sorted_rows rows rising.1)
 
 -- so they are the values of these
-values_keyed : (rows : List SheetRow) → AreRising (map key rows) → values (keyed rows) ≡ rows
+pub values_keyed : (rows : List SheetRow) → AreRising (map key rows) → values (keyed rows) ≡ rows
 values_keyed rows rising =
     let sorted : is_sorted key_cmp (map (λ row. (key row, row)) rows) ≡ true = sorted_rows rows rising in
     let t : T (is_sorted key_cmp (map (λ row. (key row, row)) rows)) = subst T (sym sorted) tt in
@@ -372,9 +373,13 @@ within_trail [] n base e = cc
 within_trail (x ∷ trail) zero base e = omega arith
 within_trail (x ∷ trail) (suc n) base e = let h : n < length trail = within_trail trail n base e in omega arith
 
--- the byte law
-pub deltas_lead : (trail : Trail) → IsSound trail → length trail ≤ 1_000_000 → DeltasLeadOn trail
-deltas_lead trail on few p q base latest from_one ordered e_p e_q sheet form =
+-- the byte law, with the heads of the copy and of the delta
+pub leads_with_heads : (trail : Trail) → IsSound trail → length trail ≤ 1_000_000
+    → (p q : ℕ) (base latest : Publication) → 1 ≤ p → p ≤ q → publication_at trail p ≡ Some base → publication_at trail q ≡ Some latest
+    → (sheet : Sheet) (form : Form)
+    → (is : IsPatched (copy_of p base sheet form) (delta_between trail p q latest sheet form) (copy_of q latest sheet form) sheet form)
+    × (is.base_head ≡ copy_head p base) × (is.head ≡ delta_head p q latest)
+leads_with_heads trail on few p q base latest from_one ordered e_p e_q sheet form =
     let next : suc (p - 1) ≡ p = omega arith in
     let place : p - 1 + (q - p) ≡ q - 1 = omega arith in
     let later : List Publication = take (q - p) (drop p trail) in
@@ -391,23 +396,31 @@ deltas_lead trail on few p q base latest from_one ordered e_p e_q sheet form =
     let rising : AreRising (map key (latest.rows sheet)) = let are : AreRows sheet (latest.rows sheet) = latest_is.1 sheet in are.rising in
     let F : (Sheet → List SheetRow) → Type 0 = λ now. AreRising (map key (now sheet))
     → patched (base.rows sheet) (map (change_of sheet (now sheet)) (in_order (touched_in sheet (take (q - p) (drop p trail))))) ≡ now sheet in
-    let led : F latest.rows = subst F last (leads_on base.rows (take (q - p) (drop p trail)) on_later sheet) in
-    record {
-      base_head = copy_head p base;
-      rows = base.rows sheet;
-      base_is = record {
-        text = refl;
-        head_is = record { moment = base_is.0; publication = (from_one, omega arith); from = refl };
-        rows_are = base_is.1 sheet;
-      };
-      head = delta_head p q latest;
-      changes = changes_between trail p q latest sheet;
-      delta_is = record {
-        text = refl;
-        head_is = record { moment = latest_is.0; publication = (omega arith, omega arith); from = (from_one, omega arith) };
-        changes_are = are_changes sheet (latest.rows sheet) (touched_in sheet (take (q - p) (drop p trail)))
-            (let are : AreRows sheet (latest.rows sheet) = latest_is.1 sheet in are.each)
-            (keys_all base.rows (take (q - p) (drop p trail)) on_later sheet);
-      };
-      bytes_are = ap (copy sheet form (copy_head q latest)) (sym (led rising));
-    }
+    let led : F latest.rows = subst F last (leads_on base.rows (take (q - p) (drop p trail)) on_later sheet) in (
+      record {
+        base_head = copy_head p base;
+        rows = base.rows sheet;
+        base_is = record {
+          text = refl;
+          head_is = record { moment = base_is.0; publication = (from_one, omega arith); from = refl };
+          rows_are = base_is.1 sheet;
+        };
+        head = delta_head p q latest;
+        changes = changes_between trail p q latest sheet;
+        delta_is = record {
+          text = refl;
+          head_is = record { moment = latest_is.0; publication = (omega arith, omega arith); from = (from_one, omega arith) };
+          changes_are = are_changes sheet (latest.rows sheet) (touched_in sheet (take (q - p) (drop p trail)))
+              (let are : AreRows sheet (latest.rows sheet) = latest_is.1 sheet in are.each)
+              (keys_all base.rows (take (q - p) (drop p trail)) on_later sheet);
+        };
+        bytes_are = ap (copy sheet form (copy_head q latest)) (sym (led rising));
+      },
+      refl,
+      refl,
+    )
+
+-- the byte law
+pub deltas_lead : (trail : Trail) → IsSound trail → length trail ≤ 1_000_000 → DeltasLeadOn trail
+deltas_lead trail on few p q base latest from_one ordered e_p e_q sheet form =
+    let is = leads_with_heads trail on few p q base latest from_one ordered e_p e_q sheet form in is.0

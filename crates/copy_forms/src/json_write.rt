@@ -3,10 +3,11 @@ ghost use Rattle.std.specs.Prelude.{◌≡◌, ◌∷◌, ◌++◌, List, ℕ, [
 ghost use Rattle.json.specs.Token.{begin_array, begin_object, key, number, string};
 ghost use Rattle.lei_shapes.specs.Clock.{moment_text};
 ghost use Rattle.serde_json.specs.Written.{comma_if};
+ghost use Rattle.copy_forms.specs.Json.{json_copy};
 ghost use Rattle.copy_forms.specs.JsonTexts.{before_copy, before_delta, records_text, text_change_record};
 
 use crate::json_text::record_text;
-use copy_csv::{Head, RowTexts, TextChange};
+use copy_csv::{Head, Row, RowTexts, TextChange};
 use json::Writer;
 use lei_outside::{Bytes, NoMemory};
 use lei_shapes::Moment;
@@ -21,6 +22,25 @@ pub fn json_copy_text(alloc: Global, head: &Head, rows: &[RowTexts]) -> Result<B
     let mut out = copy_begin(alloc, head, rows.len())?;
     for (index, texts) in rows.iter().enumerate() {
         put_item(&mut out, 0 < index, texts.json.as_slice())?;
+    }
+    out.extend_from_slice(b"]}")?;
+    Ok(Bytes::from(out))
+}
+
+/// The text of a copy with these rows, each printed as its record, with room for so many bytes.
+pub fn json_rows_text(
+    alloc: Global,
+    head: &Head,
+    rows: &[&Row],
+    room: usize,
+) -> Result<Bytes, NoMemory>
+    ensures { IfOk result (λ bytes. bytes ≡ json_copy head.now (map (λ row. row.now) rows.now)) }
+{
+    let mut out = copy_begin(alloc, head, rows.len())?;
+    out.reserve(room)?;
+    for (index, row) in rows.iter().enumerate() {
+        let record = record_text(alloc, row)?;
+        put_item(&mut out, 0 < index, record.as_slice())?;
     }
     out.extend_from_slice(b"]}")?;
     Ok(Bytes::from(out))

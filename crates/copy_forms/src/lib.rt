@@ -17,6 +17,7 @@ pub use copy_csv::{
     Change, CopyRead, DeltaRead, Form, FormFault, Head, Row, RowTexts, Sheet, TextChange, Texts,
 };
 pub use items::item_text;
+pub use json_write::json_rows_text;
 pub use laws::{
     csv_tells_its_rows, deltas_lead_from_copy_to_copy, json_names_rise,
     json_tells_its_heads_and_rows,

@@ -1,7 +1,7 @@
 use Rattle.std.proofs.Common.{◌≡◌, drop}
 use Rattle.lei_records.specs.Tables.{key_cmp}
 use Rattle.copy_csv.specs.Sheets.{key}
-use Rattle.copy_csv.proofs.rows.Row.precedes.Given as goal
+use Rattle.copy_csv.proofs.rows.Row.order.Given as goal
 
 -- the rests of the keys compare as the keys do
 abbrev pub invariant-loop-index : goal.invariant-loop-index

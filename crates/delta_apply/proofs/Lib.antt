@@ -1,0 +1,4 @@
+pub mod Merged
+pub mod Passing
+pub mod Putting
+pub mod Answering

@@ -1,0 +1,10 @@
+use Rattle.std.proofs.Common.{length}
+use Rattle.delta_apply.proofs.Putting.{Walked}
+use Rattle.delta_apply.proofs.csv.put_patched.Given as goal
+
+-- so far the lines of the rows before what is left were put, and what the changes before the next one put among them
+abbrev pub invariant-loop-reader : goal.invariant-loop-reader
+invariant-loop-reader l = Walked l.sheet l.bytes l.changes l.fn.out.items l.reader l.last l.next l.out.items
+
+abbrev pub decreases-loop-reader : goal.decreases-loop-reader
+decreases-loop-reader l = length l.reader

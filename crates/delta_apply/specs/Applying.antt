@@ -1,0 +1,76 @@
+-- What comes of a copy and a delta: the copy after the delta, or why there is none.
+use Rattle.std.specs.Prelude.{◌≡◌, ◌≢◌, ◌≤◌, ℕ, List, length, Result, Ok, Err, Some, ⊤}
+use Rattle.lei_code.specs.Texts.{Text}
+use Rattle.copy_csv.specs.declared.heads.Head.{Head}
+use Rattle.copy_csv.specs.declared.rows.Change.{Change}
+use Rattle.copy_csv.specs.declared.sheets.Form.{Form}
+use Rattle.copy_csv.specs.declared.sheets.Sheet.{Sheet}
+use Rattle.copy_csv.specs.Sheets.{SheetRow}
+use Rattle.copy_forms.specs.Files.{IsCopy, IsDelta}
+use Rattle.copy_forms.specs.Patching.{IsPatched}
+use Rattle.copy_forms.specs.Trails.{IsSound, Publication, Trail, copy_of, delta_between, publication_at}
+use Rattle.delta_apply.specs.declared.fault.ApplyFault.{ApplyFault}
+use Rattle.delta_apply.specs.declared.fault.ApplyFault.TheVariants as faults
+
+-- The bytes are the copy of a sheet with some head and some rows.
+pub record IsSomeCopy (bytes : Text) (sheet : Sheet) (form : Form) : Type 0 where
+  pub head : Head
+  pub rows : List SheetRow
+  pub is : IsCopy bytes sheet form head rows
+
+-- The bytes are no copy of a sheet, whatever head and rows.
+abbrev pub IsNoCopy : Text → Sheet → Form → Type 0
+IsNoCopy bytes sheet form = (head : Head) (rows : List SheetRow) → IsCopy bytes sheet form head rows → ⊥
+
+-- The bytes are no delta of a sheet, whatever head and changes.
+abbrev pub IsNoDelta : Text → Sheet → Form → Type 0
+IsNoDelta bytes sheet form = (head : Head) (changes : List Change) → IsDelta bytes sheet form head changes → ⊥
+
+-- In JSON a delta goes from the publication of the copy. In CSV no head is printed, so nothing is asked.
+abbrev pub GoesFrom : Form → Head → Head → Type 0
+GoesFrom Form.Csv base head = ⊤
+GoesFrom Form.Json base head = base.publication ≡ head.from
+
+-- The bytes are the copy after the delta, and in JSON the delta goes from the copy's publication.
+pub record IsApplied (copy delta bytes : Text) (sheet : Sheet) (form : Form) : Type 0 where
+  pub patched : IsPatched copy delta bytes sheet form
+  pub goes_from : GoesFrom form patched.base_head patched.head
+
+-- The two are a copy and a delta in JSON, and the delta goes from another publication than that of the copy.
+pub record IsOfOtherBase (copy delta : Text) (sheet : Sheet) (form : Form) (publication from : ℕ) : Type 0 where
+  pub in_json : form ≡ Form.Json
+  pub base_head : Head
+  pub rows : List SheetRow
+  pub base_is : IsCopy copy sheet form base_head rows
+  pub head : Head
+  pub changes : List Change
+  pub delta_is : IsDelta delta sheet form head changes
+  pub publication_is : publication ≡ base_head.publication
+  pub from_is : from ≡ head.from
+  pub differ : publication ≢ from
+
+-- What is to be answered of a copy and a delta, in this order: that the one is no copy, that the other is no delta, that
+-- they don't go together, or the copy after the delta. Want of memory is never to be answered.
+abbrev pub IsAnswer : Text → Text → Sheet → Form → Result Text ApplyFault → Type 0
+IsAnswer copy delta sheet form (Ok bytes) = IsApplied copy delta bytes sheet form
+IsAnswer copy delta sheet form (Err faults.CopyNotRead) = IsNoCopy copy sheet form
+IsAnswer copy delta sheet form (Err faults.DeltaNotRead) = IsSomeCopy copy sheet form × IsNoDelta delta sheet form
+IsAnswer copy delta sheet form (Err (faults.WrongBase publication from)) = IsOfOtherBase copy delta sheet form publication from
+IsAnswer copy delta sheet form (Err faults.NoMemory) = ⊥
+
+-- This holds, unless memory was wanting.
+abbrev pub UnlessNoMemory : Result Text ApplyFault → Type 0 → Type 0
+UnlessNoMemory (Ok bytes) P = P
+UnlessNoMemory (Err faults.CopyNotRead) P = P
+UnlessNoMemory (Err faults.DeltaNotRead) P = P
+UnlessNoMemory (Err (faults.WrongBase publication from)) P = P
+UnlessNoMemory (Err faults.NoMemory) P = ⊤
+
+-- Of the copy of a publication of a sound trail and the delta from there to a later one, or to itself, the copy of that one
+-- is answered, byte for byte, unless memory was wanting.
+abbrev pub LeadsOn : Text → Text → Sheet → Form → Result Text ApplyFault → Type 0
+LeadsOn copy delta sheet form result =
+    (trail : Trail) → IsSound trail → length trail ≤ 1_000_000
+    → (p q : ℕ) (base latest : Publication) → 1 ≤ p → p ≤ q → publication_at trail p ≡ Some base → publication_at trail q ≡ Some latest
+    → copy ≡ copy_of p base sheet form → delta ≡ delta_between trail p q latest sheet form
+    → UnlessNoMemory result (result ≡ Ok (copy_of q latest sheet form))

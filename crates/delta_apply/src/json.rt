@@ -1,0 +1,104 @@
+//! A copy in JSON, patched by its rows.
+ghost use Rattle.std.specs.Prelude.{◌≡◌, ◌≤◌, ◌++◌, ◌∷◌, [], length, map, flat_map, IfOk, OnOk};
+ghost use Rattle.std.specs.List.{All};
+ghost use Rattle.copy_csv.specs.Rows.{AreChanges, AreRows, changed_row};
+ghost use Rattle.copy_forms.specs.Json.{json_copy};
+ghost use Rattle.copy_forms.specs.Patching.{patched};
+ghost use Rattle.delta_apply.specs.Merging.{put_by};
+ghost use Rattle.delta_apply.specs.Walks.{PassesRow};
+
+use copy_forms::{Change, Head, Row, Sheet, json_rows_text};
+use lei_outside::{Bytes, NoMemory};
+use std::alloc::Global;
+use std::cmp::Ordering;
+
+/// The copy of these rows after the changes, with this head, and with room for so many bytes.
+pub fn patch_json(
+    alloc: Global,
+    sheet: Sheet,
+    head: &Head,
+    rows: &[Row],
+    changes: &[Change],
+    room: usize,
+) -> Result<Bytes, NoMemory>
+    requires rows { AreRows sheet rows.now }
+    requires changes { AreChanges sheet changes.now }
+    ensures { IfOk result (λ bytes. bytes ≡ json_copy head.now (patched rows.now changes.now)) }
+{
+    let held = merge(alloc, sheet, rows, changes)?;
+    json_rows_text(alloc, head, &held, room)
+}
+
+// The rows after the changes, lent.
+fn merge<'a>(
+    alloc: Global,
+    sheet: Sheet,
+    rows: &'a [Row],
+    changes: &'a [Change],
+) -> Result<Vec<&'a Row>, NoMemory>
+    requires rows { AreRows sheet rows.now }
+    requires changes { AreChanges sheet changes.now }
+    ensures { IfOk result (λ held. map (λ row. row.now) held.items ≡ patched rows.now changes.now) }
+{
+    let mut held = Vec::with_capacity(alloc, rows.len().saturating_add(changes.len()))?;
+    let mut next = 0;
+    for index in 0..rows.len() {
+        next = push_next(&mut held, changes, next, &rows[index])?;
+    }
+    push_all(&mut held, &changes[next..])?;
+    Ok(held)
+}
+
+// Puts behind the others what the changes from a place on put before a row, and what stands in its place: itself where no
+// change has its key. Gives the place of the first change that is left.
+fn push_next<'a>(
+    held: &mut Vec<&'a Row>,
+    changes: &'a [Change],
+    at: usize,
+    row: &'a Row,
+) -> Result<usize, NoMemory>
+    requires place { at ≤ length changes.now }
+    requires sheets { All (λ change. (changed_row change).sheet ≡ row.now.sheet) changes.now }
+    ensures put { IfOk result (λ next. PassesRow (λ row. row ∷ []) changes.now row.now at
+        (map (λ row. row.now) held.old.items) next (map (λ row. row.now) held.new.items)) }
+    ensures place { IfOk result (λ next. next ≤ length changes.now) }
+{
+    for index in at..changes.len() {
+        let change = &changes[index];
+        match change.row().order(row) {
+            Ordering::Less => push_change(held, change)?,
+            Ordering::Equal => {
+                push_change(held, change)?;
+                return Ok(index + 1);
+            }
+            Ordering::Greater => {
+                held.push(row)?;
+                return Ok(index);
+            }
+        }
+    }
+    held.push(row)?;
+    Ok(changes.len())
+}
+
+// Puts what all of these changes put behind the others.
+fn push_all<'a>(held: &mut Vec<&'a Row>, changes: &'a [Change]) -> Result<(), NoMemory>
+    ensures { OnOk result (map (λ row. row.now) held.new.items
+        ≡ map (λ row. row.now) held.old.items ++ flat_map put_by changes.now) }
+{
+    for change in changes {
+        push_change(held, change)?;
+    }
+    Ok(())
+}
+
+// Puts what a change puts behind the others.
+fn push_change<'a>(held: &mut Vec<&'a Row>, change: &'a Change) -> Result<(), NoMemory>
+    ensures { OnOk result (map (λ row. row.now) held.new.items
+        ≡ map (λ row. row.now) held.old.items ++ put_by change.now) }
+{
+    if let Change::Put(row) = change {
+        held.push(row)?;
+    }
+    Ok(())
+}
