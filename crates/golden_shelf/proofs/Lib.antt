@@ -7,3 +7,4 @@ pub mod Publishing
 pub mod BaseLemmas
 pub mod DeltaLemmas
 pub mod PlaceLemmas
+pub mod ExchangeSteps

@@ -43,7 +43,7 @@ turned_cond false x y = refl
 swapped : (j k : KeyTexts) → eq_by_cmp key_cmp j k ≡ eq_by_cmp key_cmp k j
 swapped j k = (eq_by_cmp_equiv key_total).symm j k
 
-find_with_line : (lines : List Line) (c : LineChange) (k : KeyTexts)
+pub find_with_line : (lines : List Line) (c : LineChange) (k : KeyTexts)
     → find key_cmp k (with_line lines c) ≡ cond (eq_by_cmp key_cmp k c.0) c.1 (find key_cmp k lines)
 find_with_line lines (j, Some texts) k = find-put key_cmp key_total k j texts lines
 find_with_line lines (j, None) k =

@@ -10,6 +10,7 @@ mod keys;
 mod lines;
 mod notes;
 mod order;
+mod replacing;
 mod rest;
 mod shelf;
 mod side;

@@ -6,12 +6,36 @@ ghost use Rattle.golden_shelf.specs.Sides.{AreRisingChanges, note_of, notes_of};
 ghost use Rattle.golden_shelf.specs.Walks.{below, line_for, onward, past, texts_at};
 
 use crate::lines::{Lines, Note};
+use crate::replacing::{are_there, replace_all};
 use crate::rest::Rest;
 use lei_records::RowKey;
 use std::mem;
 
-/// Puts each change of a note among the lines, and notes what it replaced. No line waits before and none after.
+/// Puts each change of a note among the lines, and notes what it replaced. No line waits before and none after. Where few
+/// lines get other texts, and no line comes or goes, none is moved.
 pub fn weave(rows: &mut Lines, rest: &mut Rest, notes: &mut [Note])
+    requires sorted { AreSorted rows.old.lines }
+    requires rising { AreRisingChanges (notes_of notes.old) }
+    requires none_waits { rest.old.lines ≡ [] }
+    requires room { length rows.old.lines + length notes.old ≤ rest.old.room }
+    requires rooms { rest.old.room ≤ rows.old.room }
+    ensures rows { rows.new.lines ≡ with_lines rows.old.lines (notes_of notes.old) }
+    ensures rest { rest.new.lines ≡ [] }
+    ensures notes { notes_of notes.new ≡ replaced rows.old.lines (notes_of notes.old) }
+    ensures len { length notes.new ≡ length notes.old }
+    ensures few { length rows.new.lines ≤ length rows.old.lines + length notes.old }
+    ensures rows_room { rows.new.room ≡ rows.old.room }
+    ensures rest_room { rest.new.room ≡ rest.old.room }
+{
+    if notes.len() <= rows.len() / 16 && are_there(rows, notes) {
+        replace_all(rows, notes);
+    } else {
+        weave_all(rows, rest, notes);
+    }
+}
+
+// The same by a walk over all lines.
+fn weave_all(rows: &mut Lines, rest: &mut Rest, notes: &mut [Note])
     requires sorted { AreSorted rows.old.lines }
     requires rising { AreRisingChanges (notes_of notes.old) }
     requires none_waits { rest.old.lines ≡ [] }

@@ -1,7 +1,7 @@
 use Rattle.std.proofs.Common.{◌≡◌, ◌+◌, ◌≤◌, ◌++◌, drop, length, take}
 use Rattle.golden_shelf.specs.Sides.{notes_of}
 use Rattle.golden_shelf.specs.Walks.{taken, woven}
-use Rattle.golden_shelf.proofs.weaving.weave.Given as goal
+use Rattle.golden_shelf.proofs.weaving.weave_all.Given as goal
 
 -- the walk over those that wait and the notes that are left comes to the walk over all, and so does what it takes
 abbrev pub invariant-loop-index : goal.invariant-loop-index

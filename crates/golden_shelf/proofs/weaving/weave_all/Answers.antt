@@ -3,7 +3,7 @@ use Rattle.std.specs.List.{slice_index_or}
 use Rattle.std.proofs.lemmas.List.{length-set}
 use Rattle.golden_shelf.specs.Sides.{note_of, notes_of}
 use Rattle.golden_shelf.proofs.WeaveSteps.{length_notes, left_step, next_left, take_step, took, walk_step, walked}
-use Rattle.golden_shelf.proofs.weaving.weave.Goals as goal
+use Rattle.golden_shelf.proofs.weaving.weave_all.Goals as goal
 
 pub loop-index-preserved : goal.loop-index-preserved
 loop-index-preserved c =
