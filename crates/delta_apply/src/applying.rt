@@ -50,7 +50,7 @@ fn apply_in_csv(alloc: Global, copy: &[u8], delta: &[u8], sheet: Sheet) -> Resul
     }
 }
 
-// What is to be answered where the delta is none.
+// In CSV: what is to be answered where the delta is none.
 fn answer_unread(alloc: Global, copy: &[u8], sheet: Sheet) -> Result<Bytes, ApplyFault>
     ensures { (delta : Text) → IsNoDelta delta sheet Form.Csv
         → UnlessNoMemory result (IsAnswer copy.now delta sheet Form.Csv result) }
