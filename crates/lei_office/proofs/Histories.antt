@@ -13,20 +13,22 @@ use Rattle.lei_records.specs.declared.item.RawItem.{RawItem}
 use Rattle.lei_shapes.specs.Moment.{IsMoment}
 use Rattle.copy_csv.specs.declared.sheets.Form.{Form}
 use Rattle.copy_csv.specs.declared.sheets.Sheet.{Sheet}
-use Rattle.copy_forms.specs.Trails.{Publication}
+use Rattle.copy_forms.specs.Trails.{Publication, Trail}
+use Rattle.golden_shelf.specs.declared.fault.ShelfFault.{ShelfFault}
+use Rattle.golden_shelf.specs.Bases.{base_in, moments_of}
 use Rattle.golden_shelf.specs.Shelves.{latest}
 use Rattle.register_table.specs.Held.{no_rows}
 use Rattle.lei_office.specs.declared.limits.Limits.{Limits}
 use Rattle.lei_office.specs.declared.request.Call.{Call}
 use Rattle.lei_office.specs.declared.request.Request.{Request}
-use Rattle.lei_office.specs.declared.request.Request.TheVariants.{Accredit, Copy, Kept, Publish, Show, Status, Upload}
+use Rattle.lei_office.specs.declared.request.Request.TheVariants.{Accredit, Copy, Delta, Kept, Publish, Show, Status, Upload}
 use Rattle.lei_office.specs.declared.reply.Refusal.TheVariants.{IssuerUnknown, LedgerFull, NumberAhead, TooLong}
 use Rattle.lei_office.specs.declared.reply.Reply.{Reply}
 use Rattle.lei_office.specs.declared.reply.Reply.TheVariants.{Words}
 use Rattle.upload_ledger.specs.History.{History, accredited, kept, Place, unknown_issuer, repeat_of, number_taken, ahead, fresh, place, published, last_entry, later, stamp}
 use Rattle.lei_office.specs.Publications.{trail}
 use Rattle.lei_office.specs.Register.{after, after_entry}
-use Rattle.lei_office.specs.Replies.{stays, adds, outcome, outcome_at, copied, show_outcome, accredit_outcome, answer_outcome, is_full, is_too_much, next_publication, publication_entry, publish_outcome, status_outcome, upload_outcome, place_outcome, body_outcome, accreditation, taken_upload, history_after, next, next_of, StepOf}
+use Rattle.lei_office.specs.Replies.{stays, adds, outcome, outcome_at, changed, copied, show_outcome, accredit_outcome, answer_outcome, is_full, is_too_much, next_publication, publication_entry, publish_outcome, status_outcome, upload_outcome, place_outcome, body_outcome, accreditation, taken_upload, history_after, next, next_of, StepOf}
 use Rattle.lei_office.specs.Legal.{IsRequest, request_of, IsNext, LegalAfter, Legal}
 use Rattle.lei_office.specs.State.{OfficeState, office_of, opened}
 
@@ -115,6 +117,11 @@ copy_adds_none : (sheet : Sheet) (form : Form) (number : ℕ) (found : Option Pu
 copy_adds_none sheet form number None e is = cc
 copy_adds_none sheet form number (Some publication) e is = cc
 
+delta_adds_none : (sheet : Sheet) (form : Form) (made : Trail) (found : Result ℕ ShelfFault) (last : Option Publication) (e : KeptEntry) → changed sheet form made found last ≡ adds e → ⊥
+delta_adds_none sheet form made (Err fault) last e is = cc
+delta_adds_none sheet form made (Ok from) None e is = cc
+delta_adds_none sheet form made (Ok from) (Some publication) e is = cc
+
 show_adds_none : (found : Option Row) (e : KeptEntry) → show_outcome found ≡ adds e → ⊥
 show_adds_none None e is = cc
 show_adds_none (Some row) e is = cc
@@ -133,6 +140,7 @@ request_adds office (Upload call) moment e is = (upload_adds office call moment 
 request_adds office (Kept lei number) moment e is = absurd (kept_adds_none (is_some (accredited office.history lei)) (kept office.history lei number) e is)
 request_adds office (Publish number) moment e is = publication-added office number moment (published office.history number) e is
 request_adds office (Copy sheet form) moment e is = absurd (copy_adds_none sheet form (length (trail office)) (latest (trail office)) e is)
+request_adds office (Delta base sheet form) moment e is = absurd (delta_adds_none sheet form (trail office) (base_in (moments_of (trail office)) base) (latest (trail office)) e is)
 request_adds office Status moment e is = absurd (status_adds_none office.history (after office.limits office.history) e is)
 request_adds office (Show lei) moment e is = absurd (show_adds_none (row_at (after office.limits office.history) lei) e is)
 

@@ -12,7 +12,9 @@ use Rattle.lei_office.specs.declared.deciding.Decision.{Decision}
 use Rattle.lei_office.specs.declared.deciding.Decision.TheVariants.{Adds, Stays}
 use Rattle.copy_csv.specs.declared.sheets.Form.{Form}
 use Rattle.copy_csv.specs.declared.sheets.Sheet.{Sheet}
-use Rattle.copy_forms.specs.Trails.{Publication}
+use Rattle.copy_forms.specs.Trails.{Publication, Trail}
+use Rattle.golden_shelf.specs.declared.fault.ShelfFault.{ShelfFault}
+use Rattle.golden_shelf.specs.Bases.{base_in, moments_of}
 use Rattle.golden_shelf.specs.Shelves.{latest}
 use Rattle.register_table.specs.Undos.{WriteList}
 use Rattle.upload_ledger.specs.History.{History, accredited, ahead, fresh, kept, number_taken, Place, place, published, repeat_of, unknown_issuer}
@@ -22,10 +24,10 @@ use Rattle.lei_office.specs.declared.reply.Reply.{Reply}
 use Rattle.lei_office.specs.declared.reply.Reply.TheVariants.{Words}
 use Rattle.lei_office.specs.declared.request.Call.{Call}
 use Rattle.lei_office.specs.declared.request.Request.{Request}
-use Rattle.lei_office.specs.declared.request.Request.TheVariants.{Accredit, Copy, Kept, Publish, Show, Status, Upload}
+use Rattle.lei_office.specs.declared.request.Request.TheVariants.{Accredit, Copy, Delta, Kept, Publish, Show, Status, Upload}
 use Rattle.lei_office.specs.Publications.{trail}
 use Rattle.lei_office.specs.Register.{after}
-use Rattle.lei_office.specs.Replies.{Outcome, accredit_outcome, accreditation, adds, answer_outcome, body_outcome, copied, is_full, is_too_much, next_publication, outcome_at, place_outcome, publication_entry, publish_outcome, show_outcome, stays, taken_upload, upload_outcome}
+use Rattle.lei_office.specs.Replies.{Outcome, accredit_outcome, accreditation, adds, answer_outcome, body_outcome, changed, copied, is_full, is_too_much, next_publication, outcome_at, place_outcome, publication_entry, publish_outcome, show_outcome, stays, taken_upload, upload_outcome}
 use Rattle.lei_office.specs.State.{OfficeState}
 
 -- what was decided, by what it is
@@ -96,6 +98,14 @@ copy-none : (sheet : Sheet) (form : Form) (number : ℕ) (found : Option Publica
 copy-none sheet form number None = λ is. cc
 copy-none sheet form number (Some publication) = λ is. cc
 
+delta-none : (sheet : Sheet) (form : Form) (made : Trail) (found : Result ℕ ShelfFault) (last : Option Publication) → IsNoFault (changed sheet form made found last)
+delta-none sheet form made (Err ShelfFault.NothingPublished) last = λ is. cc
+delta-none sheet form made (Err ShelfFault.PublicationUnknown) last = λ is. cc
+delta-none sheet form made (Err ShelfFault.NoBase) last = λ is. cc
+delta-none sheet form made (Err ShelfFault.NoMemory) last = λ is. cc
+delta-none sheet form made (Ok from) None = λ is. cc
+delta-none sheet form made (Ok from) (Some publication) = λ is. cc
+
 outcome-none : (office : OfficeState) (request : Request) (moment : ℤ) → IsNoFault (outcome_at office request moment)
 outcome-none office (Accredit issuer) moment = accredit-none office issuer moment (accredited office.history issuer)
 outcome-none office (Upload call) moment = upload-none office call moment
@@ -103,6 +113,7 @@ outcome-none office (Kept issuer number) moment = kept-none (is_some (accredited
 outcome-none office (Show lei) moment = show-none (row_at (after office.limits office.history) lei)
 outcome-none office (Publish number) moment = publish-none office number moment (published office.history number)
 outcome-none office (Copy sheet form) moment = copy-none sheet form (length (trail office)) (latest (trail office))
+outcome-none office (Delta base sheet form) moment = delta-none sheet form (trail office) (base_in (moments_of (trail office)) base) (latest (trail office))
 outcome-none office Status moment = λ is. cc
 
 pub never_fault : (office : OfficeState) (request : Request) (moment : ℤ) (reply : Reply) → outcome_at office request moment ≡ stays reply → reply ≡ Words KeeperFault → ⊥

@@ -1,11 +1,16 @@
 -- The shelf of a history that grows by an entry.
 use Rattle.std.proofs.Common.{◌≡◌, ℕ, ℤ, ◌≤◌, ◌<◌, List, [], ◌∷◌, ◌++◌, length, Bool, true, false, cond, ◌==◌, Option, Some, None, Result, Ok, Err, refl, sym, ap, subst, ◌∙◌, arith, suc, get_or, take, drop, filter, drop-cons, take-append-drop}
 use Rattle.std.proofs.lemmas.List.Elements.{filter-append}
-use Rattle.std.specs.Prelude.{IsSome, IsTrue, OnErr, OnOk}
+use Rattle.std.specs.Prelude.{IsSome, IsTrue, MatchResult, OnErr, OnOk}
 use Rattle.std.proofs.lemmas.Bool.{eqb-true}
 use Rattle.copy_csv.specs.declared.sheets.Form.{Form}
 use Rattle.copy_csv.specs.declared.sheets.Sheet.{Sheet}
-use Rattle.copy_forms.specs.Trails.{Publication, Trail, copy_of}
+use Rattle.copy_forms.specs.Trails.{Publication, Trail, copy_of, delta_between}
+use Rattle.golden_shelf.specs.Bases.{base_in, moments_of}
+use Rattle.golden_shelf.specs.declared.base.Base.{Base}
+use Rattle.golden_shelf.specs.declared.fault.ShelfFault.{ShelfFault}
+use Rattle.golden_shelf.specs.declared.fault.ShelfFault.TheVariants as shelf_faults
+use Rattle.lei_code.specs.Texts as texts
 use Rattle.golden_shelf.specs.Changes.{Changes, IsIssued}
 use Rattle.golden_shelf.specs.declared.issue.Issue.{Issue}
 use Rattle.golden_shelf.specs.Shelves.{AreIssuesOf, Kept, Keeps as KeepsTrail, ShelfState, last_behind, latest, latest_rows, rows_in}
@@ -20,19 +25,19 @@ use Rattle.upload_ledger.specs.History.{History, is_publication, last_entry, pub
 use Rattle.lei_office.specs.declared.deciding.Decision.{Decision}
 use Rattle.lei_office.specs.declared.deciding.Decision.TheVariants.{Adds, Stays}
 use Rattle.lei_office.specs.declared.limits.Limits.{Limits}
-use Rattle.lei_office.specs.declared.reply.Refusal.TheVariants.{NothingPublished}
+use Rattle.lei_office.specs.declared.reply.Refusal.TheVariants.{NoBase, NothingPublished, PublicationUnknown}
 use Rattle.lei_office.specs.declared.reply.Reply.{Reply}
 use Rattle.lei_office.specs.declared.reply.Reply.TheVariants.{Text, Words}
 use Rattle.lei_office.specs.declared.request.Request.{Request}
-use Rattle.lei_office.specs.declared.request.Request.TheVariants.{Accredit, Copy, Publish, Upload}
+use Rattle.lei_office.specs.declared.request.Request.TheVariants.{Accredit, Copy, Delta, Publish, Upload}
 use Rattle.lei_office.specs.declared.request.Call.{Call}
 use Rattle.lei_office.specs.Deciding.{Decides}
 use Rattle.lei_office.specs.Legal.{Legal, request_of}
 use Rattle.lei_office.specs.Publications.{last_published, publication_by, trail}
-use Rattle.lei_office.specs.Publishing.{AreNextChanges}
+use Rattle.lei_office.specs.Publishing.{AreChangesSince, AreNextChanges}
 use Rattle.lei_office.specs.Register.{after, held_after}
-use Rattle.lei_office.specs.Replies.{copy_outcome, form_kind, next_publication, outcome_at, publication_entry, published_counts, reply_of, stays, takes_memory}
-use Rattle.lei_office.specs.Shelving.{AreChangesSince, IsShelved, Shelves, back_to}
+use Rattle.lei_office.specs.Replies.{Outcome, changed, copy_outcome, delta_outcome, form_kind, next_publication, outcome_at, publication_entry, published_counts, reply_of, stays, takes_memory}
+use Rattle.lei_office.specs.Shelving.{IsShelved, Shelves, back_to}
 use Rattle.lei_office.specs.State.{office_of}
 use Rattle.lei_office.proofs.Histories.{last_entry-push, request_adds}
 use Rattle.lei_office.proofs.NextIssue.{next_issued}
@@ -206,6 +211,55 @@ copy-memory (first ∷ later) kept sheet form keeps some = refl
 pub copy-none : (made : Trail) (kept : Kept) (sheet : Sheet) (form : Form) → KeepsTrail made kept → kept.issues ≡ [] → copy_outcome sheet form made ≡ stays (Words NothingPublished)
 copy-none [] kept sheet form keeps none = refl
 copy-none (first ∷ later) kept sheet form keeps none = absurd (subst (λ l. AreIssuesOf l (first ∷ later)) none keeps.issues_are)
+
+-- ---- deltas
+
+-- what is to be answered where a shelf gives this
+abbrev pub IsToldOf : Request → Outcome → Form → Result texts.Text ShelfFault → Type 0
+IsToldOf request outcome form (Ok text) = outcome ≡ stays (Text 200 (form_kind form) text)
+IsToldOf request outcome form (Err shelf_faults.NoMemory) = IsTrue (takes_memory request (reply_of outcome))
+IsToldOf request outcome form (Err shelf_faults.NothingPublished) = outcome ≡ stays (Words NothingPublished)
+IsToldOf request outcome form (Err shelf_faults.PublicationUnknown) = outcome ≡ stays (Words PublicationUnknown)
+IsToldOf request outcome form (Err shelf_faults.NoBase) = outcome ≡ stays (Words NoBase)
+
+-- what a shelf gives for a base, and why it gives nothing, by the trail that it keeps
+abbrev pub Refuses : Base → Kept → Result texts.Text ShelfFault → Type 0
+Refuses base kept given = (made : Trail) (fault : ShelfFault) → KeepsTrail made kept → base_in (moments_of made) base ≡ Err fault → given ≡ Err fault
+
+abbrev pub Gives : Base → Sheet → Form → Kept → Result texts.Text ShelfFault → Type 0
+Gives base sheet form kept given = (made : Trail) (from : ℕ) (last : Publication) → KeepsTrail made kept → latest made ≡ Some last → base_in (moments_of made) base ≡ Ok from
+    → MatchResult given (λ bytes. bytes ≡ delta_between made from (length made) last sheet form) (λ fault. fault ≡ shelf_faults.NoMemory)
+
+given-told : (base : Base) (made : Trail) (sheet : Sheet) (form : Form) (from : ℕ) (last : Publication) (given : Result texts.Text ShelfFault)
+    → MatchResult given (λ bytes. bytes ≡ delta_between made from (length made) last sheet form) (λ fault. fault ≡ shelf_faults.NoMemory)
+    → IsToldOf (Delta base sheet form) (changed sheet form made (Ok from) (Some last)) form given
+given-told base made sheet form from last (Ok bytes) is = ap (λ b. stays (Text 200 (form_kind form) b)) (sym is)
+given-told base made sheet form from last (Err shelf_faults.NoMemory) is = refl
+given-told base made sheet form from last (Err shelf_faults.NothingPublished) is = cc
+given-told base made sheet form from last (Err shelf_faults.PublicationUnknown) is = cc
+given-told base made sheet form from last (Err shelf_faults.NoBase) is = cc
+
+refused-told : (base : Base) (made : Trail) (sheet : Sheet) (form : Form) (fault : ShelfFault) → IsToldOf (Delta base sheet form) (changed sheet form made (Err fault) (latest made)) form (Err fault)
+refused-told base made sheet form shelf_faults.NoMemory = refl
+refused-told base made sheet form shelf_faults.NothingPublished = refl
+refused-told base made sheet form shelf_faults.PublicationUnknown = refl
+refused-told base made sheet form shelf_faults.NoBase = refl
+
+pub delta-told : (made : Trail) (kept : Kept) (base : Base) (sheet : Sheet) (form : Form) (given : Result texts.Text ShelfFault) → KeepsTrail made kept → Refuses base kept given → Gives base sheet form kept given
+    → IsToldOf (Delta base sheet form) (delta_outcome base sheet form made) form given
+delta-told made kept base sheet form given keeps refuses gives = by_found made keeps (base_in (moments_of made) base) refl
+  where
+    by_found : (made : Trail) → KeepsTrail made kept → (found : Result ℕ ShelfFault) → base_in (moments_of made) base ≡ found → IsToldOf (Delta base sheet form) (delta_outcome base sheet form made) form given
+    by_found made keeps (Err fault) is =
+        let Told : Result ℕ ShelfFault → Type 0 = λ found. IsToldOf (Delta base sheet form) (changed sheet form made found (latest made)) form given in
+        let Given : Result texts.Text ShelfFault → Type 0 = λ given. IsToldOf (Delta base sheet form) (changed sheet form made (Err fault) (latest made)) form given in
+        subst Told (sym is) (subst Given (sym (refuses made fault keeps is)) (refused-told base made sheet form fault))
+    by_found [] keeps (Ok from) is = cc
+    by_found (first ∷ later) keeps (Ok from) is =
+        let made = first ∷ later in
+        let last = last_behind first later in
+        let Told : Result ℕ ShelfFault → Type 0 = λ found. IsToldOf (Delta base sheet form) (changed sheet form made found (Some last)) form given in
+        subst Told (sym is) (given-told base made sheet form from last given (gives made from last keeps refl is))
 
 -- ---- the entry of the latest publication
 

@@ -22,7 +22,7 @@ use Rattle.lei_office.specs.declared.request.Request.{Request}
 use Rattle.lei_office.specs.declared.request.Request.TheVariants.{Accredit, Publish, Upload}
 use Rattle.lei_office.specs.Kept.{AreTablesOf, joined}
 use Rattle.lei_office.specs.Legal.{IsNext, Legal}
-use Rattle.lei_office.specs.Limits.{number_limit}
+use Rattle.request_words.specs.Words.{number_limit}
 use Rattle.lei_office.specs.Register.{held_after}
 use Rattle.lei_office.specs.Replies.{Outcome, adds, outcome, stays}
 use Rattle.lei_office.specs.State.{OfficeState, office_of}

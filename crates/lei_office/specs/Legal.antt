@@ -7,13 +7,14 @@ use Rattle.lei_outside.specs.declared.entry.KeptEntry.{KeptEntry}
 use Rattle.lei_office.specs.declared.request.Asked.{Asked}
 use Rattle.lei_office.specs.declared.request.Asked.TheVariants.{Ask, Refuse}
 use Rattle.lei_office.specs.declared.request.Request.{Request}
-use Rattle.lei_office.specs.declared.request.Request.TheVariants.{Accredit, Copy, Kept, Publish, Show, Status, Upload}
+use Rattle.lei_office.specs.declared.request.Request.TheVariants.{Accredit, Copy, Delta, Kept, Publish, Show, Status, Upload}
 use Rattle.lei_office.specs.declared.reply.Refusal.TheVariants.{NoMemory}
 use Rattle.lei_office.specs.declared.reply.Reply.{Reply}
 use Rattle.lei_office.specs.declared.reply.Reply.TheVariants.{Words}
 use Rattle.lei_office.specs.declared.limits.Limits.{Limits}
 use Rattle.upload_ledger.specs.History.{History, is_accreditation, is_publication, is_upload, upload_at}
-use Rattle.lei_office.specs.Limits.{IsFrom1To, number_limit}
+use Rattle.lei_office.specs.Limits.{IsFrom1To}
+use Rattle.request_words.specs.Words.{number_limit}
 use Rattle.lei_office.specs.State.{OfficeState, office_of}
 use Rattle.lei_office.specs.Replies.{adds, next, outcome, reply, Step}
 
@@ -29,6 +30,7 @@ IsNumbered (Kept issuer number) = IsUploadNumber number
 IsNumbered (Publish number) = IsUploadNumber number
 IsNumbered (Show lei) = Unit {0}
 IsNumbered (Copy sheet form) = Unit {0}
+IsNumbered (Delta base sheet form) = Unit {0}
 IsNumbered Status = Unit {0}
 
 -- a request as readers make it: each LEI that it names is one, and its number lies in its range
@@ -39,6 +41,7 @@ IsRequest (Kept issuer number) = IsValid issuer × IsUploadNumber number
 IsRequest (Publish number) = IsUploadNumber number
 IsRequest (Show lei) = IsValid lei
 IsRequest (Copy sheet form) = Unit {0}
+IsRequest (Delta base sheet form) = Unit {0}
 IsRequest Status = Unit {0}
 
 -- the request that an entry was taken for
@@ -84,6 +87,7 @@ TakesMemoryToRead (Kept issuer number) = ⊥
 TakesMemoryToRead (Publish number) = ⊥
 TakesMemoryToRead (Show lei) = ⊥
 TakesMemoryToRead (Copy sheet form) = ⊥
+TakesMemoryToRead (Delta base sheet form) = ⊥
 TakesMemoryToRead Status = ⊥
 
 -- A refusal of the reader is its own reply, and takes no moment. A request takes one, and makes a step. Where there

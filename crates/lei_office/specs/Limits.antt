@@ -11,10 +11,6 @@ body_limit = 4_194_304
 abbrev pub record_limit : ℕ
 record_limit = 500_000
 
--- an upload has a number of at most 1,000,000
-abbrev pub number_limit : ℕ
-number_limit = 1_000_000
-
 -- the standard limits; those on the bodies that are kept and on the entries are what a ledger keeps at most
 abbrev pub standard : Limits
 standard = record { body = body_limit; kept = kept_limit; entries = entry_limit; records = record_limit }

@@ -1,5 +1,5 @@
 -- What a publication changes: the keys that were touched since the one before, each with the row that is published.
-use Rattle.std.specs.Prelude.{◌≡◌, List, length, map, if◌then◌else◌, Option, Some, None}
+use Rattle.std.specs.Prelude.{◌≡◌, ℕ, List, length, map, if◌then◌else◌, Option, Some, None}
 use Rattle.lei_records.specs.declared.item.Item.{Item}
 use Rattle.lei_records.specs.declared.view.RowKey.{RowKey}
 use Rattle.lei_records.specs.Relations.{registration_in}
@@ -7,6 +7,7 @@ use Rattle.copy_csv.specs.declared.sheets.Sheet.{Sheet}
 use Rattle.copy_csv.specs.Sheets.{SheetRow, row_of}
 use Rattle.golden_shelf.specs.Changes.{Changes}
 use Rattle.register_table.specs.Cells.{AreOwnItems}
+use Rattle.register_table.specs.Held.{Held}
 use Rattle.register_table.specs.Touched.{shown, touched}
 use Rattle.register_table.specs.declared.touched.Touched.{Touched}
 use Rattle.upload_ledger.specs.History.{History}
@@ -26,10 +27,15 @@ row_published (Some (Item.Exception item)) = Some (row_of Sheet.Repex item.0)
 abbrev pub change_of : Touched → RowKey × Option SheetRow
 change_of told = (told.key, row_published told.item)
 
--- What the next publication changes: the keys that were touched behind the entry that made the publication before it, each
--- once and in the order of the register's cells, with the row that is published under it now.
-pub record AreNextChanges (limits : Limits) (history : History) (changes : Changes) : Type 0 where
+-- These are the keys that entries touched last whose numbers are greater than one number and at most another, in the order
+-- of the register's cells, each with the row that is published of it, or with none.
+pub record AreChangesSince (after upto : ℕ) (held : Held) (changes : Changes) : Type 0 where
   pub told : List Touched
-  pub touched : map shown told ≡ touched (last_published history) (length history) (held_after limits history)
+  pub touched : map shown told ≡ touched after upto held
   pub own : AreOwnItems told
   pub are : changes ≡ map change_of told
+
+-- What the next publication changes: the keys that were touched behind the entry that made the publication before it.
+abbrev pub AreNextChanges : Limits → History → Changes → Type 0
+AreNextChanges limits history changes =
+    AreChangesSince (last_published history) (length history) (held_after limits history) changes

@@ -19,12 +19,15 @@ use Rattle.lei_office.specs.declared.request.Request.{Request}
 use Rattle.lei_office.specs.declared.request.Request.TheVariants as requests
 use Rattle.copy_csv.specs.declared.sheets.Form.{Form}
 use Rattle.copy_csv.specs.declared.sheets.Sheet.{Sheet}
-use Rattle.copy_forms.specs.Trails.{Publication, Trail, copy_of}
+use Rattle.copy_forms.specs.Trails.{Publication, Trail, copy_of, delta_between}
+use Rattle.golden_shelf.specs.declared.base.Base.{Base}
+use Rattle.golden_shelf.specs.declared.fault.ShelfFault.{ShelfFault}
+use Rattle.golden_shelf.specs.Bases.{base_in, moments_of}
 use Rattle.golden_shelf.specs.Shelves.{latest}
 use Rattle.lei_office.specs.declared.reply.Kind.{Kind}
 use Rattle.lei_office.specs.declared.reply.Kind.TheVariants.{Csv, Json}
 use Rattle.lei_office.specs.declared.reply.Refusal.{Refusal}
-use Rattle.lei_office.specs.declared.reply.Refusal.TheVariants.{TooLong, NoRoute, Path, IssuerUnknown, NumberTaken, NumberAhead, LedgerFull, NotKept, LeiUnknown, NothingPublished, NoMemory, KeeperFault}
+use Rattle.lei_office.specs.declared.reply.Refusal.TheVariants.{TooLong, NoRoute, Path, IssuerUnknown, NumberTaken, NumberAhead, LedgerFull, NotKept, LeiUnknown, NothingPublished, PublicationUnknown, NoBase, NoMemory, KeeperFault, Head, HeadTooLong, LengthRequired}
 use Rattle.lei_office.specs.declared.reply.Refusal.TheVariants as refusals
 use Rattle.lei_office.specs.declared.reply.Reply.{Reply}
 use Rattle.lei_office.specs.declared.reply.Reply.TheVariants.{Text, Words}
@@ -187,6 +190,24 @@ copied sheet form number (Some publication) =
 abbrev pub copy_outcome : Sheet → Form → Trail → Outcome
 copy_outcome sheet form made = copied sheet form (length made) (latest made)
 
+-- the refusal that tells why there is no base
+abbrev pub base_refusal : ShelfFault → Refusal
+base_refusal ShelfFault.NothingPublished = NothingPublished
+base_refusal ShelfFault.PublicationUnknown = PublicationUnknown
+base_refusal ShelfFault.NoBase = NoBase
+base_refusal ShelfFault.NoMemory = NoMemory
+
+-- the delta of a sheet from the base that was found to the latest publication, or why there is no base
+abbrev pub changed : Sheet → Form → Trail → Result ℕ ShelfFault → Option Publication → Outcome
+changed sheet form made (Err fault) last = stays (Words (base_refusal fault))
+changed sheet form made (Ok from) None = stays (Words NothingPublished)
+changed sheet form made (Ok from) (Some publication) =
+    stays (Text 200 (form_kind form) (delta_between made from (length made) publication sheet form))
+
+-- the same from the base that is named
+abbrev pub delta_outcome : Base → Sheet → Form → Trail → Outcome
+delta_outcome base sheet form made = changed sheet form made (base_in (moments_of made) base) (latest made)
+
 -- a record is shown as it is held: a JSON object of its present fields
 abbrev pub show_outcome : Option Row → Outcome
 show_outcome None = stays (Words LeiUnknown)
@@ -210,6 +231,7 @@ outcome_at office (requests.Publish number) moment =
     publish_outcome office number moment (published office.history number)
 outcome_at office (requests.Show lei) moment = show_outcome (row_at (after office.limits office.history) lei)
 outcome_at office (requests.Copy sheet form) moment = copy_outcome sheet form (trail office)
+outcome_at office (requests.Delta base sheet form) moment = delta_outcome base sheet form (trail office)
 outcome_at office requests.Status moment = status_outcome office.history (after office.limits office.history)
 
 -- the same where the request comes at this moment of the clock
@@ -250,6 +272,7 @@ full_needs_memory (requests.Kept issuer number) = false
 full_needs_memory (requests.Publish number) = false
 full_needs_memory (requests.Show lei) = false
 full_needs_memory (requests.Copy sheet form) = false
+full_needs_memory (requests.Delta base sheet form) = false
 full_needs_memory requests.Status = false
 
 -- The others but for a malformed body are found in what is kept, with no memory.
@@ -265,8 +288,14 @@ needs_memory request LedgerFull = full_needs_memory request
 needs_memory request NotKept = false
 needs_memory request LeiUnknown = false
 needs_memory request NothingPublished = false
+needs_memory request PublicationUnknown = false
+needs_memory request NoBase = false
 needs_memory request NoMemory = true
 needs_memory request KeeperFault = false
+needs_memory request Head = false
+needs_memory request HeadTooLong = false
+needs_memory request LengthRequired = false
+needs_memory request (refusals.Method allowed) = false
 
 -- a reply to this request whose making takes memory
 abbrev pub takes_memory : Request → Reply → Bool

@@ -1,31 +1,17 @@
 -- Shelving: what the shelf keeps of a history, and what becomes of it where a request is decided.
-use Rattle.std.specs.Prelude.{◌≡◌, ℕ, List, [], ◌∷◌, ◌++◌, map, Bool, true, false, Option, Some, None, Result, Ok, Err}
-use Rattle.golden_shelf.specs.Changes.{Changes}
+use Rattle.std.specs.Prelude.{◌≡◌, [], ◌∷◌, ◌++◌, Bool, true, false, Option, Some, None, Result, Ok, Err}
 use Rattle.golden_shelf.specs.Shelves.{Kept, ShelfState, Keeps as KeepsTrail}
 use Rattle.lei_outside.specs.declared.faults.NoMemory.{NoMemory}
-use Rattle.register_table.specs.declared.touched.Touched.{Touched}
-use Rattle.register_table.specs.Cells.{AreOwnItems}
-use Rattle.register_table.specs.Held.{Held}
-use Rattle.register_table.specs.Touched.{shown, touched as touched_cells}
 use Rattle.upload_ledger.specs.History.{History, is_publication}
 use Rattle.lei_office.specs.declared.deciding.Decision.{Decision}
 use Rattle.lei_office.specs.declared.deciding.Decision.TheVariants.{Adds, Stays}
 use Rattle.lei_office.specs.declared.limits.Limits.{Limits}
 use Rattle.lei_office.specs.Publications.{trail}
-use Rattle.lei_office.specs.Publishing.{change_of}
 use Rattle.lei_office.specs.State.{office_of}
 
 -- a shelf keeps the publications of this history
 abbrev pub IsShelved : Limits → History → Kept → Type 0
 IsShelved limits history kept = KeepsTrail (trail (office_of limits history)) kept
-
--- These are the keys that entries touched last whose numbers are greater than one number and at most another, each with
--- the row that is published of it, or with none.
-pub record AreChangesSince (after upto : ℕ) (held : Held) (changes : Changes) : Type 0 where
-  pub told : List Touched
-  pub touched : map shown told ≡ touched_cells after upto held
-  pub own : AreOwnItems told
-  pub are : changes ≡ map change_of told
 
 -- what a shelf comes back to where an entry isn't kept: what it had before a publication, and what it has before any other
 -- entry

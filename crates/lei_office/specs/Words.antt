@@ -4,7 +4,7 @@ use Rattle.lei_code.specs.Texts.{Text}
 use Rattle.upload_format.specs.declared.fault.Malformed.{Malformed}
 use Rattle.upload_format.specs.declared.fault.Malformed.TheVariants.{NotJson, NotAnUpload, NoItems, TooManyItems}
 use Rattle.lei_office.specs.declared.reply.Refusal.{Refusal}
-use Rattle.lei_office.specs.declared.reply.Refusal.TheVariants.{TooLong, NoRoute, Path, IssuerUnknown, NumberTaken, NumberAhead, LedgerFull, NotKept, LeiUnknown, NothingPublished, NoMemory, KeeperFault}
+use Rattle.lei_office.specs.declared.reply.Refusal.TheVariants.{TooLong, NoRoute, Path, IssuerUnknown, NumberTaken, NumberAhead, LedgerFull, NotKept, LeiUnknown, NothingPublished, PublicationUnknown, NoBase, NoMemory, KeeperFault, Head, HeadTooLong, LengthRequired}
 use Rattle.lei_office.specs.declared.reply.Refusal.TheVariants as refusals
 use Rattle.lei_office.specs.declared.reply.Reply.{Reply}
 use Rattle.lei_office.specs.declared.reply.Reply.TheVariants as replies
@@ -22,8 +22,14 @@ refusal_status_code LedgerFull = 507
 refusal_status_code NotKept = 404
 refusal_status_code LeiUnknown = 404
 refusal_status_code NothingPublished = 404
+refusal_status_code PublicationUnknown = 404
+refusal_status_code NoBase = 404
 refusal_status_code NoMemory = 500
 refusal_status_code KeeperFault = 503
+refusal_status_code Head = 400
+refusal_status_code HeadTooLong = 431
+refusal_status_code LengthRequired = 411
+refusal_status_code (refusals.Method allowed) = 405
 
 -- how a body that is no upload is told
 abbrev pub malformed_name : Malformed → Text
@@ -45,8 +51,14 @@ refusal_name LedgerFull = codes "LEDGER_FULL"
 refusal_name NotKept = codes "NOT_KEPT"
 refusal_name LeiUnknown = codes "LEI_UNKNOWN"
 refusal_name NothingPublished = codes "NOTHING_PUBLISHED"
+refusal_name PublicationUnknown = codes "PUBLICATION_UNKNOWN"
+refusal_name NoBase = codes "NO_BASE"
 refusal_name NoMemory = codes "NO_MEMORY"
 refusal_name KeeperFault = codes "KEEPER_FAULT"
+refusal_name Head = codes "HEAD"
+refusal_name HeadTooLong = codes "HEAD_TOO_LONG"
+refusal_name LengthRequired = codes "LENGTH_REQUIRED"
+refusal_name (refusals.Method allowed) = codes "METHOD"
 
 -- the number that some names are told with
 abbrev pub refusal_number : Refusal → Option ℕ
@@ -61,8 +73,14 @@ refusal_number LedgerFull = None
 refusal_number NotKept = None
 refusal_number LeiUnknown = None
 refusal_number NothingPublished = None
+refusal_number PublicationUnknown = None
+refusal_number NoBase = None
 refusal_number NoMemory = None
 refusal_number KeeperFault = None
+refusal_number Head = None
+refusal_number HeadTooLong = None
+refusal_number LengthRequired = None
+refusal_number (refusals.Method allowed) = None
 
 -- a space and the number
 abbrev pub behind : Option ℕ → Text

@@ -19,7 +19,7 @@ ghost use Rattle.lei_office.specs.State.{office_of};
 use crate::entries::{accreditation, taken_upload};
 use crate::judge::judge;
 use crate::limits::Limits;
-use crate::publishing::{copy, publish};
+use crate::publishing::{copy, delta, publish};
 use crate::reply::{Kind, Refusal, Reply};
 use crate::request::{Call, Request};
 use crate::texts::status_text;
@@ -78,6 +78,9 @@ pub fn decide<R: Threads + Sync>(
         }
         Request::Show(lei) => Ok(Decision::Stays(show(alloc, table, lei)?)),
         Request::Copy(sheet, form) => Ok(Decision::Stays(copy(shelf, *sheet, *form)?)),
+        Request::Delta(base, sheet, form) => {
+            Ok(Decision::Stays(delta(shelf, *base, *sheet, *form)?))
+        }
         Request::Status => Ok(Decision::Stays(status(alloc, ledger, table)?)),
     }
 }

@@ -20,6 +20,7 @@ mod texts;
 pub use copy_csv::{Form, Sheet};
 pub use damage::Damage;
 pub use entries::RULES;
+pub use golden_shelf::Base;
 pub use laws::{
     cells_have_the_rows, changes_are_permitted, changes_make_records, damage_is_no_history,
     damage_is_one, exceptions_stand_apart, kept_tables_are_one, lines_tell_cells,
@@ -30,6 +31,6 @@ pub use laws::{
 pub use limits::Limits;
 pub use office::Office;
 pub use opening::OpenFault;
-pub use reply::{Kind, Refusal, Reply};
-pub use request::{Asked, Call, MAX_NUMBER, Request, is_upload_number};
+pub use reply::{Allowed, Kind, Refusal, Reply};
+pub use request::{Asked, Call, Request, is_upload_number};
 pub use upload_ledger::{ACCREDIT, PUBLISH, UPLOAD};

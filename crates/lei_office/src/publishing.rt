@@ -1,4 +1,4 @@
-//! Publications: what changed since the last one goes onto the shelf, which gives copies of the latest.
+//! Publications: what changed since the last one goes onto the shelf, which gives copies of the latest and deltas to it.
 ghost use Rattle.std.specs.Prelude.{◌≡◌, ◌<◌, ◌++◌, ◌∷◌, [], IfOk, OnErr, OnOk, Some, length, map};
 ghost use Rattle.copy_csv.specs.Sheets as sheets;
 ghost use Rattle.copy_forms.specs.Trails.{Publication, Trail};
@@ -6,15 +6,15 @@ ghost use Rattle.golden_shelf.specs.Changes.{AreOwnChanges, IsIssued};
 ghost use Rattle.golden_shelf.specs.Shelves.{Keeps as KeepsTrail, latest_rows};
 ghost use Rattle.lei_shapes.specs.Moment.{IsMoment};
 ghost use Rattle.upload_ledger.specs.History.{published};
-ghost use Rattle.lei_office.specs.declared.request.Request.TheVariants.{Copy, Publish};
+ghost use Rattle.lei_office.specs.declared.request.Request.TheVariants.{Copy, Delta, Publish};
 ghost use Rattle.lei_office.specs.Deciding.{AddsNext, Decides, Tells};
 ghost use Rattle.lei_office.specs.Legal.{IsUploadNumber, Legal};
 ghost use Rattle.lei_office.specs.Limits.{AreLimits};
 ghost use Rattle.lei_office.specs.Publications.{last_published, trail};
-ghost use Rattle.lei_office.specs.Publishing.{change_of, row_published};
+ghost use Rattle.lei_office.specs.Publishing.{AreChangesSince, change_of, row_published};
 ghost use Rattle.lei_office.specs.Register.{IsKeptAfter, after, entry_writes};
-ghost use Rattle.lei_office.specs.Replies.{copy_outcome, form_kind, json_reply, next_publication, publication_entry, publish_outcome};
-ghost use Rattle.lei_office.specs.Shelving.{AreChangesSince, IsShelved, Shelves};
+ghost use Rattle.lei_office.specs.Replies.{copy_outcome, delta_outcome, form_kind, json_reply, next_publication, publication_entry, publish_outcome};
+ghost use Rattle.lei_office.specs.Shelving.{IsShelved, Shelves};
 ghost use Rattle.lei_office.specs.State.{office_of};
 
 use crate::deciding::{Decision, is_full, refused};
@@ -22,7 +22,7 @@ use crate::entries::publication;
 use crate::limits::Limits;
 use crate::reply::{Kind, Refusal, Reply};
 use copy_csv::{Form, Row, Sheet, Texts};
-use golden_shelf::Shelf;
+use golden_shelf::{Base, Shelf, ShelfFault};
 use lei_outside::{Bytes, KeptEntry, List, NoMemory, Texts as Fields};
 use lei_records::{Item, RowKey};
 use lei_shapes::{Moment, RelationRegistration};
@@ -254,12 +254,32 @@ fn latest_copy(shelf: &Shelf, sheet: Sheet, form: Form) -> Result<Reply, NoMemor
     ensures { (trail : Trail) → KeepsTrail trail shelf.now.now → Tells (Copy sheet form) (copy_outcome sheet form trail) result }
 {
     match shelf.copy(sheet, form) {
-        Ok(text) => Ok(Reply::Text {
-            code: 200,
-            kind: form_kind(form),
-            text,
-        }),
+        Ok(text) => Ok(file_reply(form, text)),
         Err(_) => Err(NoMemory),
+    }
+}
+
+/// The delta of a sheet from its base to the latest publication.
+pub fn delta(shelf: &Shelf, base: Base, sheet: Sheet, form: Form) -> Result<Reply, NoMemory>
+    ensures { (trail : Trail) → KeepsTrail trail shelf.now.now → Tells (Delta base sheet form) (delta_outcome base sheet form trail) result }
+{
+    match shelf.delta(base, sheet, form) {
+        Ok(text) => Ok(file_reply(form, text)),
+        Err(ShelfFault::NothingPublished) => Ok(Reply::Words(Refusal::NothingPublished)),
+        Err(ShelfFault::PublicationUnknown) => Ok(Reply::Words(Refusal::PublicationUnknown)),
+        Err(ShelfFault::NoBase) => Ok(Reply::Words(Refusal::NoBase)),
+        Err(ShelfFault::NoMemory) => Err(NoMemory),
+    }
+}
+
+// A file in this form, as it is answered.
+fn file_reply(form: Form, text: Bytes) -> Reply
+    ensures { result ≡ Reply.Text 200 (form_kind form) text }
+{
+    Reply::Text {
+        code: 200,
+        kind: form_kind(form),
+        text,
     }
 }
 

@@ -35,9 +35,29 @@ pub enum Refusal {
     LeiUnknown,
     /// There is no publication yet.
     NothingPublished,
+    /// There is no publication of the number that a delta begins at.
+    PublicationUnknown,
+    /// No publication is old enough to be the base of the delta.
+    NoBase,
     NoMemory,
     /// The entry couldn't be kept.
     KeeperFault,
+    /// The head of an HTTP request is none (RFC 9112), or the length of its body isn't read.
+    Head,
+    /// The head of an HTTP request is too long, or has too many fields.
+    HeadTooLong,
+    /// The length of an HTTP request's body isn't stated, or the body isn't sent as so many bytes.
+    LengthRequired,
+    /// The route of an HTTP request has other methods: these.
+    Method(Allowed),
+}
+
+/// The methods of a route of HTTP (RFC 9110).
+#[derive(Clone, Copy, Debug, PartialEq, Eq)]
+pub enum Allowed {
+    Put,
+    Get,
+    GetPut,
 }
 
 impl Refusal {
@@ -48,14 +68,19 @@ impl Refusal {
         ensures { result ≡ refusal_status_code self }
     {
         match self {
-            Refusal::Path | Refusal::Malformed(_) => 400,
+            Refusal::Path | Refusal::Malformed(_) | Refusal::Head => 400,
             Refusal::NoRoute
             | Refusal::IssuerUnknown
             | Refusal::NotKept
             | Refusal::LeiUnknown
-            | Refusal::NothingPublished => 404,
+            | Refusal::NothingPublished
+            | Refusal::PublicationUnknown
+            | Refusal::NoBase => 404,
+            Refusal::Method(_) => 405,
             Refusal::NumberTaken | Refusal::NumberAhead(_) => 409,
+            Refusal::LengthRequired => 411,
             Refusal::TooLong => 413,
+            Refusal::HeadTooLong => 431,
             Refusal::NoMemory => 500,
             Refusal::KeeperFault => 503,
             Refusal::LedgerFull => 507,
@@ -81,8 +106,14 @@ impl Refusal {
             Refusal::NotKept => "NOT_KEPT",
             Refusal::LeiUnknown => "LEI_UNKNOWN",
             Refusal::NothingPublished => "NOTHING_PUBLISHED",
+            Refusal::PublicationUnknown => "PUBLICATION_UNKNOWN",
+            Refusal::NoBase => "NO_BASE",
             Refusal::NoMemory => "NO_MEMORY",
             Refusal::KeeperFault => "KEEPER_FAULT",
+            Refusal::Head => "HEAD",
+            Refusal::HeadTooLong => "HEAD_TOO_LONG",
+            Refusal::LengthRequired => "LENGTH_REQUIRED",
+            Refusal::Method(_) => "METHOD",
         }
     }
 

@@ -3,11 +3,10 @@ ghost use Rattle.lei_office.specs.Legal.{IsUploadNumber};
 
 use crate::reply::Refusal;
 use copy_csv::{Form, Sheet};
+use golden_shelf::Base;
 use lei_code::Lei;
 use lei_outside::Bytes;
-
-/// The greatest number of an upload, and of a publication. This project's profile.
-pub const MAX_NUMBER: u32 = 1_000_000;
+use request_words::MAX_NUMBER;
 
 /// Whether an upload, or a publication, may have this number.
 pub fn is_upload_number(number: u32) -> bool
@@ -40,6 +39,8 @@ pub enum Request {
     Show(Lei),
     /// To give the copy of a sheet in the latest publication.
     Copy(Sheet, Form),
+    /// To give the delta of a sheet from an earlier publication to the latest.
+    Delta(Base, Sheet, Form),
     /// To tell how much is kept and held.
     Status,
 }

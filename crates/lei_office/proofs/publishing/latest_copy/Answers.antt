@@ -1,13 +1,11 @@
 use Rattle.std.proofs.Common.{ap, sym, ◌∙◌}
 use Rattle.lei_office.specs.Replies.{stays}
-use Rattle.lei_office.specs.declared.reply.Reply.TheVariants.{Text}
 use Rattle.lei_office.proofs.Shelved.{copy-memory, copy-told}
 use Rattle.lei_office.proofs.publishing.latest_copy.Goals as goal
 
 pub returns-in-Ok : goal.returns-in-Ok
 returns-in-Ok c = λ trail keeps.
-    copy-told trail c.args.shelf.now.now c.args.sheet c.args.form c.in-Ok.text keeps c.requires c.in-Ok.ensures.copy
-    ∙ ap (λ kind. stays (Text 200 kind c.in-Ok.text)) (sym c.form_kind.ensures)
+    copy-told trail c.args.shelf.now.now c.args.sheet c.args.form c.in-Ok.text keeps c.requires c.in-Ok.ensures.copy ∙ ap stays (sym c.file_reply.ensures)
 
 pub returns-in-Err : goal.returns-in-Err
 returns-in-Err c = λ trail keeps. copy-memory trail c.args.shelf.now.now c.args.sheet c.args.form keeps c.requires
