@@ -108,8 +108,8 @@ impl<W: Write> Sink for StdSink<W> {
     }
 }
 
-// One read, begun again where a signal stopped it before it took a byte.
-fn read_once<R: Read>(reader: &mut R, buffer: &mut [u8]) -> Result<usize, Failed>
+/// One read, begun again where a signal stopped it before it took a byte.
+pub fn read_once<R: Read>(reader: &mut R, buffer: &mut [u8]) -> Result<usize, Failed>
     ensures within { IfOk result (λ count. count ≤ length buffer.new) }
     ensures reader { ReadConsumes (R.remaining reader.old) (R.remaining reader.new) result buffer.new }
 {

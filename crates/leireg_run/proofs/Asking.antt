@@ -10,13 +10,14 @@ use Rattle.lei_office.specs.declared.reply.Refusal.TheVariants.{TooLong, NoMemor
 use Rattle.lei_office.specs.declared.reply.Reply.TheVariants.{Words}
 use Rattle.lei_office.specs.State.{OfficeState}
 use Rattle.lei_office.specs.Legal.{AskStep, IsNumbered}
-use Rattle.leireg_run.proofs.Numbers.{number_of-range}
+use Rattle.request_words.proofs.Numbers.{number_within-range}
+use Rattle.request_words.specs.Words.{base_of, code_of, form_of, number_of, sheet_of}
 use Rattle.leireg_run.specs.Faults.{keeper_faults}
 use Rattle.leireg_run.specs.Lines.{Line}
 use Rattle.leireg_run.specs.Limits.{line_limit}
-use Rattle.leireg_run.specs.Requests.{asked, asked_in, asked_by, or_path, cut, code_of, copy_of, form_of, sheet_of, upload_of, kept_of, number_of, first_word, MayWantMemory}
+use Rattle.leireg_run.specs.Requests.{asked, asked_in, asked_by, or_path, cut, copy_of, delta_of, upload_of, kept_of, first_word, MayWantMemory}
 use Rattle.leireg_run.specs.declared.requests.FirstWord.{FirstWord}
-use Rattle.leireg_run.specs.declared.requests.FirstWord.TheVariants.{Accredit, Upload, Kept, Publish, Show, Copy, Status}
+use Rattle.leireg_run.specs.declared.requests.FirstWord.TheVariants.{Accredit, Upload, Kept, Publish, Show, Copy, Delta, Status}
 
 -- want of memory for an upload's body leaves the office, and asks for no moment
 pub AskStep-no_memory : (old : OfficeState) (what : Asked) → MayWantMemory what → AskStep old what [] (Words NoMemory) old
@@ -43,13 +44,13 @@ unfolding upload_of
 upload_range rest =
     bind_range (cut rest) _
     (λ first _. bind_range (cut first.1) _ (λ second _. bind_range (code_of first.0) _ (λ office _.
-    bind_range (number_of second.0) _ (λ number is. number_of-range second.0 number is))))
+    bind_range (number_of second.0) _ (λ number is. number_within-range 1 1_000_000 second.0 number is))))
 
 kept_range : (rest : List ℕ) → AsksInRange (or_path (kept_of rest))
 unfolding kept_of
 kept_range rest =
     bind_range (cut rest) _
-    (λ parts _. bind_range (code_of parts.0) _ (λ issuer _. bind_range (number_of parts.1) _ (λ number is. number_of-range parts.1 number is)))
+    (λ parts _. bind_range (code_of parts.0) _ (λ issuer _. bind_range (number_of parts.1) _ (λ number is. number_within-range 1 1_000_000 parts.1 number is)))
 
 accreditation_range : (code : Option (List ℕ)) → AsksInRange (or_path (option_map requests.Accredit code))
 accreditation_range None = refl
@@ -61,12 +62,19 @@ show_range (Some code) = tt
 
 publication_range : (rest : List ℕ) (number : Option ℕ) → number_of rest ≡ number → AsksInRange (or_path (option_map requests.Publish number))
 publication_range rest None is = refl
-publication_range rest (Some number) is = number_of-range rest number is
+publication_range rest (Some number) is = number_within-range 1 1_000_000 rest number is
 
 copy_range : (rest : List ℕ) → AsksInRange (or_path (copy_of rest))
 unfolding copy_of
 copy_range rest =
     bind_range (cut rest) _ (λ parts _. bind_range (sheet_of parts.0) _ (λ sheet _. bind_range (form_of parts.1) _ (λ form _. tt)))
+
+delta_range : (rest : List ℕ) → AsksInRange (or_path (delta_of rest))
+unfolding delta_of
+delta_range rest =
+    bind_range (cut rest) _
+    (λ first _. bind_range (cut first.1) _ (λ second _. bind_range (base_of first.0) _ (λ base _.
+    bind_range (sheet_of second.0) _ (λ sheet _. bind_range (form_of second.1) _ (λ form _. tt)))))
 
 by_range : (word : Option FirstWord) (rest : Option (List ℕ)) → AsksInRange (asked_by word rest)
 by_range None rest = refl
@@ -82,6 +90,8 @@ by_range (Some Show) None = refl
 by_range (Some Show) (Some rest) = show_range (code_of rest)
 by_range (Some Copy) None = refl
 by_range (Some Copy) (Some rest) = copy_range rest
+by_range (Some Delta) None = refl
+by_range (Some Delta) (Some rest) = delta_range rest
 by_range (Some Status) None = tt
 by_range (Some Status) (Some rest) = refl
 

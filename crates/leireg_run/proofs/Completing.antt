@@ -1,5 +1,5 @@
 -- Where nothing fails and no memory is wanting, all is done.
-use Rattle.std.proofs.Common.{◌≡◌, ◌≢◌, ◌⊎◌, ◌<◌, ◌≤◌, ℕ, Ok, List, ◌++◌, length, Option, Some, None, Contains, unwrap_or, inl, inr, ap, sym, subst, ◌∙◌, arith, length-append}
+use Rattle.std.proofs.Common.{◌≡◌, ◌≢◌, ◌⊎◌, ◌<◌, ◌≤◌, ℕ, Result, Ok, Err, refl, List, ◌++◌, length, Option, Some, None, Contains, unwrap_or, inl, inr, ap, sym, subst, ◌∙◌, arith, length-append}
 use Rattle.std.proofs.lemmas.List.{append-nil}
 use Rattle.std.specs.Str.Lines.{lines}
 use Rattle.lei_code.specs.Fault.{fault_of}
@@ -14,11 +14,16 @@ use Rattle.lei_office.proofs.Sessions.{exact}
 use Rattle.leireg_run.specs.Codes.{check_line, digits_fault, digits_line, told_status, TellsLine}
 use Rattle.lei_outside.specs.Keeping.{KeptTables}
 use Rattle.leireg_run.specs.Ends.{AnswersLines, Completes, Does, EndsWith, FailsToOpen, IsComplete, Opens, TellsDamage}
+use Rattle.leireg_run.specs.Applying.{files}
+use Rattle.leireg_run.proofs.Applied.{completes_files}
 use Rattle.leireg_run.specs.Faults.{RoseBy, keeper_faults}
 use Rattle.leireg_run.specs.Limits.{input_limit}
 use Rattle.leireg_run.specs.Outside.{Course, Leads, Outside}
 use Rattle.leireg_run.specs.Runs.{asks_of}
-use Rattle.leireg_run.specs.Words.{Meant, to_answer_lines, to_check, to_make_digits}
+use Rattle.leireg_run.specs.Words.{Meant, to_answer_lines, to_check, to_make_digits, to_patch}
+use Rattle.leireg_run.specs.Status.{end_status, stop_status}
+use Rattle.leireg_run.specs.declared.status.Stop.{Stop}
+use Rattle.leireg_run.specs.declared.status.Stop.TheVariants as stops
 use Rattle.leireg_run.proofs.Counting.{none_told}
 
 -- what was read of told bytes, to their end
@@ -100,28 +105,73 @@ unopened_done before after status n6 whole is = elim is.ends [
   | inr (inr (inr damaged)) ↦ inr (damaged.0, whole damaged.0)
 ]
 
-pub completes : (may : Option KeptTables → Type 0) (what : Meant) (before after : Outside) (status : ℕ) → status ≢ 3 → status ≢ 4 → status ≢ 6
-    → (status ≡ 7 → TellsDamage {E = Unit {0}} before after (Ok (tt {0}))) → Does may what before after status
-    → Completes may what before after status
-completes may to_answer_lines before after status n3 n4 n6 whole (inl opens) =
+pub completes : (may : Option KeptTables → Type 0) (what : Meant) (before after : Outside) (second second_after : Option (List ℕ)) (status : ℕ) → status ≢ 3 → status ≢ 4 → status ≢ 6
+    → (status ≡ 7 → TellsDamage {E = Unit {0}} before after (Ok (tt {0}))) → Does may what before after second second_after status
+    → Completes may what before after second second_after status
+completes may to_answer_lines before after second second_after status n3 n4 n6 whole (inl opens) =
     λ bytes told short. inl (ends_done may opens.first bytes before after opens.runs.course status n3 n4 n6 short opens.opened told opens.runs.first
     opens.runs.leads opens.runs.ends)
-completes may to_answer_lines before after status n3 n4 n6 whole (inr fails) = λ bytes told short. inr (unopened_done before after status n6 whole fails)
-completes may (to_check text) before after status n3 n4 n6 whole tells =
+completes may to_answer_lines before after second second_after status n3 n4 n6 whole (inr fails) = λ bytes told short. inr (unopened_done before after status n6 whole fails)
+completes may (to_check text) before after second second_after status n3 n4 n6 whole tells =
     tells_done (fault_of text) (check_line text) before.written after.written status n4 n6 tells
-completes may (to_make_digits text) before after status n3 n4 n6 whole tells =
+completes may (to_make_digits text) before after second second_after status n3 n4 n6 whole tells =
     tells_done (digits_fault text) (digits_line text) before.written after.written status n4 n6 tells
+completes may (to_patch sheet form) before after second second_after status n3 n4 n6 whole applies =
+    completes_files sheet form (files before.left second before.written) (files after.left second_after after.written) status n3 n4 n6 applies
+
+-- the stops of these statuses
+only_read : (stop : Stop) → stop_status stop ≡ 3 → stop ≡ stops.ReadFault
+only_read stops.Refused is = cc
+only_read stops.ReadFault is = refl
+only_read stops.WriteFault is = cc
+only_read stops.KeeperFault is = cc
+only_read stops.NoMemory is = cc
+only_read stops.StoreDamaged is = cc
+only_read stops.InputTooLong is = cc
+
+only_write : (stop : Stop) → stop_status stop ≡ 4 → stop ≡ stops.WriteFault
+only_write stops.Refused is = cc
+only_write stops.ReadFault is = cc
+only_write stops.WriteFault is = refl
+only_write stops.KeeperFault is = cc
+only_write stops.NoMemory is = cc
+only_write stops.StoreDamaged is = cc
+only_write stops.InputTooLong is = cc
+
+only_damage : (stop : Stop) → stop_status stop ≡ 7 → stop ≡ stops.StoreDamaged
+only_damage stops.Refused is = cc
+only_damage stops.ReadFault is = cc
+only_damage stops.WriteFault is = cc
+only_damage stops.KeeperFault is = cc
+only_damage stops.NoMemory is = cc
+only_damage stops.StoreDamaged is = refl
+only_damage stops.InputTooLong is = cc
 
 -- nothing stopped what the words mean
-pub completes_meant : (may : Option KeptTables → Type 0) (command what : Meant) (meant : Option Meant) (before after : Outside) (status : ℕ) → status ≡ 0
+pub completes_meant : (may : Option KeptTables → Type 0) (command what : Meant) (meant : Option Meant) (before after : Outside) (second second_after : Option (List ℕ)) (status : ℕ) → status ≡ 0
     → Some command ≡ meant → meant ≡ Some what
-    → Does may command before after status → Completes may what before after 0
-completes_meant may command what meant before after status ok is means does =
+    → Does may command before after second second_after status → Completes may what before after second second_after 0
+completes_meant may command what meant before after second second_after status ok is means does =
     let same : command ≡ what = ap (λ o. unwrap_or o command) (is ∙ means) in
-    let D : Meant → Type 0 = λ m. Does may m before after 0 in
-    let N : ℕ → Type 0 = λ n. Does may command before after n in
+    let D : Meant → Type 0 = λ m. Does may m before after second second_after 0 in
+    let N : ℕ → Type 0 = λ n. Does may command before after second second_after n in
     let n3 : 0 ≢ 3 = λ is. absurd (omega (arith, is)) in
     let n4 : 0 ≢ 4 = λ is. absurd (omega (arith, is)) in
     let n6 : 0 ≢ 6 = λ is. absurd (omega (arith, is)) in
     let n7 : 0 ≡ 7 → TellsDamage {E = Unit {0}} before after (Ok (tt {0})) = λ is. absurd (omega (arith, is)) in
-    completes may what before after 0 n3 n4 n6 n7 (subst D same (subst N ok does))
+    completes may what before after second second_after 0 n3 n4 n6 n7 (subst D same (subst N ok does))
+
+-- what the words mean was stopped, and nothing failed
+pub completes_stopped : (may : Option KeptTables → Type 0) (command what : Meant) (meant : Option Meant) (before after : Outside) (second second_after : Option (List ℕ)) (ended : Result (Unit {0}) Stop) (stop : Stop) (status : ℕ)
+    → ended ≡ Err stop → status ≡ stop_status stop → Some command ≡ meant → meant ≡ Some what → (ended ≡ Err stops.ReadFault → ⊥) → (ended ≡ Err stops.WriteFault → ⊥) → status ≢ 6
+    → (ended ≡ Err stops.StoreDamaged → TellsDamage {E = Unit {0}} before after (Ok (tt {0}))) → Does may command before after second second_after (end_status ended)
+    → Completes may what before after second second_after status
+completes_stopped may command what meant before after second second_after ended stop status stopped status_is is means read wrote n6 whole does =
+    let same : command ≡ what = ap (λ o. unwrap_or o command) (is ∙ means) in
+    let at : end_status ended ≡ status = ap end_status stopped ∙ sym status_is in
+    let D : Meant → Type 0 = λ m. Does may m before after second second_after status in
+    let N : ℕ → Type 0 = λ n. Does may command before after second second_after n in
+    let at_stop : (n : ℕ) (s : Stop) → ((s' : Stop) → stop_status s' ≡ n → s' ≡ s) → status ≡ n → ended ≡ Err s = λ n s only at_n.
+    stopped ∙ ap Err (only stop (sym status_is ∙ at_n)) in
+    completes may what before after second second_after status (λ three. read (at_stop 3 stops.ReadFault only_read three)) (λ four. wrote (at_stop 4 stops.WriteFault only_write four)) n6
+    (λ seven. whole (at_stop 7 stops.StoreDamaged only_damage seven)) (subst D same (subst N at does))

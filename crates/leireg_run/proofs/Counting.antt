@@ -31,8 +31,14 @@ refusal_is refusals.LedgerFull is = cc
 refusal_is refusals.NotKept is = cc
 refusal_is refusals.LeiUnknown is = cc
 refusal_is refusals.NothingPublished is = cc
+refusal_is refusals.PublicationUnknown is = cc
+refusal_is refusals.NoBase is = cc
 refusal_is refusals.NoMemory is = cc
 refusal_is refusals.KeeperFault is = refl
+refusal_is refusals.Head is = cc
+refusal_is refusals.HeadTooLong is = cc
+refusal_is refusals.LengthRequired is = cc
+refusal_is (refusals.Method allowed) is = cc
 
 reply_is : (reply : Reply) → is_keeper_fault reply ≡ true → reply ≡ Words KeeperFault
 reply_is (Text code kind text) is = cc

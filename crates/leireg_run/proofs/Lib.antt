@@ -1,4 +1,3 @@
-pub mod Numbers
 pub mod Sending
 pub mod Giving
 pub mod Counting
@@ -14,3 +13,6 @@ pub mod Ending
 pub mod Stopping
 pub mod Completing
 pub mod Unopened
+pub mod FileReading
+pub mod Applied
+pub mod FileWords

@@ -13,3 +13,5 @@ pub mod Status
 pub mod Moments
 pub mod Words
 pub mod Codes
+pub mod Files
+pub mod Applying

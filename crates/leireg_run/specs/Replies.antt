@@ -8,7 +8,7 @@ use Rattle.lei_office.specs.declared.request.Asked.TheVariants.{Ask, Refuse}
 use Rattle.lei_office.specs.declared.request.Request.{Request}
 use Rattle.lei_office.specs.declared.request.Request.TheVariants as requests
 
--- A request for a file, which is a text of many lines: a copy.
+-- A request for a file, which is a text of many lines: a copy or a delta.
 abbrev pub wants_file : Request → Bool
 wants_file (requests.Accredit issuer) = false
 wants_file (requests.Upload call) = false
@@ -16,6 +16,7 @@ wants_file (requests.Kept issuer number) = false
 wants_file (requests.Publish number) = false
 wants_file (requests.Show lei) = false
 wants_file (requests.Copy sheet form) = true
+wants_file (requests.Delta base sheet form) = true
 wants_file requests.Status = false
 
 -- A file is asked for.

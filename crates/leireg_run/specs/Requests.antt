@@ -1,22 +1,17 @@
 -- What a line asks. This project's profile.
-use Rattle.std.specs.Prelude.{ℕ, ◌+◌, ◌==◌, List, take, drop, length, codes, decimal, nat_lt, nat_le, ◌&&◌, if◌then◌else◌, position, Option, Some, None, option_map, option_and_then, is_none}
+use Rattle.std.specs.Prelude.{ℕ, ◌+◌, ◌==◌, List, take, drop, length, codes, nat_lt, if◌then◌else◌, position, Option, Some, None, option_map, option_and_then}
 use Rattle.std.specs.Str.{bytes_eq}
-use Rattle.std.specs.Str.Parse.{digits_value}
-use Rattle.lei_code.specs.Fault.{fault_of}
-use Rattle.lei_code.specs.Texts.{Lei}
-use Rattle.copy_csv.specs.declared.sheets.Form.{Form}
-use Rattle.copy_csv.specs.declared.sheets.Sheet.{Sheet}
 use Rattle.lei_office.specs.Legal.{TakesMemoryToRead}
-use Rattle.lei_office.specs.Limits.{number_limit}
 use Rattle.lei_office.specs.declared.request.Request.{Request}
 use Rattle.lei_office.specs.declared.request.Request.TheVariants as requests
 use Rattle.lei_office.specs.declared.request.Asked.{Asked}
 use Rattle.lei_office.specs.declared.request.Asked.TheVariants.{Ask, Refuse}
 use Rattle.lei_office.specs.declared.reply.Refusal.TheVariants.{TooLong, NoRoute, Path}
+use Rattle.request_words.specs.Words.{base_of, code_of, form_of, number_of, sheet_of}
 use Rattle.leireg_run.specs.Limits.{line_limit}
 use Rattle.leireg_run.specs.Lines.{Line}
 use Rattle.leireg_run.specs.declared.requests.FirstWord.{FirstWord}
-use Rattle.leireg_run.specs.declared.requests.FirstWord.TheVariants.{Accredit, Upload, Kept, Publish, Show, Copy, Status}
+use Rattle.leireg_run.specs.declared.requests.FirstWord.TheVariants.{Accredit, Upload, Kept, Publish, Show, Copy, Delta, Status}
 
 infixl 10 ◌>>=◌
 -- What is made of a value, where there is one.
@@ -28,31 +23,6 @@ o >>= f = option_and_then f o
 -- The bytes before the first space and those behind it, where there is a space.
 abbrev pub cut : List ℕ → Option (List ℕ × List ℕ)
 cut bytes = option_map (λ n. (take n bytes, drop (n + 1) bytes)) (position (λ b. b == 32) bytes)
-
--- The bytes, where they are an LEI.
-abbrev pub code_of : List ℕ → Option Lei
-code_of bytes = if is_none (fault_of bytes) then Some bytes else None
-
--- The number, where it lies from 1 to its limit and the bytes are just its decimal text.
-abbrev pub plain_number : List ℕ → ℕ → Option ℕ
-plain_number bytes n = if nat_le 1 n && nat_le n number_limit && bytes_eq (decimal n) bytes then Some n else None
-
--- The number from 1 to its limit that is written so in decimal, without sign or leading zero.
-unfoldable pub number_of : List ℕ → Option ℕ
-number_of bytes = plain_number bytes (digits_value 10 bytes)
-
--- The sheet that has this name.
-abbrev pub sheet_of : List ℕ → Option Sheet
-sheet_of word =
-    if bytes_eq word (codes "lei") then Some Sheet.Lei
-    else (if bytes_eq word (codes "rr") then Some Sheet.Rr
-    else (if bytes_eq word (codes "repex") then Some Sheet.Repex else None))
-
--- The form that has this name.
-abbrev pub form_of : List ℕ → Option Form
-form_of word =
-    if bytes_eq word (codes "csv") then Some Form.Csv
-    else (if bytes_eq word (codes "json") then Some Form.Json else None)
 
 -- ---- requests, by what stands behind the first word and its space
 
@@ -75,6 +45,16 @@ copy_of rest = do
   sheet ← sheet_of parts.0
   form ← form_of parts.1
   Some (requests.Copy sheet form)
+
+-- DELTA: a base, a sheet and a form.
+unfoldable pub delta_of : List ℕ → Option Request
+delta_of rest = do
+  first ← cut rest
+  second ← cut first.1
+  base ← base_of first.0
+  sheet ← sheet_of second.0
+  form ← form_of second.1
+  Some (requests.Delta base sheet form)
 
 -- KEPT: an LEI and a number.
 unfoldable pub kept_of : List ℕ → Option Request
@@ -102,7 +82,8 @@ first_word word =
     else (if bytes_eq word (codes "PUBLISH") then Some Publish
     else (if bytes_eq word (codes "SHOW") then Some Show
     else (if bytes_eq word (codes "COPY") then Some Copy
-    else (if bytes_eq word (codes "STATUS") then Some Status else None))))))
+    else (if bytes_eq word (codes "DELTA") then Some Delta
+    else (if bytes_eq word (codes "STATUS") then Some Status else None)))))))
 
 -- The request that a first word makes alone: STATUS, to which no other word belongs.
 abbrev pub request_alone : FirstWord → Option Request
@@ -112,6 +93,7 @@ request_alone Kept = None
 request_alone Publish = None
 request_alone Show = None
 request_alone Copy = None
+request_alone Delta = None
 request_alone Status = Some requests.Status
 
 -- The request that a first word makes with what stands behind its space.
@@ -122,6 +104,7 @@ request_with Kept rest = kept_of rest
 request_with Publish rest = publication_of rest
 request_with Show rest = show_of rest
 request_with Copy rest = copy_of rest
+request_with Delta rest = delta_of rest
 request_with Status rest = None
 
 -- The request that a first word makes with what stands behind its space, where there is a space.

@@ -1,16 +1,21 @@
 -- What the words behind the program's name ask for. This project's profile.
-use Rattle.std.specs.Prelude.{◌≡◌, List, [], ◌∷◌, ◌&&◌, codes, map, string_bytes, String, if◌then◌else◌, is_some, Option, None, Some}
+use Rattle.std.specs.Prelude.{◌≡◌, List, [], ◌∷◌, Bool, true, false, ◌&&◌, codes, map, string_bytes, String, if◌then◌else◌, is_some, Option, None, Some}
 use Rattle.std.specs.Global.{Global}
 use Rattle.std.specs.Str.{bytes_eq}
+use Rattle.copy_csv.specs.declared.sheets.Form.{Form}
+use Rattle.copy_csv.specs.declared.sheets.Sheet.{Sheet}
 use Rattle.lei_code.specs.Texts.{Text}
+use Rattle.request_words.specs.Words.{form_of, sheet_of}
 use Rattle.leireg_run.specs.declared.command.Command.{Command}
 use Rattle.leireg_run.specs.declared.command.Command.TheVariants as commands
 
--- To answer the lines of the input, to say whether a text is an LEI, or to make the check digits of a text.
+-- To answer the lines of the input, to say whether a text is an LEI, to make the check digits of a text, or to patch a copy
+-- of this sheet and form by a delta.
 pub data Meant : Type 0 where
   to_answer_lines : Meant
   to_check : Text → Meant
   to_make_digits : Text → Meant
+  to_patch : Sheet → Form → Meant
 
 -- One word: `lines`.
 abbrev pub meant_alone : Text → Option Meant
@@ -26,13 +31,21 @@ abbrev pub meant_over : Text → Text → Option Meant
 meant_over word option = if bytes_eq word (codes "lines") && bytes_eq option (codes "--store")
     then Some to_answer_lines else None
 
+-- Five words: `apply`, the names of a sheet and a form, and the paths of a copy and of a delta, which may be any texts.
+abbrev pub meant_by : Text → Option Sheet → Option Form → Option Meant
+meant_by word None form = None
+meant_by word (Some sheet) None = None
+meant_by word (Some sheet) (Some form) = if bytes_eq word (codes "apply") then Some (to_patch sheet form) else None
+
 -- What the words ask for, and nothing where they are no command.
 abbrev pub meant : List Text → Option Meant
 meant [] = None
 meant (word ∷ []) = meant_alone word
 meant (word ∷ text ∷ []) = meant_with word text
 meant (word ∷ option ∷ path ∷ []) = meant_over word option
-meant (word ∷ option ∷ path ∷ other ∷ others) = None
+meant (word ∷ table ∷ form ∷ copy ∷ []) = None
+meant (word ∷ table ∷ form ∷ copy ∷ delta ∷ []) = meant_by word (sheet_of table) (form_of form)
+meant (word ∷ table ∷ form ∷ copy ∷ delta ∷ other ∷ others) = None
 
 -- The path of the store that the words name, and none where they are no command over a store.
 abbrev pub store_path : List Text → Option Text
@@ -41,6 +54,31 @@ store_path (word ∷ []) = None
 store_path (word ∷ option ∷ []) = None
 store_path (word ∷ option ∷ path ∷ []) = if is_some (meant_over word option) then Some path else None
 store_path (word ∷ option ∷ path ∷ other ∷ others) = None
+
+-- The paths of the copy and of the delta that the words name, and none where they aren't to patch a copy.
+abbrev pub file_paths : List Text → Option (Text × Text)
+file_paths [] = None
+file_paths (word ∷ []) = None
+file_paths (word ∷ table ∷ []) = None
+file_paths (word ∷ table ∷ form ∷ []) = None
+file_paths (word ∷ table ∷ form ∷ copy ∷ []) = None
+file_paths (word ∷ table ∷ form ∷ copy ∷ delta ∷ []) =
+    if is_some (meant_by word (sheet_of table) (form_of form)) then Some (copy, delta) else None
+file_paths (word ∷ table ∷ form ∷ copy ∷ delta ∷ other ∷ others) = None
+
+-- The command reads its first input.
+abbrev pub reads_input : Meant → Bool
+reads_input to_answer_lines = true
+reads_input (to_check text) = false
+reads_input (to_make_digits text) = false
+reads_input (to_patch sheet form) = true
+
+-- The command reads its second input.
+abbrev pub reads_second : Meant → Bool
+reads_second to_answer_lines = false
+reads_second (to_check text) = false
+reads_second (to_make_digits text) = false
+reads_second (to_patch sheet form) = true
 
 -- The words of a command line mean this.
 abbrev pub Mean : List (String Global) → Meant → Type 0
@@ -51,3 +89,4 @@ abbrev pub meaning : Command → Meant
 meaning commands.Lines = to_answer_lines
 meaning (commands.Check code) = to_check code.now
 meaning (commands.Digits text) = to_make_digits text.now
+meaning (commands.Apply sheet form) = to_patch sheet form

@@ -1,6 +1,10 @@
 //! What the words behind the program's name ask for.
 ghost use Rattle.std.specs.Prelude.{◌≡◌, map, option_map, string_bytes};
-ghost use Rattle.leireg_run.specs.Words.{meant, meant_alone, meant_over, meant_with, meaning, store_path};
+ghost use Rattle.request_words.specs.Words.{form_of, sheet_of};
+ghost use Rattle.leireg_run.specs.Words.{file_paths, meant, meant_alone, meant_by, meant_over, meant_with, meaning, store_path};
+
+use copy_csv::{Form, Sheet};
+use request_words::{form_of, sheet_of};
 
 /// A command of the program, with its text. This project's profile.
 #[derive(Clone, Copy)]
@@ -11,6 +15,8 @@ pub enum Command<'a> {
     Check(&'a str),
     /// To make the check digits of the first 18 characters of a code.
     Digits(&'a str),
+    /// To patch a copy of this sheet and form by a delta.
+    Apply(Sheet, Form),
 }
 
 /// The command that these words are, exactly. A text may be any, the empty one too.
@@ -21,6 +27,7 @@ pub fn command_of(words: &[String]) -> Option<Command<'_>>
         [word] => command_alone(word.as_str()),
         [word, text] => command_with(word.as_str(), text.as_str()),
         [word, option, _] => command_over(word.as_str(), option.as_str()),
+        [word, table, form, _, _] => command_by(word.as_str(), table.as_str(), form.as_str()),
         _ => None,
     }
 }
@@ -34,6 +41,21 @@ pub fn store_path(words: &[String]) -> Option<&str>
             Some(_) => Some(path.as_str()),
             None => None,
         },
+        _ => None,
+    }
+}
+
+/// The paths of the copy and of the delta that these words name. None where they aren't to patch a copy.
+pub fn file_paths(words: &[String]) -> Option<(&str, &str)>
+    ensures { option_map (λ paths. (paths.0.now, paths.1.now)) result ≡ file_paths (map string_bytes words.now) }
+{
+    match words {
+        [word, table, form, copy, delta] => {
+            match command_by(word.as_str(), table.as_str(), form.as_str()) {
+                Some(_) => Some((copy.as_str(), delta.as_str())),
+                None => None,
+            }
+        }
         _ => None,
     }
 }
@@ -65,5 +87,18 @@ fn command_with<'a>(word: &str, text: &'a str) -> Option<Command<'a>>
         "check" => Some(Command::Check(text)),
         "digits" => Some(Command::Digits(text)),
         _ => None,
+    }
+}
+
+fn command_by<'a>(word: &str, table: &str, form: &str) -> Option<Command<'a>>
+    ensures { option_map meaning result ≡ meant_by word.now (sheet_of table.now) (form_of form.now) }
+{
+    let (Some(sheet), Some(form)) = (sheet_of(table.as_bytes()), form_of(form.as_bytes())) else {
+        return None;
+    };
+    if word == "apply" {
+        Some(Command::Apply(sheet, form))
+    } else {
+        None
     }
 }

@@ -1,10 +1,12 @@
-//! The commands of the program, over any source, any sink and any clock.
+//! The commands of the program, over any sources, any sink, any keeper and any clock.
 #![tactic(auto)]
 
 mod answering;
+mod applying;
 mod codes;
 mod command;
 mod damage;
+mod files;
 pub mod laws;
 mod outbox;
 mod program;
@@ -14,5 +16,6 @@ pub mod status;
 mod window;
 mod writing;
 
-pub use command::store_path;
+pub use command::{file_paths, store_path};
+pub use files::{MAX_FILE, no_file};
 pub use program::{MAX_INPUT, run};

@@ -1,5 +1,5 @@
-//! The program's run, from its words, its input, its output, its keeper and its clock to its status.
-ghost use Rattle.std.specs.Prelude.{◌≡◌, ◌≢◌, ◌↔◌, [], None, Ok, Option, map, string_bytes, IsErrOf};
+//! The program's run, from its words, its inputs, its output, its keeper and its clock to its status.
+ghost use Rattle.std.specs.Prelude.{◌≡◌, ◌≢◌, ◌↔◌, [], None, Ok, false, Option, map, string_bytes, IsErrOf};
 ghost use Rattle.lei_outside.specs.Count.{Rose};
 ghost use Rattle.lei_outside.specs.Faults.{FailsLast};
 ghost use Rattle.lei_outside.specs.Keeping.{KeptTables};
@@ -9,8 +9,10 @@ ghost use Rattle.leireg_run.specs.Ends.{RunsFrom, RunsLines, Does, Completes, Is
 ghost use Rattle.leireg_run.specs.Outside.{outside};
 ghost use Rattle.leireg_run.specs.Reading.{Holds};
 ghost use Rattle.leireg_run.specs.Status.{end_status};
-ghost use Rattle.leireg_run.specs.Words.{Meant, to_answer_lines, meant, meaning, Mean};
+ghost use Rattle.leireg_run.specs.Applying.{FailsOneOf};
+ghost use Rattle.leireg_run.specs.Words.{Meant, to_answer_lines, meant, meaning, reads_input, reads_second, Mean};
 
+use crate::applying::apply;
 use crate::codes::{check, digits};
 use crate::command::{Command, command_of};
 use crate::damage::write_damage;
@@ -28,65 +30,74 @@ pub const MAX_INPUT: usize = 4_294_967_296;
 /// Does what the words ask for, which are the program's words without its name. Says the status that it ends with, and
 /// gives the keeper back. Lines are answered from the office of what the keeper has. The clock is asked for one moment for
 /// each line that asks something, after the line was read.
-pub fn run<R: Threads + Sync, S: Source, W: Sink, K: Keeper, C: Clock>(
+pub fn run<R: Threads + Sync, S: Source, T: Source, W: Sink, K: Keeper, C: Clock>(
     rt: &R,
     alloc: Global,
     words: &[String],
     input: &mut S,
+    second: &mut T,
     out: &mut W,
     keeper: K,
     clock: &mut C,
 ) -> (u8, K)
     ensures usage { result.0 ≡ 1 ↔ (meant (map string_bytes words.now) ≡ None) }
-    ensures untouched { result.0 ≡ 1 → out.new ≡ out.old }
-    ensures unread { ¬ (Mean words.now to_answer_lines) → input.new ≡ input.old }
+    ensures untouched { result.0 ≡ 1 → (out.new ≡ out.old) × (input.new ≡ input.old) × (second.new ≡ second.old) }
+    ensures unread { (what : Meant) → Mean words.now what → reads_input what ≡ false → input.new ≡ input.old }
+    ensures second_unread { (what : Meant) → Mean words.now what → reads_second what ≡ false → second.new ≡ second.old }
     ensures unasked { ¬ (Mean words.now to_answer_lines) → clock.new ≡ clock.old }
     ensures unkept { ¬ (Mean words.now to_answer_lines) → result.1 ≡ keeper }
     ensures unopened { IsUnopened result.0 → (input.new ≡ input.old) × (clock.new ≡ clock.old) }
     ensures does { (what : Meant) → Mean words.now what → Does (MayTell K.tables) what
         (outside (S.left input.old) (C.given clock.old) (W.written out.old) (K.tables keeper) (K.faults keeper))
         (outside (S.left input.new) (C.given clock.new) (W.written out.new) (K.tables result.1) (K.faults result.1))
-        result.0 }
-    ensures read_fault { result.0 ≡ 3 → FailsLast S.left S.faults input.old input.new }
+        (T.left second.old) (T.left second.new) result.0 }
+    ensures read_fault { result.0 ≡ 3 → FailsOneOf S.left S.faults input.old input.new
+        T.left T.faults second.old second.new }
     ensures no_read_fault { result.0 ≢ 3 → S.faults input.new ≡ S.faults input.old }
+    ensures no_second_fault { result.0 ≢ 3 → T.faults second.new ≡ T.faults second.old }
     ensures write_fault { result.0 ≡ 4 → FailsLast W.written W.faults out.old out.new }
     ensures no_write_fault { result.0 ≢ 4 → result.0 ≢ 7 → W.faults out.new ≡ W.faults out.old }
     ensures damage_fault { result.0 ≡ 7 → Rose (W.faults out.old) (W.faults out.new) → FailsLast W.written W.faults out.old out.new }
     ensures complete { (what : Meant) → Mean words.now what → result.0 ≢ 6
-        → ¬ (Rose (S.faults input.old) (S.faults input.new)) → ¬ (Rose (W.faults out.old) (W.faults out.new))
+        → ¬ (Rose (S.faults input.old) (S.faults input.new)) → ¬ (Rose (T.faults second.old) (T.faults second.new))
+        → ¬ (Rose (W.faults out.old) (W.faults out.new))
         → Completes (MayTell K.tables) what
         (outside (S.left input.old) (C.given clock.old) (W.written out.old) (K.tables keeper) (K.faults keeper))
         (outside (S.left input.new) (C.given clock.new) (W.written out.new) (K.tables result.1) (K.faults result.1))
-        result.0 }
+        (T.left second.old) (T.left second.new) result.0 }
 {
     let Some(command) = command_of(words) else {
         return (USAGE, keeper);
     };
-    match run_command(rt, alloc, &command, input, out, keeper, clock) {
+    match run_command(rt, alloc, &command, input, second, out, keeper, clock) {
         (Ok(()), keeper) => (OK, keeper),
         (Err(stop), keeper) => (stop.status(), keeper),
     }
 }
 
-fn run_command<R: Threads + Sync, S: Source, W: Sink, K: Keeper, C: Clock>(
+fn run_command<R: Threads + Sync, S: Source, T: Source, W: Sink, K: Keeper, C: Clock>(
     rt: &R,
     alloc: Global,
     command: &Command<'_>,
     input: &mut S,
+    second: &mut T,
     out: &mut W,
     keeper: K,
     clock: &mut C,
 ) -> (Result<(), Stop>, K)
-    ensures unread { ¬ (meaning command.now ≡ to_answer_lines) → input.new ≡ input.old }
+    ensures unread { reads_input (meaning command.now) ≡ false → input.new ≡ input.old }
+    ensures second_unread { reads_second (meaning command.now) ≡ false → second.new ≡ second.old }
     ensures unasked { ¬ (meaning command.now ≡ to_answer_lines) → clock.new ≡ clock.old }
     ensures unkept { ¬ (meaning command.now ≡ to_answer_lines) → result.1 ≡ keeper }
     ensures unopened { IsUnopened (end_status result.0) → (input.new ≡ input.old) × (clock.new ≡ clock.old) }
     ensures does { Does (MayTell K.tables) (meaning command.now)
         (outside (S.left input.old) (C.given clock.old) (W.written out.old) (K.tables keeper) (K.faults keeper))
         (outside (S.left input.new) (C.given clock.new) (W.written out.new) (K.tables result.1) (K.faults result.1))
-        (end_status result.0) }
-    ensures read_fault { IsErrOf result.0 Stop.ReadFault → FailsLast S.left S.faults input.old input.new }
+        (T.left second.old) (T.left second.new) (end_status result.0) }
+    ensures read_fault { IsErrOf result.0 Stop.ReadFault → FailsOneOf S.left S.faults input.old input.new
+        T.left T.faults second.old second.new }
     ensures no_read_fault { ¬ (IsErrOf result.0 Stop.ReadFault) → S.faults input.new ≡ S.faults input.old }
+    ensures no_second_fault { ¬ (IsErrOf result.0 Stop.ReadFault) → T.faults second.new ≡ T.faults second.old }
     ensures write_fault { IsErrOf result.0 Stop.WriteFault → FailsLast W.written W.faults out.old out.new }
     ensures no_write_fault { ¬ (IsErrOf result.0 Stop.WriteFault) → ¬ (IsErrOf result.0 Stop.StoreDamaged)
         → W.faults out.new ≡ W.faults out.old }
@@ -102,6 +113,7 @@ fn run_command<R: Threads + Sync, S: Source, W: Sink, K: Keeper, C: Clock>(
         Command::Lines => run_lines(rt, alloc, input, out, keeper, clock),
         Command::Check(code) => (check(code, out), keeper),
         Command::Digits(text) => (digits(text, out), keeper),
+        Command::Apply(sheet, form) => (apply(alloc, *sheet, *form, input, second, out), keeper),
     }
 }
 

@@ -1,12 +1,11 @@
 //! What a line asks.
-ghost use Rattle.std.specs.Prelude.{◌≡◌, None, Some, option_map, option_and_then, position, decimal, length, ◌==◌, ◌<◌, ◌↔◌, IfOk, IfSome, OnErr, IsTrue};
+ghost use Rattle.std.specs.Prelude.{◌≡◌, None, Some, option_map, option_and_then, position, length, ◌==◌, ◌<◌, IfOk, IfSome, OnErr};
 ghost use Rattle.std.specs.Option.{option_copied};
-ghost use Rattle.leireg_run.specs.Requests.{cut, code_of, number_of, sheet_of, form_of, accreditation_of, copy_of, kept_of, publication_of, show_of, upload_of, first_word, request_alone, request_by, request_with, asked_by, asked, or_path, MayWantMemory};
+ghost use Rattle.leireg_run.specs.Requests.{cut, accreditation_of, copy_of, delta_of, kept_of, publication_of, show_of, upload_of, first_word, request_alone, request_by, request_with, asked_by, asked, or_path, MayWantMemory};
 
-use copy_csv::{Form, Sheet};
-use lei_code::Lei;
-use lei_office::{Asked, Call, MAX_NUMBER, Refusal, Request};
+use lei_office::{Asked, Call, Refusal, Request};
 use lei_outside::{Bytes, NoMemory};
+use request_words::{base_of, code_of, form_of, number_of, sheet_of};
 use std::alloc::Global;
 
 /// The greatest length of a line, without its end, in bytes. This project's profile.
@@ -21,6 +20,7 @@ enum FirstWord {
     Publish,
     Show,
     Copy,
+    Delta,
     Status,
 }
 
@@ -39,71 +39,6 @@ fn cut(bytes: &[u8]) -> Option<(&[u8], &[u8])>
         Some(at) => Some((&bytes[..at], &bytes[at + 1..])),
         None => None,
     }
-}
-
-// The LEI that the bytes are.
-fn code_of(bytes: &[u8]) -> Option<Lei>
-    ensures { result ≡ code_of bytes.now }
-{
-    Lei::read(bytes).ok()
-}
-
-// The number from 1 to MAX_NUMBER that is written so, without sign or leading zero.
-fn number_of(bytes: &[u8]) -> Option<u32>
-    ensures { result ≡ number_of bytes.now }
-{
-    match str::from_utf8(bytes) {
-        Ok(text) => number_in(text),
-        Err(_) => None,
-    }
-}
-
-fn number_in(text: &str) -> Option<u32>
-    ensures { result ≡ number_of text.now }
-{
-    let Ok(number) = text.parse::<u32>() else {
-        return None;
-    };
-    if 1 <= number && number <= MAX_NUMBER && is_decimal(text, number) {
-        Some(number)
-    } else {
-        None
-    }
-}
-
-fn is_decimal(text: &str, number: u32) -> bool
-    ensures { IsTrue result ↔ (text.now ≡ decimal number) }
-{
-    itoa::Buffer::new().format(number) == text
-}
-
-// The sheet that has this name.
-fn sheet_of(word: &[u8]) -> Option<Sheet>
-    ensures { result ≡ sheet_of word.now }
-{
-    if word == b"lei".as_slice() {
-        return Some(Sheet::Lei);
-    }
-    if word == b"rr".as_slice() {
-        return Some(Sheet::Rr);
-    }
-    if word == b"repex".as_slice() {
-        return Some(Sheet::Repex);
-    }
-    None
-}
-
-// The form that has this name.
-fn form_of(word: &[u8]) -> Option<Form>
-    ensures { result ≡ form_of word.now }
-{
-    if word == b"csv".as_slice() {
-        return Some(Form::Csv);
-    }
-    if word == b"json".as_slice() {
-        return Some(Form::Json);
-    }
-    None
 }
 
 #[tactic(auto, unfolding(crate::specs::Requests::upload_of))]
@@ -171,6 +106,23 @@ fn copy_of(rest: &[u8]) -> Option<Request>
     Some(Request::Copy(sheet, form))
 }
 
+#[tactic(auto, unfolding(crate::specs::Requests::delta_of))]
+fn delta_of(rest: &[u8]) -> Option<Request>
+    ensures { result ≡ delta_of rest.now }
+{
+    let Some((base, rest)) = cut(rest) else {
+        return None;
+    };
+    let Some((sheet, form)) = cut(rest) else {
+        return None;
+    };
+    let (Some(base), Some(sheet), Some(form)) = (base_of(base), sheet_of(sheet), form_of(form))
+    else {
+        return None;
+    };
+    Some(Request::Delta(base, sheet, form))
+}
+
 fn show_of(rest: &[u8]) -> Option<Request>
     ensures { result ≡ show_of rest.now }
 {
@@ -201,6 +153,9 @@ fn first_word(word: &[u8]) -> Option<FirstWord>
     if word == b"COPY".as_slice() {
         return Some(FirstWord::Copy);
     }
+    if word == b"DELTA".as_slice() {
+        return Some(FirstWord::Delta);
+    }
     if word == b"STATUS".as_slice() {
         return Some(FirstWord::Status);
     }
@@ -218,7 +173,8 @@ fn request_alone(word: FirstWord) -> Option<Request>
         | FirstWord::Kept
         | FirstWord::Publish
         | FirstWord::Show
-        | FirstWord::Copy => None,
+        | FirstWord::Copy
+        | FirstWord::Delta => None,
     }
 }
 
@@ -234,6 +190,7 @@ fn request_with(alloc: Global, word: FirstWord, rest: &[u8]) -> Result<Option<Re
         FirstWord::Publish => Ok(publication_of(rest)),
         FirstWord::Show => Ok(show_of(rest)),
         FirstWord::Copy => Ok(copy_of(rest)),
+        FirstWord::Delta => Ok(delta_of(rest)),
         FirstWord::Status => Ok(None),
     }
 }

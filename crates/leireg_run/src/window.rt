@@ -100,8 +100,8 @@ impl Window {
     }
 }
 
-// Reads once, at most a block and at most this many bytes, behind the first bytes of a buffer.
-fn read_behind<S: Source>(
+/// Reads once, at most a block and at most this many bytes, behind the first bytes of a buffer.
+pub fn read_behind<S: Source>(
     input: &mut S,
     buffer: &mut Vec<u8>,
     held: usize,

@@ -48,7 +48,7 @@ pub fn send_reply<W: Sink>(
 fn wants_file(request: &Request) -> bool
     ensures { result ≡ wants_file request.now }
 {
-    matches!(request, Request::Copy(_, _))
+    matches!(request, Request::Copy(_, _) | Request::Delta(_, _, _))
 }
 
 /// Puts a reply: its status code, a space, its text and the end of the line. Where its text is a file, the number of its

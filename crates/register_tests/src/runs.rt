@@ -3,8 +3,8 @@ use lei_outside::{
     ByteSink, ByteSource, Bytes, Failed, List, ListClock, Sink, Source, SureKeeper, SureSink,
     SureSource,
 };
-use leireg_run::run;
 use leireg_run::status::{INPUT_TOO_LONG, READ_FAULT, WRITE_FAULT};
+use leireg_run::{no_file, run};
 use std::alloc::Global;
 use std::process::Abort;
 use std::test::Fail;
@@ -37,7 +37,17 @@ fn status_of<R: Threads + Sync, S: Source, W: Sink>(
     let words = words(alloc)?;
     let mut clock = ListClock::new(List::from(Vec::new(alloc)));
     let keeper = SureKeeper::new(alloc);
-    let (status, _) = run(rt, alloc, &words, source, sink, keeper, &mut clock);
+    let mut second = no_file(alloc);
+    let (status, _) = run(
+        rt,
+        alloc,
+        &words,
+        source,
+        &mut second,
+        sink,
+        keeper,
+        &mut clock,
+    );
     Ok((status, clock.calls()))
 }
 

@@ -5,7 +5,7 @@ use lei_outside::{
     Bytes, Clock, Keeper, KeptCell, KeptEntry, List, MapKeeper, NoMemory, SureSink, SureSource,
     may_be_kept,
 };
-use leireg_run::run;
+use leireg_run::{no_file, run};
 use std::alloc::Global;
 use std::process::Abort;
 use std::test::Fail;
@@ -124,7 +124,17 @@ fn answers<R: Threads + Sync>(
     words: &[String],
     keeper: MapKeeper,
 ) -> (u8, MapKeeper) {
-    run(rt, alloc, words, lines, sink, keeper, &mut Still)
+    let mut second = no_file(alloc);
+    run(
+        rt,
+        alloc,
+        words,
+        lines,
+        &mut second,
+        sink,
+        keeper,
+        &mut Still,
+    )
 }
 
 // The lines that accredit an issuer and send an upload of two records and many of one that is rejected.

@@ -1,5 +1,5 @@
 //! What is told of sessions.
-ghost use Rattle.std.specs.Prelude.{◌≤◌};
+ghost use Rattle.std.specs.Prelude.{◌≡◌, ◌≤◌, ◌↔◌, IfOk, IsTrue};
 
 use crate::file::remove;
 use crate::stores::Store;
@@ -115,7 +115,10 @@ fn is_wanted<R: Print + AllocGlobal>(
     size: usize,
     run: &Run,
     came: &Came,
-) -> io::Result<bool> {
+) -> io::Result<bool>
+    ensures { IfOk result (λ wanted. IsTrue wanted
+        ↔ ((came.now.written ≡ run.now.expected) × (came.now.status ≡ run.now.status))) }
+{
     if came.is(run) {
         return Ok(true);
     }

@@ -13,6 +13,7 @@ use std::thread::Threads;
 #[derive(Drop)]
 pub struct Devices {
     source: SureSource,
+    second: SureSource,
     sink: SureSink,
     clock: ListClock,
 }
@@ -24,6 +25,7 @@ impl Devices {
     {
         Ok(Devices {
             source: SureSource::new(Bytes::copy_of(alloc, wanted.sent())?, most),
+            second: SureSource::new(Bytes::copy_of(alloc, wanted.second())?, most),
             sink: SureSink::new(alloc, most),
             clock: wanted.clock(alloc)?,
         })
@@ -42,6 +44,7 @@ impl Devices {
             alloc,
             wanted.words(),
             &mut self.source,
+            &mut self.second,
             &mut self.sink,
             keeper,
             &mut self.clock,

@@ -3,7 +3,12 @@ use leireg_run::status::{INPUT_TOO_LONG, NO_MEMORY, READ_FAULT, REFUSED, USAGE, 
 
 #[test]
 fn names_each_command_with_its_words(rt: HostRuntime) {
-    for words in ["leireg lines", "leireg check CODE", "leireg digits TEXT"] {
+    for words in [
+        "leireg lines",
+        "leireg apply TABLE FORM COPY DELTA",
+        "leireg check CODE",
+        "leireg digits TEXT",
+    ] {
         assert!(rt; help_text(USAGE).contains(words), "{words}");
     }
 }
