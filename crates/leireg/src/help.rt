@@ -7,7 +7,8 @@ const COMMANDS: &'static str = "usage:
   leireg lines [--store PATH]         answers each line of the standard input, as in ACCREDIT OFFICE, UPLOAD OFFICE NUMBER BODY, KEPT OFFICE NUMBER, PUBLISH NUMBER, SHOW LEI, COPY TABLE FORM, DELTA BASE TABLE FORM or STATUS, and keeps the register in the file PATH
   leireg apply TABLE FORM COPY DELTA  writes the golden copy that the one in the file COPY becomes by the delta in the file DELTA; TABLE is lei, rr or repex, and FORM is csv or json
   leireg check CODE                   tells whether CODE is a Legal Entity Identifier
-  leireg digits TEXT                  makes the check digits of TEXT, the first 18 characters of a code";
+  leireg digits TEXT                  makes the check digits of TEXT, the first 18 characters of a code
+  leireg demo N                       makes up a register of N records, from 2 to 100000, publishes it, and tells what became of it";
 
 /// What helps a person, printed after the word of a status: how the program is called, or one line.
 pub fn help_text(status: u8) -> &'static str {

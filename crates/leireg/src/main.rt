@@ -6,6 +6,7 @@ mod clock;
 mod fakes;
 mod files;
 mod help;
+mod progress;
 mod streams;
 mod watched;
 
@@ -16,6 +17,7 @@ use keeper_sqlite::SqliteKeeper;
 use lei_outside::{Keeper, Source, SureKeeper};
 use leireg_run::status::{NO_MEMORY, OK, USAGE, status_text};
 use leireg_run::{file_paths, no_file, run, store_path};
+use progress::Counted;
 use std::fs::File;
 use std::process::ExitCode;
 use std::{env, io};
@@ -77,6 +79,7 @@ fn run_between<S: Source, T: Source, K: Keeper>(
 ) -> (u8, K) {
     let mut out = StdSink::new(rt.stdout());
     let mut clock = SystemClock::new(rt);
+    let mut progress = Counted::new(rt);
     run(
         rt,
         rt.alloc(),
@@ -86,6 +89,7 @@ fn run_between<S: Source, T: Source, K: Keeper>(
         &mut out,
         keeper,
         &mut clock,
+        &mut progress,
     )
 }
 

@@ -13,14 +13,16 @@ use Rattle.lei_office.specs.State.{OfficeState}
 use Rattle.lei_office.proofs.Sessions.{exact}
 use Rattle.leireg_run.specs.Codes.{check_line, digits_fault, digits_line, told_status, TellsLine}
 use Rattle.lei_outside.specs.Keeping.{KeptTables}
-use Rattle.leireg_run.specs.Ends.{AnswersLines, Completes, Does, EndsWith, FailsToOpen, IsComplete, Opens, TellsDamage}
+use Rattle.leireg_run.specs.Ends.{AnswersLines, Completes, Does, EndsWith, FailsToOpen, IsComplete, Opens, TellsDamage, TellsSummary}
 use Rattle.leireg_run.specs.Applying.{files}
+use Rattle.register_demo.specs.Session.{IsSummary}
+use Rattle.lei_code.specs.Texts.{Text}
 use Rattle.leireg_run.proofs.Applied.{completes_files}
 use Rattle.leireg_run.specs.Faults.{RoseBy, keeper_faults}
 use Rattle.leireg_run.specs.Limits.{input_limit}
 use Rattle.leireg_run.specs.Outside.{Course, Leads, Outside}
 use Rattle.leireg_run.specs.Runs.{asks_of}
-use Rattle.leireg_run.specs.Words.{Meant, to_answer_lines, to_check, to_make_digits, to_patch}
+use Rattle.leireg_run.specs.Words.{Meant, to_answer_lines, to_check, to_make_digits, to_make_up, to_patch}
 use Rattle.leireg_run.specs.Status.{end_status, stop_status}
 use Rattle.leireg_run.specs.declared.status.Stop.{Stop}
 use Rattle.leireg_run.specs.declared.status.Stop.TheVariants as stops
@@ -105,6 +107,13 @@ unopened_done before after status n6 whole is = elim is.ends [
   | inr (inr (inr damaged)) ↦ inr (damaged.0, whole damaged.0)
 ]
 
+summary_done : (records : ℕ) (before after : Option (List ℕ)) (status : ℕ) → status ≢ 4 → status ≢ 6 → TellsSummary records before after status
+    → (status ≡ 0) × ((text : Text) × IsSummary records text × Grows before after text)
+summary_done records before after status n4 n6 (inl (text, is, inl told)) = (told.0, text, is, told.1)
+summary_done records before after status n4 n6 (inl (text, is, inr (inl failed))) = absurd (n4 failed.0)
+summary_done records before after status n4 n6 (inl (text, is, inr (inr wanted))) = absurd (n6 wanted.0)
+summary_done records before after status n4 n6 (inr wanted) = absurd (n6 wanted.0)
+
 pub completes : (may : Option KeptTables → Type 0) (what : Meant) (before after : Outside) (second second_after : Option (List ℕ)) (status : ℕ) → status ≢ 3 → status ≢ 4 → status ≢ 6
     → (status ≡ 7 → TellsDamage {E = Unit {0}} before after (Ok (tt {0}))) → Does may what before after second second_after status
     → Completes may what before after second second_after status
@@ -118,6 +127,7 @@ completes may (to_make_digits text) before after second second_after status n3 n
     tells_done (digits_fault text) (digits_line text) before.written after.written status n4 n6 tells
 completes may (to_patch sheet form) before after second second_after status n3 n4 n6 whole applies =
     completes_files sheet form (files before.left second before.written) (files after.left second_after after.written) status n3 n4 n6 applies
+completes may (to_make_up records) before after second second_after status n3 n4 n6 whole tells = summary_done records before.written after.written status n4 n6 tells
 
 -- the stops of these statuses
 only_read : (stop : Stop) → stop_status stop ≡ 3 → stop ≡ stops.ReadFault

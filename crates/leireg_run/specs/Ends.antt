@@ -24,8 +24,9 @@ use Rattle.leireg_run.specs.Replies.{reply_texts}
 use Rattle.leireg_run.specs.Runs.{asks_of, Answers, AnswersInPart}
 use Rattle.leireg_run.specs.declared.status.Stop.{Stop}
 use Rattle.leireg_run.specs.declared.status.Stop.TheVariants as stops
+use Rattle.register_demo.specs.Session.{IsSummary}
 use Rattle.leireg_run.specs.Applying.{AppliesFiles, CompletesFiles, files}
-use Rattle.leireg_run.specs.Words.{Meant, to_answer_lines, to_check, to_make_digits, to_patch}
+use Rattle.leireg_run.specs.Words.{Meant, to_answer_lines, to_check, to_make_digits, to_make_up, to_patch}
 
 -- ---- a run over lines, status by status
 
@@ -150,11 +151,23 @@ IsDamageTold before after text stop =
 abbrev pub RunsLines : (Option KeptTables → Type 0) → Outside → Outside → ℕ → Type 0
 RunsLines may before after status = OpensAndRuns may before after status ⊎ FailsToOpen before after status
 
+-- ---- a made-up register
+
+-- The summary was written whole; or a write failed, or memory was wanted, and a front of it was written and not all; or
+-- nothing was written, since memory was wanted for it.
+abbrev pub TellsSummary : ℕ → Option (List ℕ) → Option (List ℕ) → ℕ → Type 0
+TellsSummary records before after status =
+    ((text : Text) × IsSummary records text
+    × (((status ≡ 0) × Grows before after text)
+    ⊎ ((status ≡ 4) × WritesFront before after text)
+    ⊎ ((status ≡ 6) × WritesFront before after text)))
+    ⊎ ((status ≡ 6) × (after ≡ before))
+
 -- ---- any command
 
 -- What was meant was done, with this status: a store was opened, where the keeper may tell so, and the lines of the input
--- were answered; the line of a text was written; or two files were read, of which the second is told apart, and what comes
--- of them was written.
+-- were answered; the line of a text was written; two files were read, of which the second is told apart, and what comes of
+-- them was written; or the summary of a made-up register was.
 abbrev pub Does : (Option KeptTables → Type 0) → Meant → Outside → Outside → Option (List ℕ) → Option (List ℕ) → ℕ → Type 0
 Does may to_answer_lines before after second_before second_after status = RunsLines may before after status
 Does may (to_check text) before after second_before second_after status =
@@ -163,6 +176,8 @@ Does may (to_make_digits text) before after second_before second_after status =
     TellsLine (digits_fault text) (digits_line text) before.written after.written status
 Does may (to_patch sheet form) before after second_before second_after status =
     AppliesFiles sheet form (files before.left second_before before.written) (files after.left second_after after.written) status
+Does may (to_make_up records) before after second_before second_after status =
+    TellsSummary records before.written after.written status
 
 -- All of these bytes were read, their lines answered at moments of the clock from the office that was opened on, and the
 -- replies written, with status 0. Where the keeper doesn't fail and memory is never wanting, the replies are those that
@@ -185,7 +200,8 @@ pub record IsComplete (may : Option KeptTables → Type 0) (bytes : List ℕ) (b
 
 -- Where no source and no sink fails and no memory is wanting, all is done: an input that is told and short enough is
 -- answered whole, unless a call of the keeper failed while its store was opened, or the store is damaged, which is told
--- whole; a text is told, with status 0 or 2; and files that are told and short enough are answered, with status 0 or 2.
+-- whole; a text is told, with status 0 or 2; files that are told and short enough are answered, with status 0 or 2; and a
+-- register is made up and told, with status 0.
 abbrev pub Completes : (Option KeptTables → Type 0) → Meant → Outside → Outside → Option (List ℕ) → Option (List ℕ) → ℕ → Type 0
 Completes may to_answer_lines before after second_before second_after status =
     (bytes : List ℕ) → before.left ≡ Some bytes → length bytes < input_limit
@@ -196,3 +212,5 @@ Completes may (to_check text) before after second_before second_after status = s
 Completes may (to_make_digits text) before after second_before second_after status = status ≡ told_status (digits_fault text)
 Completes may (to_patch sheet form) before after second_before second_after status =
     CompletesFiles sheet form (files before.left second_before before.written) (files after.left second_after after.written) status
+Completes may (to_make_up records) before after second_before second_after status =
+    (status ≡ 0) × ((text : Text) × IsSummary records text × Grows before.written after.written text)

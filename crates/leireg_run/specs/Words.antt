@@ -1,30 +1,32 @@
 -- What the words behind the program's name ask for. This project's profile.
-use Rattle.std.specs.Prelude.{◌≡◌, List, [], ◌∷◌, Bool, true, false, ◌&&◌, codes, map, string_bytes, String, if◌then◌else◌, is_some, Option, None, Some}
+use Rattle.std.specs.Prelude.{◌≡◌, ◌≤◌, ℕ, List, [], ◌∷◌, Bool, true, false, ◌&&◌, codes, map, string_bytes, String, if◌then◌else◌, is_some, Option, None, Some, option_map}
 use Rattle.std.specs.Global.{Global}
 use Rattle.std.specs.Str.{bytes_eq}
 use Rattle.copy_csv.specs.declared.sheets.Form.{Form}
 use Rattle.copy_csv.specs.declared.sheets.Sheet.{Sheet}
 use Rattle.lei_code.specs.Texts.{Text}
-use Rattle.request_words.specs.Words.{form_of, sheet_of}
+use Rattle.request_words.specs.Words.{form_of, number_within, sheet_of}
 use Rattle.leireg_run.specs.declared.command.Command.{Command}
 use Rattle.leireg_run.specs.declared.command.Command.TheVariants as commands
 
--- To answer the lines of the input, to say whether a text is an LEI, to make the check digits of a text, or to patch a copy
--- of this sheet and form by a delta.
+-- To answer the lines of the input, to say whether a text is an LEI, to make the check digits of a text, to patch a copy of
+-- this sheet and form by a delta, or to make up a register of so many records.
 pub data Meant : Type 0 where
   to_answer_lines : Meant
   to_check : Text → Meant
   to_make_digits : Text → Meant
   to_patch : Sheet → Form → Meant
+  to_make_up : ℕ → Meant
 
 -- One word: `lines`.
 abbrev pub meant_alone : Text → Option Meant
 meant_alone word = if bytes_eq word (codes "lines") then Some to_answer_lines else None
 
--- Two words: `check` or `digits`, and any text, the empty one too.
+-- Two words: `check` or `digits`, and any text, the empty one too; or `demo` and a number from 2 to 100,000.
 abbrev pub meant_with : Text → Text → Option Meant
 meant_with word text = if bytes_eq word (codes "check") then Some (to_check text)
-    else (if bytes_eq word (codes "digits") then Some (to_make_digits text) else None)
+    else (if bytes_eq word (codes "digits") then Some (to_make_digits text)
+    else (if bytes_eq word (codes "demo") then option_map to_make_up (number_within 2 100_000 text) else None))
 
 -- Three words: `lines`, `--store` and the path of a store, which may be any text, the empty one too.
 abbrev pub meant_over : Text → Text → Option Meant
@@ -72,6 +74,7 @@ reads_input to_answer_lines = true
 reads_input (to_check text) = false
 reads_input (to_make_digits text) = false
 reads_input (to_patch sheet form) = true
+reads_input (to_make_up records) = false
 
 -- The command reads its second input.
 abbrev pub reads_second : Meant → Bool
@@ -79,6 +82,7 @@ reads_second to_answer_lines = false
 reads_second (to_check text) = false
 reads_second (to_make_digits text) = false
 reads_second (to_patch sheet form) = true
+reads_second (to_make_up records) = false
 
 -- The words of a command line mean this.
 abbrev pub Mean : List (String Global) → Meant → Type 0
@@ -90,3 +94,12 @@ meaning commands.Lines = to_answer_lines
 meaning (commands.Check code) = to_check code.now
 meaning (commands.Digits text) = to_make_digits text.now
 meaning (commands.Apply sheet form) = to_patch sheet form
+meaning (commands.Demo records) = to_make_up records
+
+-- The number of records that a command makes up lies in its range.
+abbrev pub IsInRange : Command → Type 0
+IsInRange commands.Lines = Unit {0}
+IsInRange (commands.Check code) = Unit {0}
+IsInRange (commands.Digits text) = Unit {0}
+IsInRange (commands.Apply sheet form) = Unit {0}
+IsInRange (commands.Demo records) = (2 ≤ records) × (records ≤ 100_000)

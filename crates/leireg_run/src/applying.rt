@@ -53,13 +53,14 @@ fn tell<W: Sink>(
     ensures failed { IsErrOf result Stop.WriteFault → FailsLast W.written W.faults out.old out.new }
 {
     match delta_apply::apply(alloc, copy, delta, sheet, form) {
-        Ok(text) => tell_copy(text.as_slice(), out),
+        Ok(text) => tell_text(text.as_slice(), out),
         Err(ApplyFault::NoMemory) => Err(Stop::NoMemory),
         Err(fault) => refuse(fault, out),
     }
 }
 
-fn tell_copy<W: Sink>(text: &[u8], out: &mut W) -> Result<(), Stop>
+/// Writes a text.
+pub fn tell_text<W: Sink>(text: &[u8], out: &mut W) -> Result<(), Stop>
     ensures tells { TellsAnswer (Ok text.now) (W.written out.old) (W.written out.new) (end_status result) }
     ensures no_read_fault { ¬ (IsErrOf result Stop.ReadFault) }
     ensures kept { ¬ (IsErrOf result Stop.WriteFault) → W.faults out.new ≡ W.faults out.old }

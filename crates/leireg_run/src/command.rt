@@ -1,10 +1,13 @@
 //! What the words behind the program's name ask for.
-ghost use Rattle.std.specs.Prelude.{◌≡◌, map, option_map, string_bytes};
+ghost use Rattle.std.specs.Prelude.{◌≡◌, map, option_map, string_bytes, IfSome};
 ghost use Rattle.request_words.specs.Words.{form_of, sheet_of};
-ghost use Rattle.leireg_run.specs.Words.{file_paths, meant, meant_alone, meant_by, meant_over, meant_with, meaning, store_path};
+ghost use Rattle.leireg_run.specs.Words.{IsInRange, file_paths, meant, meant_alone, meant_by, meant_over, meant_with, meaning, store_path};
 
 use copy_csv::{Form, Sheet};
-use request_words::{form_of, sheet_of};
+use request_words::{form_of, number_within, sheet_of};
+
+/// The greatest number of records that are made up. This project's profile.
+const MAX_DEMO: u32 = 100_000;
 
 /// A command of the program, with its text. This project's profile.
 #[derive(Clone, Copy)]
@@ -17,11 +20,14 @@ pub enum Command<'a> {
     Digits(&'a str),
     /// To patch a copy of this sheet and form by a delta.
     Apply(Sheet, Form),
+    /// To make up a register of so many records, and to tell what became of it.
+    Demo(u32),
 }
 
 /// The command that these words are, exactly. A text may be any, the empty one too.
 pub fn command_of(words: &[String]) -> Option<Command<'_>>
-    ensures { option_map meaning result ≡ meant (map string_bytes words.now) }
+    ensures meant { option_map meaning result ≡ meant (map string_bytes words.now) }
+    ensures range { IfSome result IsInRange }
 {
     match words {
         [word] => command_alone(word.as_str()),
@@ -61,7 +67,8 @@ pub fn file_paths(words: &[String]) -> Option<(&str, &str)>
 }
 
 fn command_alone(word: &str) -> Option<Command<'_>>
-    ensures { option_map meaning result ≡ meant_alone word.now }
+    ensures meant { option_map meaning result ≡ meant_alone word.now }
+    ensures range { IfSome result IsInRange }
 {
     if word == "lines" {
         Some(Command::Lines)
@@ -71,7 +78,8 @@ fn command_alone(word: &str) -> Option<Command<'_>>
 }
 
 fn command_over<'a>(word: &str, option: &str) -> Option<Command<'a>>
-    ensures { option_map meaning result ≡ meant_over word.now option.now }
+    ensures meant { option_map meaning result ≡ meant_over word.now option.now }
+    ensures range { IfSome result IsInRange }
 {
     if word == "lines" && option == "--store" {
         Some(Command::Lines)
@@ -81,17 +89,23 @@ fn command_over<'a>(word: &str, option: &str) -> Option<Command<'a>>
 }
 
 fn command_with<'a>(word: &str, text: &'a str) -> Option<Command<'a>>
-    ensures { option_map meaning result ≡ meant_with word.now text.now }
+    ensures meant { option_map meaning result ≡ meant_with word.now text.now }
+    ensures range { IfSome result IsInRange }
 {
     match word {
         "check" => Some(Command::Check(text)),
         "digits" => Some(Command::Digits(text)),
+        "demo" => match number_within(text.as_bytes(), 2, MAX_DEMO) {
+            Some(records) => Some(Command::Demo(records)),
+            None => None,
+        },
         _ => None,
     }
 }
 
 fn command_by<'a>(word: &str, table: &str, form: &str) -> Option<Command<'a>>
-    ensures { option_map meaning result ≡ meant_by word.now (sheet_of table.now) (form_of form.now) }
+    ensures meant { option_map meaning result ≡ meant_by word.now (sheet_of table.now) (form_of form.now) }
+    ensures range { IfSome result IsInRange }
 {
     let (Some(sheet), Some(form)) = (sheet_of(table.as_bytes()), form_of(form.as_bytes())) else {
         return None;

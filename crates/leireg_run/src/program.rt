@@ -10,17 +10,19 @@ ghost use Rattle.leireg_run.specs.Outside.{outside};
 ghost use Rattle.leireg_run.specs.Reading.{Holds};
 ghost use Rattle.leireg_run.specs.Status.{end_status};
 ghost use Rattle.leireg_run.specs.Applying.{FailsOneOf};
-ghost use Rattle.leireg_run.specs.Words.{Meant, to_answer_lines, meant, meaning, reads_input, reads_second, Mean};
+ghost use Rattle.leireg_run.specs.Words.{IsInRange, Meant, to_answer_lines, meant, meaning, reads_input, reads_second, Mean};
 
 use crate::applying::apply;
 use crate::codes::{check, digits};
 use crate::command::{Command, command_of};
 use crate::damage::write_damage;
+use crate::demo::tell_demo;
 use crate::outbox::BLOCK;
 use crate::reader::Reader;
 use crate::status::{OK, Stop, USAGE};
 use lei_office::{Damage, OpenFault};
 use lei_outside::{Clock, Keeper, Sink, SinkFault, Source};
+use register_demo::Progress;
 use std::alloc::Global;
 use std::thread::Threads;
 
@@ -30,7 +32,7 @@ pub const MAX_INPUT: usize = 4_294_967_296;
 /// Does what the words ask for, which are the program's words without its name. Says the status that it ends with, and
 /// gives the keeper back. Lines are answered from the office of what the keeper has. The clock is asked for one moment for
 /// each line that asks something, after the line was read.
-pub fn run<R: Threads + Sync, S: Source, T: Source, W: Sink, K: Keeper, C: Clock>(
+pub fn run<R: Threads + Sync, S: Source, T: Source, W: Sink, K: Keeper, C: Clock, P: Progress>(
     rt: &R,
     alloc: Global,
     words: &[String],
@@ -39,6 +41,7 @@ pub fn run<R: Threads + Sync, S: Source, T: Source, W: Sink, K: Keeper, C: Clock
     out: &mut W,
     keeper: K,
     clock: &mut C,
+    progress: &mut P,
 ) -> (u8, K)
     ensures usage { result.0 ≡ 1 ↔ (meant (map string_bytes words.now) ≡ None) }
     ensures untouched { result.0 ≡ 1 → (out.new ≡ out.old) × (input.new ≡ input.old) × (second.new ≡ second.old) }
@@ -69,13 +72,15 @@ pub fn run<R: Threads + Sync, S: Source, T: Source, W: Sink, K: Keeper, C: Clock
     let Some(command) = command_of(words) else {
         return (USAGE, keeper);
     };
-    match run_command(rt, alloc, &command, input, second, out, keeper, clock) {
+    match run_command(
+        rt, alloc, &command, input, second, out, keeper, clock, progress,
+    ) {
         (Ok(()), keeper) => (OK, keeper),
         (Err(stop), keeper) => (stop.status(), keeper),
     }
 }
 
-fn run_command<R: Threads + Sync, S: Source, T: Source, W: Sink, K: Keeper, C: Clock>(
+fn run_command<R: Threads + Sync, S: Source, T: Source, W: Sink, K: Keeper, C: Clock, P: Progress>(
     rt: &R,
     alloc: Global,
     command: &Command<'_>,
@@ -84,7 +89,9 @@ fn run_command<R: Threads + Sync, S: Source, T: Source, W: Sink, K: Keeper, C: C
     out: &mut W,
     keeper: K,
     clock: &mut C,
+    progress: &mut P,
 ) -> (Result<(), Stop>, K)
+    requires { IsInRange command.now }
     ensures unread { reads_input (meaning command.now) ≡ false → input.new ≡ input.old }
     ensures second_unread { reads_second (meaning command.now) ≡ false → second.new ≡ second.old }
     ensures unasked { ¬ (meaning command.now ≡ to_answer_lines) → clock.new ≡ clock.old }
@@ -114,6 +121,7 @@ fn run_command<R: Threads + Sync, S: Source, T: Source, W: Sink, K: Keeper, C: C
         Command::Check(code) => (check(code, out), keeper),
         Command::Digits(text) => (digits(text, out), keeper),
         Command::Apply(sheet, form) => (apply(alloc, *sheet, *form, input, second, out), keeper),
+        Command::Demo(records) => (tell_demo(rt, alloc, *records, out, progress), keeper),
     }
 }
 

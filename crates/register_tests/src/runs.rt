@@ -4,7 +4,7 @@ use lei_outside::{
     SureSource,
 };
 use leireg_run::status::{INPUT_TOO_LONG, READ_FAULT, WRITE_FAULT};
-use leireg_run::{no_file, run};
+use leireg_run::{Untold, no_file, run};
 use std::alloc::Global;
 use std::process::Abort;
 use std::test::Fail;
@@ -47,6 +47,7 @@ fn status_of<R: Threads + Sync, S: Source, W: Sink>(
         sink,
         keeper,
         &mut clock,
+        &mut Untold,
     );
     Ok((status, clock.calls()))
 }

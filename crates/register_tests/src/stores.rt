@@ -5,7 +5,7 @@ use lei_outside::{
     Bytes, Clock, Keeper, KeptCell, KeptEntry, List, MapKeeper, NoMemory, SureSink, SureSource,
     may_be_kept,
 };
-use leireg_run::{no_file, run};
+use leireg_run::{Untold, no_file, run};
 use std::alloc::Global;
 use std::process::Abort;
 use std::test::Fail;
@@ -134,6 +134,7 @@ fn answers<R: Threads + Sync>(
         sink,
         keeper,
         &mut Still,
+        &mut Untold,
     )
 }
 

@@ -5,7 +5,7 @@ use crate::file;
 use crate::stores::{Store, keeper_of};
 use example_sessions::{Came, Run};
 use lei_outside::{Bytes, KeepFault, Keeper, ListClock, NoMemory, Sink, SureSink, SureSource};
-use leireg_run::{run, store_path};
+use leireg_run::{Untold, run, store_path};
 use std::alloc::Global;
 use std::thread::Threads;
 
@@ -48,6 +48,7 @@ impl Devices {
             &mut self.sink,
             keeper,
             &mut self.clock,
+            &mut Untold,
         )
     }
 

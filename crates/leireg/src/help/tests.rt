@@ -8,6 +8,7 @@ fn names_each_command_with_its_words(rt: HostRuntime) {
         "leireg apply TABLE FORM COPY DELTA",
         "leireg check CODE",
         "leireg digits TEXT",
+        "leireg demo N",
     ] {
         assert!(rt; help_text(USAGE).contains(words), "{words}");
     }

@@ -1,0 +1,7 @@
+pub mod Rooms
+pub mod Numbers
+pub mod HeaderLemmas
+pub mod RouteLemmas
+pub mod WishLemmas
+pub mod MoreBytes
+pub mod HeadPieces

@@ -1,0 +1,75 @@
+-- What the headers of a request say of its body and of its connection. Names are compared without regard to ASCII case.
+use Rattle.std.specs.Prelude.{ℕ, ◌==◌, Bool, ◌&&◌, List, [], ◌∷◌, length, map, filter, nat_le, codes, if◌then◌else◌, Option, None, Some}
+use Rattle.std.specs.Char.{to_ascii_lowercase}
+use Rattle.std.specs.List.{list_any, slice_split}
+use Rattle.std.specs.Str.{all_ascii_digits, bytes_eq}
+use Rattle.std.specs.Str.Parse.{digits_value}
+use Rattle.httparse.specs.Grammar.{trim_ows}
+use Rattle.http_heads.specs.declared.headers.Stated.{Stated}
+use Rattle.http_heads.specs.declared.headers.Told.{Told}
+
+-- A header: its name, and its value without the white space around it.
+abbrev pub Header : Type 0
+Header = List ℕ × List ℕ
+
+-- Two texts are one, but for the case of ASCII letters.
+abbrev pub are_alike : List ℕ → List ℕ → Bool
+are_alike first second = bytes_eq (map to_ascii_lowercase first) (map to_ascii_lowercase second)
+
+-- The header has this name.
+abbrev pub has_name : List ℕ → Header → Bool
+has_name name header = are_alike header.0 name
+
+-- The values of the headers of this name, in order.
+abbrev pub values_of : List ℕ → List Header → List (List ℕ)
+values_of name headers = map (λ header. header.1) (filter (has_name name) headers)
+
+-- ---- Transfer-Encoding
+
+-- A header says how the body is coded.
+abbrev pub is_coded : List Header → Bool
+is_coded headers = list_any (has_name (codes "transfer-encoding")) headers
+
+-- ---- Content-Length
+
+-- The number of bytes that a value states: 1 to 10 decimal digits.
+unfoldable pub length_in : List ℕ → Option ℕ
+length_in value =
+    if nat_le 1 (length value) && nat_le (length value) 10 && all_ascii_digits value then Some (digits_value 10 value) else None
+
+-- What one value and all others state together: their one number. Where one of them states none, or two state different
+-- numbers, it is wrong.
+abbrev pub stated_with : Option ℕ → Stated → Stated
+stated_with None others = Stated.Wrong
+stated_with (Some number) Stated.Absent = Stated.Bytes number
+stated_with (Some number) (Stated.Bytes other) = if number == other then Stated.Bytes number else Stated.Wrong
+stated_with (Some number) Stated.Wrong = Stated.Wrong
+
+-- What the values state together. Where there are none, it is absent.
+abbrev pub stated_in : List (List ℕ) → Stated
+stated_in [] = Stated.Absent
+stated_in (value ∷ values) = stated_with (length_in value) (stated_in values)
+
+-- What the headers state of the length of the body.
+abbrev pub stated : List Header → Stated
+stated headers = stated_in (values_of (codes "content-length") headers)
+
+-- ---- Connection
+
+-- One of the parts of a value is `close`: it is cut at commas, and spaces and tabs at both ends of a part don't count.
+abbrev pub has_close : List ℕ → Bool
+has_close value = list_any (λ part. are_alike (trim_ows part) (codes "close")) (slice_split (λ byte. byte == 44) value)
+
+-- It is a Connection header that asks to close the connection behind the answer.
+abbrev pub is_close : Header → Bool
+is_close header = has_name (codes "connection") header && has_close header.1
+
+-- One of the headers asks to close.
+abbrev pub asks_to_close : List Header → Bool
+asks_to_close headers = list_any is_close headers
+
+-- ---- all of it
+
+-- What the headers say.
+abbrev pub told_by : List Header → Told
+told_by headers = record { coded = is_coded headers; stated = stated headers; closes = asks_to_close headers }

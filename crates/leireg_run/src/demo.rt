@@ -1,0 +1,30 @@
+//! The command that makes up a register.
+ghost use Rattle.std.specs.Prelude.{◌≡◌, ◌≤◌, IsErrOf};
+ghost use Rattle.lei_outside.specs.Faults.{FailsLast};
+ghost use Rattle.leireg_run.specs.Ends.{TellsSummary};
+ghost use Rattle.leireg_run.specs.Status.{end_status};
+
+use crate::applying::tell_text;
+use crate::status::Stop;
+use lei_outside::Sink;
+use register_demo::{Progress, demo};
+use std::alloc::Global;
+use std::thread::Threads;
+
+/// Makes up a register of so many records, and writes its summary.
+pub fn tell_demo<R: Threads + Sync, W: Sink, P: Progress>(
+    rt: &R,
+    alloc: Global,
+    records: u32,
+    out: &mut W,
+    progress: &mut P,
+) -> Result<(), Stop>
+    requires least { 2 ≤ records }
+    requires most { records ≤ 100_000 }
+    ensures tells { TellsSummary records (W.written out.old) (W.written out.new) (end_status result) }
+    ensures kept { ¬ (IsErrOf result Stop.WriteFault) → W.faults out.new ≡ W.faults out.old }
+    ensures failed { IsErrOf result Stop.WriteFault → FailsLast W.written W.faults out.old out.new }
+{
+    let summary = demo(rt, alloc, records, progress)?;
+    tell_text(summary.as_slice(), out)
+}

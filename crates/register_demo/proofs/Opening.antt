@@ -1,0 +1,57 @@
+-- The office that a demo begins with, and the entries that it ends with.
+use Rattle.std.proofs.Common.{◌≡◌, ℕ, List, [], ◌∷◌, ◌++◌, length, Some, refl, sym, ap, subst, ◌∙◌}
+use Rattle.std.specs.Prelude.{slice_get, count_by, ◌-◌}
+use Rattle.lei_outside.specs.Keeping.{KeptTables, last_number, number_of}
+use Rattle.lei_outside.specs.declared.entry.KeptEntry.{KeptEntry}
+use Rattle.lei_office.specs.Kept.{Keeps}
+use Rattle.lei_office.specs.Legal.{Legal}
+use Rattle.lei_office.specs.Limits.{standard}
+use Rattle.lei_office.specs.State.{OfficeState, office_of, opened}
+use Rattle.lei_office.specs.declared.limits.Limits.{Limits}
+use Rattle.lei_office.proofs.Leading.{legal-last}
+use Rattle.register_demo.specs.Marks.{rows_in}
+use Rattle.register_demo.specs.Requests.{demo_requests, office_from}
+use Rattle.register_demo.specs.Session.{IsSummary, IsTold, is_made, is_told, text_of, texts_of, told_text}
+use Rattle.register_demo.specs.Summary.{delta_lines, lines_text, publication_lines, verdict_lines}
+use Rattle.register_demo.specs.declared.summary.Told.{Told}
+
+-- an office of a keeper that has nothing
+pub begins : (office : OfficeState) (old new : KeptTables) → office.limits ≡ standard → Keeps (Some new) office → new ≡ old → old.entries ≡ []
+    → office ≡ opened standard
+begins office old new limits keeps same none =
+    ap (λ l. office_of l office.history) limits ∙ ap (office_of standard) (sym keeps.entries ∙ ap (λ t. t.entries) same ∙ none)
+
+-- the number of the last entry that a keeper has is how many the office has
+pub ends : (office : OfficeState) (tables : KeptTables) → Keeps (Some tables) office → Legal office → last_number tables ≡ length office.history
+ends office tables keeps legal =
+    ap (λ entries. number_of (slice_get entries (length entries - 1))) keeps.entries ∙ legal-last office.limits office.history legal
+
+abbrev text-with : ℕ → List ℕ → ℕ → ℕ → List ℕ → ℕ → ℕ → ℕ → List ℕ
+text-with entries answers repeats publications published records relationships applied = lines_text (verdict_lines entries answers
+    ++ (publication_lines repeats publications published ++ delta_lines records relationships applied))
+
+all-same : (e e' : ℕ) (a a' : List ℕ) (r r' p p' : ℕ) (s s' : List ℕ) (x x' y y' z : ℕ) → e ≡ e' → a ≡ a' → r ≡ r' → p ≡ p' → s ≡ s' → x ≡ x' → y ≡ y'
+    → text-with e a r p s x y z ≡ text-with e' a' r' p' s' x' y' z
+all-same e e' a a' r r' p p' s s' x x' y y' z i j k l m n o =
+    ap (λ v. text-with v a r p s x y z) i ∙ ap (λ v. text-with e' v r p s x y z) j ∙ ap (λ v. text-with e' a' v p s x y z) k
+    ∙ ap (λ v. text-with e' a' r' v s x y z) l ∙ ap (λ v. text-with e' a' r' p' v x y z) m ∙ ap (λ v. text-with e' a' r' p' s' v y z) n
+    ∙ ap (λ v. text-with e' a' r' p' s' x' v z) o
+
+-- the summary of what was told
+pub summed : (n entries : ℕ) (from after : OfficeState) (told : Told) (text : List ℕ) → from ≡ opened standard → IsTold n from after told
+    → entries ≡ length after.history → text ≡ told_text entries told → IsSummary n text
+summed n entries from after told text first was count printed =
+    let F : OfficeState → Type 0 = λ office. IsTold n office after told in
+    let is : IsTold n (opened standard) after told = subst F first was in
+    let r = is.replies in
+    record {
+      told = r;
+      are = is.are;
+      applied = told.applied;
+      applied_is = is.applied;
+      text_is = printed ∙ all-same entries (length (office_from (opened standard) 0 (demo_requests n)).history) told.answers.items
+          (texts_of (r.records ++ r.relationships)) told.repeats (count_by is_told r.repeats) told.publications
+          (count_by is_made (r.first_publication ∷ r.second_publication ∷ [])) told.published (text_of r.second_publication) told.records
+          (rows_in (text_of r.lei_delta)) told.relationships (rows_in (text_of r.rr_delta)) told.applied
+          (count ∙ ap (λ office. length office.history) is.leads) is.answers is.repeats is.publications is.published is.records is.relationships;
+    }

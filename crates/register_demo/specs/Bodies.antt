@@ -1,0 +1,90 @@
+-- The bodies of the uploads: JSON (RFC 8259) without spaces, with the names of each object in byte order.
+use Rattle.std.specs.Prelude.{ℕ, ◌+◌, ◌-◌, ◌/◌, ◌%◌, ◌==◌, List, [], ◌∷◌, ◌++◌, codes, decimal, map, if◌then◌else◌}
+use Rattle.std.specs.List.{range_with_len}
+use Rattle.lei_code.specs.Texts.{Body, Lei, Text}
+use Rattle.register_demo.specs.Codes.{demo_code, manager}
+use Rattle.register_demo.specs.Plan.{first_item, last_item}
+use Rattle.register_demo.specs.declared.plan.Group.{Group}
+use Rattle.register_demo.specs.declared.plan.Group.TheVariants.{Records, Relationships}
+
+-- the members of an object, each a name and a text, and the object's end
+abbrev pub members : List (Text × Text) → Text
+members [] = codes "}"
+members ((name, text) ∷ []) = codes "\"" ++ (name ++ (codes "\":\"" ++ (text ++ codes "\"}")))
+members ((name, text) ∷ next ∷ fields) =
+    codes "\"" ++ (name ++ (codes "\":\"" ++ (text ++ (codes "\"," ++ members (next ∷ fields)))))
+
+-- an object of texts under names
+abbrev pub object_text : List (Text × Text) → Text
+object_text fields = codes "{" ++ members fields
+
+-- the elements of an array, with a comma between two
+abbrev pub elements : List Text → Text
+elements [] = []
+elements (element ∷ []) = element
+elements (element ∷ next ∷ rest) = element ++ (codes "," ++ elements (next ∷ rest))
+
+-- the number by which a record is known to its registration authority: each tenth has that of the record before it
+abbrev pub authority_id : ℕ → ℕ
+authority_id i = if i % 10 == 0 then i - 1 else i
+
+-- the fields of the record of a number, with this name, this number at the authority, this LEI and this manager
+abbrev pub fields_of_record : Text → Text → Lei → Lei → List (Text × Text)
+fields_of_record number at_authority lei manager =
+    (codes "Entity.EntityCategory", codes "GENERAL")
+    ∷ (codes "Entity.EntityStatus", codes "ACTIVE")
+    ∷ (codes "Entity.HeadquartersAddress.City", codes "Paris")
+    ∷ (codes "Entity.HeadquartersAddress.Country", codes "FR")
+    ∷ (codes "Entity.HeadquartersAddress.FirstAddressLine", codes "1 Main Street")
+    ∷ (codes "Entity.LegalAddress.City", codes "Paris")
+    ∷ (codes "Entity.LegalAddress.Country", codes "FR")
+    ∷ (codes "Entity.LegalAddress.FirstAddressLine", codes "1 Main Street")
+    ∷ (codes "Entity.LegalForm.EntityLegalFormCode", codes "AB12")
+    ∷ (codes "Entity.LegalJurisdiction", codes "FR")
+    ∷ (codes "Entity.LegalName", codes "Entity " ++ number)
+    ∷ (codes "Entity.RegistrationAuthority.RegistrationAuthorityEntityID", at_authority)
+    ∷ (codes "Entity.RegistrationAuthority.RegistrationAuthorityID", codes "RA000001")
+    ∷ (codes "LEI", lei)
+    ∷ (codes "Registration.InitialRegistrationDate", codes "2025-01-01T00:00:00Z")
+    ∷ (codes "Registration.LastUpdateDate", codes "2025-01-01T00:00:00Z")
+    ∷ (codes "Registration.ManagingLOU", manager)
+    ∷ (codes "Registration.NextRenewalDate", codes "2026-01-01T00:00:00Z")
+    ∷ (codes "Registration.RegistrationStatus", codes "ISSUED")
+    ∷ (codes "Registration.ValidationSources", codes "FULLY_CORROBORATED")
+    ∷ []
+
+-- the fields of a relationship from one LEI to its direct parent, with this manager
+abbrev pub fields_of_relationship : Lei → Lei → Lei → List (Text × Text)
+fields_of_relationship start parent manager =
+    (codes "Registration.InitialRegistrationDate", codes "2025-01-01T00:00:00Z")
+    ∷ (codes "Registration.LastUpdateDate", codes "2025-01-01T00:00:00Z")
+    ∷ (codes "Registration.ManagingLOU", manager)
+    ∷ (codes "Registration.RegistrationStatus", codes "PUBLISHED")
+    ∷ (codes "Registration.ValidationSources", codes "FULLY_CORROBORATED")
+    ∷ (codes "Relationship.EndNode", parent)
+    ∷ (codes "Relationship.RelationshipStatus", codes "ACTIVE")
+    ∷ (codes "Relationship.RelationshipType", codes "IS_DIRECTLY_CONSOLIDATED_BY")
+    ∷ (codes "Relationship.StartDate", codes "2025-01-01T00:00:00Z")
+    ∷ (codes "Relationship.StartNode", start)
+    ∷ []
+
+-- The item of a number: a record, or the relationship from its record to that of half the number.
+abbrev pub item_text : Group → Lei → ℕ → Text
+item_text Records manager i =
+    object_text (fields_of_record (decimal i) (decimal (authority_id i)) (demo_code i) manager)
+item_text Relationships manager i = object_text (fields_of_relationship (demo_code i) (demo_code (i / 2)) manager)
+
+-- what a body begins with
+abbrev pub opening : Group → Text
+opening Records = codes "{\"records\":["
+opening Relationships = codes "{\"relationships\":["
+
+-- the numbers from one to another
+abbrev pub from_to : ℕ → ℕ → List ℕ
+from_to first last = range_with_len first (last + 1 - first)
+
+-- the body that brings the items of a block
+unfoldable pub block_body : Group → ℕ → ℕ → Body
+block_body group n block =
+    opening group ++ (elements (map (item_text group (manager block)) (from_to (first_item group block) (last_item n block)))
+    ++ codes "]}")

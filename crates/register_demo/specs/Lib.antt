@@ -1,0 +1,7 @@
+pub mod Codes
+pub mod Bodies
+pub mod Plan
+pub mod Marks
+pub mod Summary
+pub mod Requests
+pub mod Session

@@ -1,0 +1,85 @@
+-- The requests that make a register, and the moments at which they come: this project's profile.
+use Rattle.std.specs.Prelude.{◌≡◌, ℕ, ◌+◌, ◌*◌, ℤ, pos, List, [], ◌∷◌, ◌++◌, length, map}
+use Rattle.std.specs.List.{range_with_len}
+use Rattle.copy_csv.specs.declared.sheets.Form.TheVariants.{Csv}
+use Rattle.copy_csv.specs.declared.sheets.Sheet.TheVariants.{Lei, Rr}
+use Rattle.golden_shelf.specs.declared.base.Base.TheVariants.{Number}
+use Rattle.lei_office.specs.declared.request.Asked.TheVariants.{Ask}
+use Rattle.lei_office.specs.declared.request.Request.{Request}
+use Rattle.lei_office.specs.declared.request.Request.TheVariants.{Accredit, Copy, Delta, Publish, Upload}
+use Rattle.lei_office.specs.declared.reply.Reply.{Reply}
+use Rattle.lei_office.specs.Legal.{replies_to}
+use Rattle.lei_office.specs.Replies.{next}
+use Rattle.lei_office.specs.State.{OfficeState}
+use Rattle.register_demo.specs.Bodies.{block_body}
+use Rattle.register_demo.specs.Codes.{first_issuer, manager, second_issuer}
+use Rattle.register_demo.specs.Plan.{block_count, upload_number}
+use Rattle.register_demo.specs.declared.plan.Group.{Group}
+use Rattle.register_demo.specs.declared.plan.Group.TheVariants.{Records, Relationships}
+
+-- the upload that brings the records of a block, or their relationships
+abbrev pub upload_of : Group → ℕ → ℕ → Request
+upload_of group n block =
+    Upload (record { office = manager block; number = upload_number group n block; body = block_body group n block })
+
+-- the same of each block from one on, so many of them
+abbrev pub uploads_from : Group → ℕ → ℕ → ℕ → List Request
+uploads_from group n block count = map (upload_of group n) (range_with_len block count)
+
+-- the same of all blocks
+abbrev pub uploads_of : Group → ℕ → List Request
+uploads_of group n = uploads_from group n 1 (block_count n)
+
+-- both issuers are accredited
+abbrev pub accreditations : List Request
+accreditations = Accredit first_issuer ∷ Accredit second_issuer ∷ []
+
+-- the records are published, and two copies are asked for
+abbrev pub first_publication : List Request
+first_publication = Publish 1 ∷ Copy Lei Csv ∷ Copy Rr Csv ∷ []
+
+-- the relationships are published too
+abbrev pub second_publication : List Request
+second_publication = Publish 2 ∷ []
+
+-- the moment of the request behind so many others: 2025-01-01T00:00:00Z, and a second later each
+abbrev pub moment_behind : ℕ → ℤ
+moment_behind count = pos (1_735_689_600 + count)
+
+-- the moments of requests, of which the first comes behind so many others
+abbrev pub moments_of : ℕ → List Request → List ℤ
+moments_of count requests = map moment_behind (range_with_len count (length requests))
+
+-- what an office answers to requests, of which the first comes behind so many others
+abbrev pub replies_from : OfficeState → ℕ → List Request → List Reply
+replies_from office count requests = replies_to office (map Ask requests) (moments_of count requests)
+
+-- the office after requests that come at these moments
+abbrev pub office_after : OfficeState → List Request → List ℤ → OfficeState
+office_after office [] moments = office
+office_after office (request ∷ requests) [] = office
+office_after office (request ∷ requests) (m ∷ moments) = office_after (next office request m) requests moments
+
+-- the office after requests, of which the first comes behind so many others
+abbrev pub office_from : OfficeState → ℕ → List Request → OfficeState
+office_from office count requests = office_after office requests (moments_of count requests)
+
+-- These are the replies to requests, of which the first comes behind so many others, and this is the office after them.
+pub record Answers (office : OfficeState) (count : ℕ) (requests : List Request) (replies : List Reply) (after : OfficeState) : Type 0 where
+  pub told : replies ≡ replies_from office count requests
+  pub leads : after ≡ office_from office count requests
+
+-- the last requests: the deltas from the first publication
+abbrev pub deltas : List Request
+deltas = Delta (Number 1) Lei Csv ∷ Delta (Number 1) Rr Csv ∷ []
+
+-- all requests: the issuers are accredited, the records are sent and published, then the relationships, the records are sent
+-- once more, and the deltas are asked for
+abbrev pub demo_requests : ℕ → List Request
+demo_requests n =
+    accreditations ++ (uploads_of Records n ++ (first_publication ++ (uploads_of Relationships n ++ (second_publication
+    ++ (uploads_of Records n ++ deltas)))))
+
+-- how many they are
+abbrev pub request_count : ℕ → ℕ
+request_count n = 3 * block_count n + 8

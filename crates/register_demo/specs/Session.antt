@@ -1,0 +1,149 @@
+-- What is answered to the requests that make a register, and what is told of that.
+use Rattle.std.specs.Prelude.{◌≡◌, ℕ, ◌+◌, ◌*◌, Bool, ◌==◌, List, [], ◌∷◌, ◌++◌, count_by, flat_map, length, Result, Ok, Err}
+use Rattle.copy_csv.specs.declared.sheets.Form.TheVariants.{Csv}
+use Rattle.copy_csv.specs.declared.sheets.Sheet.TheVariants.{Rr}
+use Rattle.delta_apply.specs.declared.fault.ApplyFault.{ApplyFault}
+use Rattle.delta_apply.specs.Applying.{IsAnswer}
+use Rattle.lei_code.specs.Texts.{Text}
+use Rattle.lei_office.specs.declared.reply.Reply.{Reply}
+use Rattle.lei_office.specs.declared.reply.Reply.TheVariants as replies
+use Rattle.lei_office.specs.Legal.{Legal}
+use Rattle.lei_office.specs.Limits.{standard}
+use Rattle.lei_office.specs.State.{OfficeState, opened}
+use Rattle.lei_office.specs.Words.{reply_status_code}
+use Rattle.register_demo.specs.Marks.{rows_in}
+use Rattle.register_demo.specs.Plan.{block_count}
+use Rattle.register_demo.specs.Requests.{Answers, accreditations, deltas, demo_requests, first_publication, office_from, replies_from, second_publication, uploads_of}
+use Rattle.register_demo.specs.Summary.{delta_lines, lines_text, publication_lines, verdict_lines}
+use Rattle.register_demo.specs.declared.plan.Group.TheVariants.{Records, Relationships}
+use Rattle.register_demo.specs.declared.summary.Told.{Told}
+
+-- the text of a reply; nothing of a refusal
+abbrev pub text_of : Reply → Text
+text_of (replies.Text code kind text) = text
+text_of (replies.Words refusal) = []
+
+-- the reply tells a text: its status code is 200
+abbrev pub is_told : Reply → Bool
+is_told reply = reply_status_code reply == 200
+
+-- a publication was made: the status code is 201
+abbrev pub is_made : Reply → Bool
+is_made reply = reply_status_code reply == 201
+
+-- the texts of replies, one behind the other
+abbrev pub texts_of : List Reply → Text
+texts_of replies = flat_map text_of replies
+
+-- ---- the replies, step by step
+
+-- The replies to the requests that make a register: to the accreditations, to the uploads of records, to the publication
+-- and the copies, to the uploads of relationships, to the second publication, to the repeated uploads, and to the deltas.
+pub record DemoReplies : Type 0 where
+  pub first_issuer : Reply
+  pub second_issuer : Reply
+  pub records : List Reply
+  pub first_publication : Reply
+  pub lei_copy : Reply
+  pub rr_copy : Reply
+  pub relationships : List Reply
+  pub second_publication : Reply
+  pub repeats : List Reply
+  pub lei_delta : Reply
+  pub rr_delta : Reply
+
+-- all of them, in order
+abbrev pub in_order : DemoReplies → List Reply
+in_order told =
+    (told.first_issuer ∷ told.second_issuer ∷ []) ++ (told.records ++ ((told.first_publication ∷ told.lei_copy ∷ told.rr_copy ∷ [])
+    ++ (told.relationships ++ ((told.second_publication ∷ []) ++ (told.repeats ++ (told.lei_delta ∷ told.rr_delta ∷ []))))))
+
+-- These are the replies of an office to the requests that make a register of n records: one to each upload of a block, and all
+-- of them in the order of the requests.
+pub record AreReplies (office : OfficeState) (n : ℕ) (told : DemoReplies) : Type 0 where
+  pub all : in_order told ≡ replies_from office 0 (demo_requests n)
+  pub records : length told.records ≡ block_count n
+  pub relationships : length told.relationships ≡ block_count n
+  pub repeats : length told.repeats ≡ block_count n
+
+-- how many bytes the patched copy has, and 0 where there is none
+abbrev pub size_of : Result Text ApplyFault → ℕ
+size_of (Ok bytes) = length bytes
+size_of (Err fault) = 0
+
+-- so many bytes are answered where the delta of relationships is applied to their copy
+pub record IsPatchedSize (copy delta : Text) (size : ℕ) : Type 0 where
+  pub answer : Result Text ApplyFault
+  pub is : IsAnswer copy delta Rr Csv answer
+  pub size_is : size ≡ size_of answer
+
+-- how many entries an office has that was asked for a register of n records
+abbrev pub entries_after : OfficeState → ℕ → ℕ
+entries_after office n = length (office_from office 0 (demo_requests n)).history
+
+-- ---- the summary
+
+-- The summary of these replies of an office, where the patched copy has so many bytes: the verdicts are counted in the answers
+-- to the uploads of records and of relationships alone.
+abbrev pub summary_text : OfficeState → ℕ → DemoReplies → ℕ → Text
+summary_text office n told applied = lines_text (
+    verdict_lines (entries_after office n) (texts_of (told.records ++ told.relationships))
+    ++ (publication_lines (count_by is_told told.repeats) (count_by is_made (told.first_publication ∷ told.second_publication ∷ []))
+    (text_of told.second_publication)
+    ++ delta_lines (rows_in (text_of told.lei_delta)) (rows_in (text_of told.rr_delta)) applied))
+
+-- The text is the summary of a register of n records, made by an office that took nothing before and has the standard limits.
+pub record IsSummary (n : ℕ) (text : Text) : Type 0 where
+  pub told : DemoReplies
+  pub are : AreReplies (opened standard) n told
+  pub applied : ℕ
+  pub applied_is : IsPatchedSize (text_of told.rr_copy) (text_of told.rr_delta) applied
+  pub text_is : text ≡ summary_text (opened standard) n told applied
+
+-- ---- the parts of a session
+
+-- The records were sent and published, with this reply and this copy of relationships.
+pub record MakesRecords (n : ℕ) (office after : OfficeState) (old new : Text) (publication copy : Reply) : Type 0 where
+  pub first : Reply
+  pub second : Reply
+  pub records : List Reply
+  pub lei_copy : Reply
+  pub answers : Answers office 0 (accreditations ++ (uploads_of Records n ++ first_publication))
+      ((first ∷ second ∷ []) ++ (records ++ (publication ∷ lei_copy ∷ copy ∷ []))) after
+  pub each : length records ≡ block_count n
+  pub texts : new ≡ old ++ texts_of records
+
+-- The relationships were sent and published, with this reply.
+pub record MakesRelationships (n : ℕ) (office after : OfficeState) (old new : Text) (publication : Reply) : Type 0 where
+  pub relationships : List Reply
+  pub answers : Answers office (block_count n + 5) (uploads_of Relationships n ++ second_publication)
+      (relationships ++ (publication ∷ [])) after
+  pub each : length relationships ≡ block_count n
+  pub texts : new ≡ old ++ texts_of relationships
+
+-- The records were sent once more, of which so many were told, and these deltas were asked for.
+pub record Repeats (n : ℕ) (office after : OfficeState) (told : ℕ) (lei_delta rr_delta : Reply) : Type 0 where
+  pub replies : List Reply
+  pub answers : Answers office (2 * block_count n + 6) (uploads_of Records n ++ deltas) (replies ++ (lei_delta ∷ rr_delta ∷ [])) after
+  pub each : length replies ≡ block_count n
+  pub count : told ≡ count_by is_told replies
+  pub legal : Legal after
+
+-- What is told of a register that an office made.
+pub record IsTold (n : ℕ) (office after : OfficeState) (told : Told) : Type 0 where
+  pub replies : DemoReplies
+  pub are : AreReplies office n replies
+  pub leads : after ≡ office_from office 0 (demo_requests n)
+  pub legal : Legal after
+  pub answers : told.answers.items ≡ texts_of (replies.records ++ replies.relationships)
+  pub repeats : told.repeats ≡ count_by is_told replies.repeats
+  pub publications : told.publications ≡ count_by is_made (replies.first_publication ∷ replies.second_publication ∷ [])
+  pub published : told.published ≡ text_of replies.second_publication
+  pub records : told.records ≡ rows_in (text_of replies.lei_delta)
+  pub relationships : told.relationships ≡ rows_in (text_of replies.rr_delta)
+  pub applied : IsPatchedSize (text_of replies.rr_copy) (text_of replies.rr_delta) told.applied
+
+-- the summary of a register with so many entries, of which this was told
+abbrev pub told_text : ℕ → Told → Text
+told_text entries told = lines_text (verdict_lines entries told.answers.items
+    ++ (publication_lines told.repeats told.publications told.published ++ delta_lines told.records told.relationships told.applied))

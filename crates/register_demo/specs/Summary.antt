@@ -1,0 +1,41 @@
+-- The summary of a made-up register: lines of a name, a space and a number.
+use Rattle.std.specs.Prelude.{ℕ, List, [], ◌∷◌, ◌++◌, codes, decimal, flat_map}
+use Rattle.lei_code.specs.Texts.{Text}
+use Rattle.register_demo.specs.Marks.{digits_behind, times}
+
+-- a line of a name and a number
+abbrev pub line : Text × Text → Text
+line (name, number) = name ++ (codes " " ++ (number ++ codes "\n"))
+
+-- the lines of some names and numbers
+abbrev pub lines_text : List (Text × Text) → Text
+lines_text lines = flat_map line lines
+
+-- What is counted: how many entries the register has, and in the answers to uploads how many items were accepted, and how
+-- many were rejected by each of three checks.
+abbrev pub verdict_lines : ℕ → Text → List (Text × Text)
+verdict_lines entries answers =
+    (codes "entries", decimal entries)
+    ∷ (codes "accepted", decimal (times (codes "\"ACCEPTED\"") answers))
+    ∷ (codes "rejected C19", decimal (times (codes "\"C19 ") answers))
+    ∷ (codes "rejected C32", decimal (times (codes "\"C32 ") answers))
+    ∷ (codes "rejected C33", decimal (times (codes "\"C33 ") answers))
+    ∷ []
+
+-- How many uploads were repeated and publications made, and how many records and relationships the answer to a publication
+-- tells.
+abbrev pub publication_lines : ℕ → ℕ → Text → List (Text × Text)
+publication_lines repeats publications answer =
+    (codes "repeats", decimal repeats)
+    ∷ (codes "publications", decimal publications)
+    ∷ (codes "lei", digits_behind (codes "\"lei\":") answer)
+    ∷ (codes "rr", digits_behind (codes "\"rr\":") answer)
+    ∷ []
+
+-- How many rows the deltas have, and how many bytes the patched copy.
+abbrev pub delta_lines : ℕ → ℕ → ℕ → List (Text × Text)
+delta_lines records relationships applied =
+    (codes "delta lei", decimal records)
+    ∷ (codes "delta rr", decimal relationships)
+    ∷ (codes "applied rr csv", decimal applied)
+    ∷ []

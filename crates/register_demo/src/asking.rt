@@ -1,0 +1,141 @@
+// Requests, put to an office one after the other.
+ghost use Rattle.std.specs.Prelude.{◌≡◌, ◌↔◌, ◌≤◌, ◌+◌, ◌++◌, count_by, IfOk, IsTrue, OnOk};
+ghost use Rattle.lei_office.specs.Legal.{IsNumbered, Legal};
+ghost use Rattle.lei_office.specs.Replies.{next, reply};
+ghost use Rattle.register_demo.specs.Plan.{block_count};
+ghost use Rattle.register_demo.specs.Requests.{moment_behind, office_from, replies_from, upload_of, uploads_of};
+ghost use Rattle.register_demo.specs.Session.{is_told, text_of, texts_of};
+
+use crate::bodies::block_body;
+use crate::codes::issuer_of;
+use crate::plan::{Group, block_count, upload_number};
+use crate::progress::Progress;
+use crate::whole::request_count;
+use lei_office::{Call, Office, Refusal, Reply, Request};
+use lei_outside::{NoMemory, SureKeeper};
+use lei_shapes::Moment;
+use std::alloc::Global;
+use std::thread::Threads;
+
+// 2025-01-01T00:00:00Z.
+const FIRST_MOMENT: i64 = 1_735_689_600;
+
+// The moment of the request behind so many others.
+fn moment_behind(count: u32) -> Moment
+    ensures { result ≡ moment_behind count }
+{
+    match Moment::of(FIRST_MOMENT + i64::from(count)) {
+        Some(moment) => moment,
+        None => unreachable!(),
+    }
+}
+
+/// The text of a reply; nothing of a refusal.
+pub fn text_of(reply: &Reply) -> &[u8]
+    ensures { result.now ≡ text_of reply.now }
+{
+    match reply {
+        Reply::Text { text, .. } => text.as_slice(),
+        Reply::Words(_) => &[],
+    }
+}
+
+// The upload that brings the records of a block, or their relationships.
+fn upload_of(alloc: Global, group: Group, n: u32, block: u32) -> Result<Request, NoMemory>
+    requires least { 2 ≤ n }
+    requires most { n ≤ 100_000 }
+    requires counted { 1 ≤ block }
+    requires within { block ≤ block_count n }
+    ensures value { IfOk result (λ request. request ≡ upload_of group n block) }
+    ensures numbered { IfOk result IsNumbered }
+{
+    let body = block_body(alloc, group, n, block)?;
+    let number = upload_number(group, n, block);
+    Ok(Request::Upload(Call {
+        office: issuer_of(block),
+        number,
+        body,
+    }))
+}
+
+/// Puts a request behind so many others to the office. Want of memory alone keeps it from being answered.
+pub fn ask<R: Threads + Sync>(
+    rt: &R,
+    office: &mut Office<SureKeeper>,
+    request: &Request,
+    count: u32,
+) -> Result<Reply, NoMemory>
+    requires { IsNumbered request.now }
+    ensures reply { IfOk result (λ answered. answered ≡ reply office.old.office request.now (moment_behind count)) }
+    ensures next { OnOk result (office.new.office ≡ next office.old.office request.now (moment_behind count)) }
+    ensures legal { Legal office.new.office }
+{
+    let reply = office.answer(rt, request, moment_behind(count));
+    if is_no_memory(&reply) {
+        return Err(NoMemory);
+    }
+    Ok(reply)
+}
+
+// Whether a reply is that memory was wanting.
+fn is_no_memory(reply: &Reply) -> bool
+    ensures { IsTrue result ↔ (reply.now ≡ Reply.Words Refusal.NoMemory) }
+{
+    matches!(reply, Reply::Words(Refusal::NoMemory))
+}
+
+// Sends the upload of a block behind so many requests, and puts the text of its answer behind the others. Says whether
+// one was told.
+fn send_block<R: Threads + Sync>(
+    rt: &R,
+    alloc: Global,
+    office: &mut Office<SureKeeper>,
+    n: u32,
+    group: Group,
+    block: u32,
+    count: u32,
+    answers: &mut Vec<u8>,
+) -> Result<bool, NoMemory>
+    requires least { 2 ≤ n }
+    requires most { n ≤ 100_000 }
+    requires counted { 1 ≤ block }
+    requires within { block ≤ block_count n }
+    ensures answers { OnOk result (answers.new.items ≡ answers.old.items
+        ++ text_of (reply office.old.office (upload_of group n block) (moment_behind count))) }
+    ensures told { IfOk result (λ told. told ≡ is_told (reply office.old.office (upload_of group n block) (moment_behind count))) }
+    ensures office { OnOk result (office.new.office ≡ next office.old.office (upload_of group n block) (moment_behind count)) }
+{
+    let request = upload_of(alloc, group, n, block)?;
+    let reply = ask(rt, office, &request, count)?;
+    answers.extend_from_slice(text_of(&reply))?;
+    Ok(reply.status_code() == 200)
+}
+
+/// Sends the uploads of a group behind so many requests, and puts the texts of the answers behind the others. Says how
+/// many were told.
+pub fn send_uploads<R: Threads + Sync, P: Progress>(
+    rt: &R,
+    alloc: Global,
+    office: &mut Office<SureKeeper>,
+    n: u32,
+    group: Group,
+    count: u32,
+    answers: &mut Vec<u8>,
+    progress: &mut P,
+) -> Result<u32, NoMemory>
+    requires least { 2 ≤ n }
+    requires most { n ≤ 100_000 }
+    requires few { count ≤ 10_000 }
+    ensures answers { OnOk result (answers.new.items ≡ answers.old.items
+        ++ texts_of (replies_from office.old.office count (uploads_of group n))) }
+    ensures told { IfOk result (λ told. told ≡ count_by is_told (replies_from office.old.office count (uploads_of group n))) }
+    ensures office { OnOk result (office.new.office ≡ office_from office.old.office count (uploads_of group n)) }
+{
+    let mut told = 0;
+    for block in 1..block_count(n) + 1 {
+        let at = count + block - 1;
+        told += u32::from(send_block(rt, alloc, office, n, group, block, at, answers)?);
+        progress.tell(count + block, request_count(n));
+    }
+    Ok(told)
+}

@@ -1,0 +1,17 @@
+//! A register of made-up records: the requests that make it, and a summary of what is answered to them.
+#![tactic(auto)]
+
+mod asking;
+mod bodies;
+mod codes;
+mod marks;
+mod plan;
+mod progress;
+mod session;
+mod summary;
+mod whole;
+
+pub use bodies::block_body;
+pub use plan::{Group, block_count, upload_number};
+pub use progress::{Progress, Untold};
+pub use whole::{demo, request_count};

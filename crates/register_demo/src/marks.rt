@@ -1,0 +1,42 @@
+// What is read off texts.
+ghost use Rattle.std.specs.Prelude.{◌≡◌, ◌≤◌, ◌+◌, length};
+ghost use Rattle.register_demo.specs.Marks.{behind, digits_behind, rows_in, times};
+
+use memchr::{memchr_iter, memmem};
+
+/// How often a mark stands in a text.
+pub fn times(mark: &[u8], text: &[u8]) -> usize
+    ensures value { result ≡ times mark.now text.now }
+    ensures most { result ≤ length text.now + 1 }
+{
+    memmem::find_iter(text, mark).count()
+}
+
+// The text behind the first place at which a mark stands in it.
+fn behind<'a>(mark: &[u8], text: &'a [u8]) -> &'a [u8]
+    ensures { result.now ≡ behind mark.now text.now }
+{
+    match memmem::find(text, mark) {
+        Some(at) => &text[at + mark.len()..],
+        None => &[],
+    }
+}
+
+/// The decimal digits that follow the first such place.
+pub fn digits_behind<'a>(mark: &[u8], text: &'a [u8]) -> &'a [u8]
+    ensures { result.now ≡ digits_behind mark.now text.now }
+{
+    let rest = behind(mark, text);
+    let mut end = 0;
+    while end < rest.len() && rest[end].is_ascii_digit() {
+        end += 1;
+    }
+    &rest[..end]
+}
+
+/// How many rows a file in CSV has.
+pub fn rows_in(text: &[u8]) -> usize
+    ensures { result ≡ rows_in text.now }
+{
+    memchr_iter(b'\n', text).count().saturating_sub(1)
+}

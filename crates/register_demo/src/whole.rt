@@ -1,0 +1,86 @@
+//! A made-up register and its summary.
+ghost use Rattle.std.specs.Prelude.{◌≡◌, ◌≤◌, IfOk};
+ghost use Rattle.lei_outside.specs.Keeping.{last_number};
+ghost use Rattle.lei_outside.specs.Memory.{tables_of};
+ghost use Rattle.lei_office.specs.Limits.{standard};
+ghost use Rattle.lei_office.specs.State.{opened};
+ghost use Rattle.register_demo.specs.Requests.{request_count};
+ghost use Rattle.register_demo.specs.Session.{IsSummary, told_text};
+ghost use Rattle.register_demo.specs.declared.summary.Told.{Told as Found};
+
+use crate::plan::block_count;
+use crate::progress::Progress;
+use crate::session::make;
+use crate::summary::{Told, summary_of};
+use lei_office::{Limits, Office};
+use lei_outside::{Bytes, KeepFault, Keeper, NoMemory, SureKeeper};
+use std::alloc::Global;
+use std::thread::Threads;
+
+/// How many requests make a register of so many records.
+pub fn request_count(n: u32) -> u32
+    requires { n ≤ 100_000 }
+    ensures { result ≡ request_count n }
+{
+    3 * block_count(n) + 8
+}
+
+// How many entries a keeper has.
+fn entries_in(mut keeper: SureKeeper) -> Result<u64, NoMemory>
+    ensures { IfOk result (λ entries. entries ≡ last_number (tables_of keeper)) }
+{
+    match keeper.last() {
+        Ok(entries) => Ok(entries),
+        Err(KeepFault::NoMemory) => Err(NoMemory),
+        Err(KeepFault::Failed) => unreachable!(),
+    }
+}
+
+// The summary of what was told of a register, by the keeper that has its entries.
+fn summary_with(
+    alloc: Global,
+    keeper: SureKeeper,
+    told: Result<Told, NoMemory>,
+) -> Result<Bytes, NoMemory>
+    ensures { IfOk result (λ text. (found : Found) × (told ≡ Ok found) × (text ≡ told_text (last_number (tables_of keeper)) found)) }
+{
+    let told = told?;
+    let entries = entries_in(keeper)?;
+    let text = summary_of(alloc, entries, &told)?;
+    Ok(text)
+}
+
+// Makes a register by an office that took nothing yet, and lets the office go.
+fn demo_by<R: Threads + Sync, P: Progress>(
+    rt: &R,
+    alloc: Global,
+    mut office: Office<SureKeeper>,
+    n: u32,
+    progress: &mut P,
+) -> Result<Bytes, NoMemory>
+    requires opened { office.office ≡ opened standard }
+    requires least { 2 ≤ n }
+    requires most { n ≤ 100_000 }
+    ensures { IfOk result (IsSummary n) }
+{
+    let told = make(rt, alloc, &mut office, n, progress);
+    let text = summary_with(alloc, office.close(), told)?;
+    Ok(text)
+}
+
+/// Makes a register of so many records, by an office of its own in memory, and says the summary, or that memory was wanting.
+pub fn demo<R: Threads + Sync, P: Progress>(
+    rt: &R,
+    alloc: Global,
+    n: u32,
+    progress: &mut P,
+) -> Result<Bytes, NoMemory>
+    requires least { 2 ≤ n }
+    requires most { n ≤ 100_000 }
+    ensures { IfOk result (IsSummary n) }
+{
+    match Office::open(rt, alloc, SureKeeper::new(alloc), Limits::standard()) {
+        Ok(office) => demo_by(rt, alloc, office, n, progress),
+        Err(_) => Err(NoMemory),
+    }
+}
