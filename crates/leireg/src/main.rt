@@ -20,13 +20,14 @@ use leireg_run::{file_paths, no_file, run, store_path};
 use progress::Counted;
 use std::fs::File;
 use std::process::ExitCode;
+use std::thread::Threads;
 use std::{env, io};
 use streams::{StdSink, StdSource};
 use watched::Watched;
 
 fn main(rt: HostRuntime) -> io::Result<ExitCode> {
     let status = match words(&rt) {
-        Ok(words) => run_words(&rt, &words),
+        Ok(words) => run_words(&rt, &rt, &words),
         Err(status) => status,
     };
     if status != OK {
@@ -35,54 +36,69 @@ fn main(rt: HostRuntime) -> io::Result<ExitCode> {
     Ok(ExitCode::from(status))
 }
 
-// Runs the command that the words are, and says its status.
-fn run_words(rt: &HostRuntime, words: &[String]) -> u8 {
+// Runs the command that the words are, and says its status. The runtime is handed on as one that may start threads, and as
+// the host.
+fn run_words<R: Threads + Sync>(rt: &R, host: &HostRuntime, words: &[String]) -> u8 {
     if let Some((copy, delta)) = file_paths(words) {
-        return run_over_files(rt, words, copy, delta);
+        return run_over_files(rt, host, words, copy, delta);
     }
     match store_path(words) {
-        Some(path) => run_over_store(rt, words, path),
-        None => run_alone(rt, words),
+        Some(path) => run_over_store(rt, host, words, path),
+        None => run_alone(rt, host, words),
     }
 }
 
-fn run_over_files(rt: &HostRuntime, words: &[String], copy: &str, delta: &str) -> u8 {
-    let mut copy = FileSource::new(File::open(rt, copy).ok());
-    let mut delta = FileSource::new(File::open(rt, delta).ok());
-    let keeper = SureKeeper::new(rt.alloc());
-    let (status, _) = run_between(rt, words, &mut copy, &mut delta, keeper);
+fn run_over_files<R: Threads + Sync>(
+    rt: &R,
+    host: &HostRuntime,
+    words: &[String],
+    copy: &str,
+    delta: &str,
+) -> u8 {
+    let mut copy = FileSource::new(File::open(host, copy).ok());
+    let mut delta = FileSource::new(File::open(host, delta).ok());
+    let keeper = SureKeeper::new(host.alloc());
+    let (status, _) = run_between(rt, host, words, &mut copy, &mut delta, keeper);
     status
 }
 
-fn run_over_store(rt: &HostRuntime, words: &[String], path: &str) -> u8 {
-    let keeper = Watched::new(rt, SqliteKeeper::on_file(rt, path));
-    let mut input = StdSource::new(rt.stdin());
-    let (status, watched) = run_between(rt, words, &mut input, &mut no_file(rt.alloc()), keeper);
+fn run_over_store<R: Threads + Sync>(
+    rt: &R,
+    host: &HostRuntime,
+    words: &[String],
+    path: &str,
+) -> u8 {
+    let keeper = Watched::new(host, SqliteKeeper::on_file(host, path));
+    let mut input = StdSource::new(host.stdin());
+    let mut second = no_file(host.alloc());
+    let (status, watched) = run_between(rt, host, words, &mut input, &mut second, keeper);
     watched.keeper.close();
     status
 }
 
-fn run_alone(rt: &HostRuntime, words: &[String]) -> u8 {
-    let keeper = SureKeeper::new(rt.alloc());
-    let mut input = StdSource::new(rt.stdin());
-    let (status, _) = run_between(rt, words, &mut input, &mut no_file(rt.alloc()), keeper);
+fn run_alone<R: Threads + Sync>(rt: &R, host: &HostRuntime, words: &[String]) -> u8 {
+    let keeper = SureKeeper::new(host.alloc());
+    let mut input = StdSource::new(host.stdin());
+    let mut second = no_file(host.alloc());
+    let (status, _) = run_between(rt, host, words, &mut input, &mut second, keeper);
     status
 }
 
 // Runs a command between two inputs and the standard output, by the clock of the machine.
-fn run_between<S: Source, T: Source, K: Keeper>(
-    rt: &HostRuntime,
+fn run_between<R: Threads + Sync, S: Source, T: Source, K: Keeper>(
+    rt: &R,
+    host: &HostRuntime,
     words: &[String],
     input: &mut S,
     second: &mut T,
     keeper: K,
 ) -> (u8, K) {
-    let mut out = StdSink::new(rt.stdout());
-    let mut clock = SystemClock::new(rt);
-    let mut progress = Counted::new(rt);
+    let mut out = StdSink::new(host.stdout());
+    let mut clock = SystemClock::new(host);
+    let mut progress = Counted::new(host);
     run(
         rt,
-        rt.alloc(),
+        host.alloc(),
         words,
         input,
         second,
