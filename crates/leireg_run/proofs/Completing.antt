@@ -109,7 +109,7 @@ unopened_done before after status n6 whole is = elim is.ends [
 
 summary_done : (records : ℕ) (before after : Option (List ℕ)) (status : ℕ) → status ≢ 4 → status ≢ 6 → TellsSummary records before after status
     → (status ≡ 0) × ((text : Text) × IsSummary records text × Grows before after text)
-summary_done records before after status n4 n6 (inl (text, is, inl told)) = (told.0, text, is, told.1)
+summary_done records before after status n4 n6 (inl (text, is, inl told)) = (told.0, (text, is, told.1))
 summary_done records before after status n4 n6 (inl (text, is, inr (inl failed))) = absurd (n4 failed.0)
 summary_done records before after status n4 n6 (inl (text, is, inr (inr wanted))) = absurd (n6 wanted.0)
 summary_done records before after status n4 n6 (inr wanted) = absurd (n6 wanted.0)
