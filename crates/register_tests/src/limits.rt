@@ -90,7 +90,11 @@ fn reply_of<R: Threads + Sync>(
     let number = match request {
         Request::Upload(call) => call.number,
         Request::Kept(_, number) | Request::Publish(number) => *number,
-        Request::Accredit(_) | Request::Show(_) | Request::Copy(_, _) | Request::Status => 1,
+        Request::Accredit(_)
+        | Request::Show(_)
+        | Request::Copy(_, _)
+        | Request::Delta(_, _, _)
+        | Request::Status => 1,
     };
     if !is_upload_number(number) {
         return Err(Fail::from("a number that uploads may have"));
