@@ -24,6 +24,6 @@ impl<'a> Progress for Counted<'a> {
             return;
         }
         let _ = eprintln!(self.rt; "{done} of {all} requests were answered");
-        self.tenth = done / step + 1;
+        self.tenth = (done / step).saturating_add(1);
     }
 }
