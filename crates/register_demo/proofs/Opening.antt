@@ -1,14 +1,22 @@
 -- The office that a demo begins with, and the entries that it ends with.
 use Rattle.std.proofs.Common.{◌≡◌, ℕ, List, [], ◌∷◌, ◌++◌, length, Some, refl, sym, ap, subst, ◌∙◌}
 use Rattle.std.specs.Prelude.{slice_get, count_by, ◌-◌}
-use Rattle.lei_outside.specs.Keeping.{KeptTables, last_number, number_of}
+use Rattle.lei_outside.specs.Keeping.{KeptTables, Stays, last_number, nothing_kept, number_of}
+use Rattle.lei_outside.specs.Memory.{SureKeeperState, tables_of}
 use Rattle.lei_outside.specs.declared.entry.KeptEntry.{KeptEntry}
+use Rattle.lei_office.specs.Damage.{IsDamage}
 use Rattle.lei_office.specs.Kept.{Keeps}
 use Rattle.lei_office.specs.Legal.{Legal}
 use Rattle.lei_office.specs.Limits.{standard}
+use Rattle.lei_office.specs.Offices.{IsRefused, keeper_back}
 use Rattle.lei_office.specs.State.{OfficeState, office_of, opened}
+use Rattle.lei_office.specs.declared.damage.Damage.{Damage}
 use Rattle.lei_office.specs.declared.limits.Limits.{Limits}
+use Rattle.lei_office.specs.declared.opening.OpenFault.{OpenFault}
+use Rattle.lei_office.specs.declared.opening.OpenFault.TheVariants.{StoreDamaged}
+use Rattle.lei_office.proofs.Excluding.{damage-excludes}
 use Rattle.lei_office.proofs.Leading.{legal-last}
+use Rattle.lei_office.proofs.TableLemmas.{keeps-none}
 use Rattle.register_demo.specs.Marks.{rows_in}
 use Rattle.register_demo.specs.Requests.{demo_requests, office_from}
 use Rattle.register_demo.specs.Session.{IsSummary, IsTold, is_made, is_told, text_of, texts_of, told_text}
@@ -20,6 +28,20 @@ pub begins : (office : OfficeState) (old new : KeptTables) → office.limits ≡
     → office ≡ opened standard
 begins office old new limits keeps same none =
     ap (λ l. office_of l office.history) limits ∙ ap (office_of standard) (sym keeps.entries ∙ ap (λ t. t.entries) same ∙ none)
+
+-- a keeper that has nothing isn't damaged
+pub undamaged : (limits : Limits) (tables : KeptTables) (damage : Damage) → tables ≡ nothing_kept → IsDamage limits tables damage → ⊥
+unfolding Legal
+undamaged limits tables damage same is =
+    damage-excludes limits nothing_kept damage (subst (λ told. IsDamage limits told damage) same is) (tt {0}, keeps-none limits (Some nothing_kept) refl)
+
+-- a keeper in memory that has nothing isn't told to be damaged
+pub never_damaged : (limits : Limits) (fault : OpenFault SureKeeperState) (old back : SureKeeperState) (damage : Damage) → fault ≡ StoreDamaged back damage
+    → IsRefused limits (λ k. Some (tables_of k)) fault → Stays (Some (tables_of old)) (Some (tables_of (keeper_back fault))) → tables_of old ≡ nothing_kept → ⊥
+never_damaged limits fault old back damage is refused stays none =
+    undamaged limits (tables_of back) damage
+    (subst (λ f. Stays (Some (tables_of old)) (Some (tables_of (keeper_back f)))) is stays ∙ none)
+    (subst (λ f. IsRefused limits (λ k. Some (tables_of k)) f) is refused)
 
 -- the number of the last entry that a keeper has is how many the office has
 pub ends : (office : OfficeState) (tables : KeptTables) → Keeps (Some tables) office → Legal office → last_number tables ≡ length office.history

@@ -12,7 +12,7 @@ use crate::plan::block_count;
 use crate::progress::Progress;
 use crate::session::make;
 use crate::summary::{Told, summary_of};
-use lei_office::{Limits, Office};
+use lei_office::{Limits, Office, OpenFault};
 use lei_outside::{Bytes, KeepFault, Keeper, NoMemory, SureKeeper};
 use std::alloc::Global;
 use std::thread::Threads;
@@ -81,6 +81,8 @@ pub fn demo<R: Threads + Sync, P: Progress>(
 {
     match Office::open(rt, alloc, SureKeeper::new(alloc), Limits::standard()) {
         Ok(office) => demo_by(rt, alloc, office, n, progress),
-        Err(_) => Err(NoMemory),
+        Err(OpenFault::NoMemory(_)) => Err(NoMemory),
+        Err(OpenFault::KeeperFault(_)) => unreachable!(),
+        Err(OpenFault::StoreDamaged(_, _)) => unreachable!(),
     }
 }
