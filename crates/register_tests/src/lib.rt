@@ -10,6 +10,8 @@ mod limits;
 #[cfg(test)]
 mod moments;
 #[cfg(test)]
+mod patches;
+#[cfg(test)]
 mod runs;
 #[cfg(test)]
 mod sqlite_keeper;

@@ -3,10 +3,9 @@ ghost use Rattle.lei_office.specs.Limits.{AreLimits};
 
 use lei_code::Lei;
 use lei_office::{Call, Limits, Office, Reply, Request, is_upload_number};
-use lei_outside::{Bytes, SureKeeper};
+use lei_outside::{Bytes, Keeper, NoMemory, SureKeeper};
 use lei_shapes::Moment;
 use std::alloc::Global;
-use std::process::Abort;
 use std::test::Fail;
 use std::thread::Threads;
 
@@ -54,39 +53,51 @@ enum Sent {
     Publish(u32),
 }
 
-// What is sent, and what comes back: the status code, a space, and the text or the refusal in words.
-type Step = (Sent, &'static str);
+// What is sent, and the status code and the words of the reply.
+type Step = (Sent, u16, &'static str);
 
 // What a step asks.
-fn request(alloc: Global, sent: Sent) -> Result<Request, Fail> {
+fn request(alloc: Global, sent: Sent) -> Option<Request> {
     match sent {
-        Sent::Accredit(issuer) => Ok(Request::Accredit(Lei::read(issuer.as_bytes())?)),
-        Sent::Upload(number, body) => Ok(Request::Upload(Call {
-            office: Lei::read(ISSUER.as_bytes())?,
-            number,
-            body: Bytes::copy_of(alloc, body.as_bytes())?,
-        })),
-        Sent::Publish(number) => Ok(Request::Publish(number)),
+        Sent::Accredit(issuer) => Some(Request::Accredit(code(issuer)?)),
+        Sent::Upload(number, body) => upload(alloc, number, body),
+        Sent::Publish(number) => Some(Request::Publish(number)),
     }
 }
 
-fn told(alloc: Global, reply: &Reply) -> Result<String, Fail> {
-    let code = reply.status_code();
-    match reply {
-        Reply::Text { text, .. } => {
-            let text = str::from_utf8(text.as_slice())?;
-            Ok(format!(in alloc; "{code} {text}")?)
-        }
-        Reply::Words(refusal) => Ok(format!(in alloc; "{code} {refusal}")?),
+fn code(text: &str) -> Option<Lei> {
+    match Lei::read(text.as_bytes()) {
+        Ok(code) => Some(code),
+        Err(_) => None,
     }
+}
+
+fn upload(alloc: Global, number: u32, body: &str) -> Option<Request> {
+    let office = code(ISSUER)?;
+    match Bytes::copy_of(alloc, body.as_bytes()) {
+        Ok(body) => Some(Request::Upload(Call {
+            office,
+            number,
+            body,
+        })),
+        Err(NoMemory) => None,
+    }
+}
+
+fn is_wanted(reply: &Reply, code: u16, words: &str) -> bool {
+    let told = match reply {
+        Reply::Text { text, .. } => text.as_slice(),
+        Reply::Words(refusal) => refusal.name().as_bytes(),
+    };
+    reply.status_code() == code && told == words.as_bytes()
 }
 
 // The reply to a request, whose number is one that uploads may have.
-fn reply_of<R: Threads + Sync>(
+fn reply_of<R: Threads + Sync, K: Keeper>(
     rt: &R,
-    office: &mut Office<SureKeeper>,
+    office: &mut Office<K>,
     request: &Request,
-) -> Result<Reply, Fail> {
+) -> Option<Reply> {
     let number = match request {
         Request::Upload(call) => call.number,
         Request::Kept(_, number) | Request::Publish(number) => *number,
@@ -97,45 +108,46 @@ fn reply_of<R: Threads + Sync>(
         | Request::Status => 1,
     };
     if !is_upload_number(number) {
-        return Err(Fail::from("a number that uploads may have"));
+        return None;
     }
-    let moment = Moment::of(MOMENT).ok_or("a moment")?;
-    Ok(office.answer(rt, request, moment))
+    let moment = Moment::of(MOMENT)?;
+    Some(office.answer(rt, request, moment))
 }
 
-fn takes<R: Abort + Threads + Sync>(
+fn takes<R: Threads + Sync, K: Keeper>(
     rt: &R,
     alloc: Global,
-    office: &mut Office<SureKeeper>,
+    office: &mut Office<K>,
     step: Step,
-) -> Result<(), Fail> {
-    let (sent, want) = step;
-    let request = request(alloc, sent)?;
-    let reply = reply_of(rt, office, &request)?;
-    let told = told(alloc, &reply)?;
-    assert_eq!(rt; told.as_str(), want);
-    Ok(())
-}
-
-fn takes_all<R: Abort + Threads + Sync>(
-    rt: &R,
-    alloc: Global,
-    office: &mut Office<SureKeeper>,
-    steps: &[Step],
-) -> Result<(), Fail> {
-    for step in steps {
-        takes(rt, alloc, office, *step)?;
+) -> bool {
+    let (sent, code, words) = step;
+    match request(alloc, sent) {
+        Some(request) => match reply_of(rt, office, &request) {
+            Some(reply) => is_wanted(&reply, code, words),
+            None => false,
+        },
+        None => false,
     }
-    Ok(())
 }
 
-// Under these limits an office answers these steps so. It is closed, since letting it go costs a proof for each of its parts.
-fn answers<R: Abort + Threads + Sync>(
+// Whether each step in turn is answered as it says.
+fn takes_all<R: Threads + Sync, K: Keeper>(
     rt: &R,
     alloc: Global,
-    limits: Limits,
+    office: &mut Office<K>,
     steps: &[Step],
-) -> Result<(), Fail>
+) -> bool {
+    for step in steps {
+        if !takes(rt, alloc, office, *step) {
+            return false;
+        }
+    }
+    true
+}
+
+// Whether an office under these limits answers these steps so. It is closed, since letting it go costs a proof for each of
+// its parts.
+fn answers<R: Threads + Sync>(rt: &R, alloc: Global, limits: Limits, steps: &[Step]) -> bool
     requires { AreLimits limits }
 {
     match Office::open(rt, alloc, SureKeeper::new(alloc), limits) {
@@ -144,19 +156,20 @@ fn answers<R: Abort + Threads + Sync>(
             let _ = office.close();
             went
         }
-        Err(_) => Err(Fail::from("memory for an office")),
+        Err(_) => false,
     }
 }
 
 const ACCREDITED: Step = (
     Sent::Accredit(ISSUER),
-    r#"200 {"entry":1,"issuer":"506700GE1G29325QX363"}"#,
+    200,
+    r#"{"entry":1,"issuer":"506700GE1G29325QX363"}"#,
 );
 
 const ONE_ITEM: &str = r#"{"records":[{"LEI":"00000000000000000195"}]}"#;
 
 const KEPT: &str =
-    r#"200 {"entry":2,"issuer":"506700GE1G29325QX363","items":["C02 FIELD_MISSING Entity.LegalName"],"number":1}"#;
+    r#"{"entry":2,"issuer":"506700GE1G29325QX363","items":["C02 FIELD_MISSING Entity.LegalName"],"number":1}"#;
 
 // An upload of two records, of more than 1,200 bytes.
 #[test]
@@ -169,9 +182,9 @@ fn an_office_takes_an_upload_where_there_is_room(rt: HostRuntime) -> Result<(), 
     };
     let full = [
         ACCREDITED,
-        (Sent::Upload(1, TWO_RECORDS), "507 LEDGER_FULL"),
+        (Sent::Upload(1, TWO_RECORDS), 507, "LEDGER_FULL"),
     ];
-    answers(&rt, rt.alloc(), few, &full)?;
+    assert!(rt; answers(&rt, rt.alloc(), few, &full));
     let more = Limits {
         kept: 100_000,
         ..few
@@ -180,15 +193,18 @@ fn an_office_takes_an_upload_where_there_is_room(rt: HostRuntime) -> Result<(), 
         ACCREDITED,
         (
             Sent::Upload(1, TWO_RECORDS),
-            r#"200 {"entry":2,"issuer":"506700GE1G29325QX363","items":["ACCEPTED","C20 REGISTER_FULL"],"number":1}"#,
+            200,
+            r#"{"entry":2,"issuer":"506700GE1G29325QX363","items":["ACCEPTED","C20 REGISTER_FULL"],"number":1}"#,
         ),
         (
             Sent::Publish(1),
-            r#"201 {"contentDate":"2025-01-11T00:00:00Z","entry":3,"lei":1,"publication":1,"repex":0,"rr":0}"#,
+            201,
+            r#"{"contentDate":"2025-01-11T00:00:00Z","entry":3,"lei":1,"publication":1,"repex":0,"rr":0}"#,
         ),
-        (Sent::Publish(2), "507 LEDGER_FULL"),
+        (Sent::Publish(2), 507, "LEDGER_FULL"),
     ];
-    answers(&rt, rt.alloc(), more, &taken)
+    assert!(rt; answers(&rt, rt.alloc(), more, &taken));
+    Ok(())
 }
 
 // A body may have 44 bytes, as many as the one upload has, or one fewer.
@@ -202,17 +218,18 @@ fn an_office_keeps_bodies_to_their_limits(rt: HostRuntime) -> Result<(), Fail> {
     };
     let steps = [
         ACCREDITED,
-        (Sent::Upload(1, TWO_RECORDS), "507 LEDGER_FULL"),
-        (Sent::Upload(1, ONE_ITEM), KEPT),
-        (Sent::Upload(2, ONE_ITEM), "507 LEDGER_FULL"),
-        (Sent::Upload(2, "{}"), "400 MALFORMED NO_ITEMS"),
-        (Sent::Upload(1, "{}"), "409 NUMBER_TAKEN"),
-        (Sent::Upload(1, ONE_ITEM), KEPT),
+        (Sent::Upload(1, TWO_RECORDS), 507, "LEDGER_FULL"),
+        (Sent::Upload(1, ONE_ITEM), 200, KEPT),
+        (Sent::Upload(2, ONE_ITEM), 507, "LEDGER_FULL"),
+        (Sent::Upload(2, "{}"), 400, "MALFORMED NO_ITEMS"),
+        (Sent::Upload(1, "{}"), 409, "NUMBER_TAKEN"),
+        (Sent::Upload(1, ONE_ITEM), 200, KEPT),
     ];
-    answers(&rt, rt.alloc(), room, &steps)?;
+    assert!(rt; answers(&rt, rt.alloc(), room, &steps));
     let shorter = Limits { body: 43, ..room };
-    let refused = [ACCREDITED, (Sent::Upload(1, ONE_ITEM), "413 TOO_LONG")];
-    answers(&rt, rt.alloc(), shorter, &refused)
+    let refused = [ACCREDITED, (Sent::Upload(1, ONE_ITEM), 413, "TOO_LONG")];
+    assert!(rt; answers(&rt, rt.alloc(), shorter, &refused));
+    Ok(())
 }
 
 #[test]
@@ -227,12 +244,14 @@ fn an_office_keeps_entries_to_their_limit(rt: HostRuntime) -> Result<(), Fail> {
         ACCREDITED,
         (
             Sent::Accredit(OTHER),
-            r#"200 {"entry":2,"issuer":"HWUPKR0MPOU8FGXBT394"}"#,
+            200,
+            r#"{"entry":2,"issuer":"HWUPKR0MPOU8FGXBT394"}"#,
         ),
-        (Sent::Accredit("5493001KJTIIGC8Y1R12"), "507 LEDGER_FULL"),
+        (Sent::Accredit("5493001KJTIIGC8Y1R12"), 507, "LEDGER_FULL"),
         ACCREDITED,
-        (Sent::Upload(1, ONE_ITEM), "507 LEDGER_FULL"),
-        (Sent::Publish(1), "507 LEDGER_FULL"),
+        (Sent::Upload(1, ONE_ITEM), 507, "LEDGER_FULL"),
+        (Sent::Publish(1), 507, "LEDGER_FULL"),
     ];
-    answers(&rt, rt.alloc(), limits, &steps)
+    assert!(rt; answers(&rt, rt.alloc(), limits, &steps));
+    Ok(())
 }

@@ -1,13 +1,12 @@
 // A keeper over a file of SQLite: what it keeps is there after the file was opened again, and what fails changes nothing.
-// The tests share a folder that is empty at first, so that each has a file of its own.
+// The tests share a folder that is empty at first, so that each has a file of its own. What is asked of the keeper is asked
+// over any database: over this one each function with a call took half a minute to prove.
 use crate::batches::is_batch;
 use keeper_sqlite::SqliteKeeper;
 use lei_outside::{Batch, Bytes, KeepFault, Keeper, KeptCell, KeptEntry, List, NoMemory};
-use sqlite::{File, FileStore};
+use sqlite::Alter;
 use std::alloc::Global;
 use std::test::Fail;
-
-type FileKeeper = SqliteKeeper<FileStore<File>>;
 
 // A cell by the number of its entry, its name and its row, which is empty where it has none.
 type Line = (u64, &'static str, &'static str);
@@ -62,7 +61,7 @@ fn batch(alloc: Global, line: Line) -> Result<Batch, NoMemory> {
 }
 
 // Commits a batch. What is none isn't committed, and is told as want of memory.
-fn commit(keeper: &mut FileKeeper, batch: &Batch) -> Result<(), KeepFault> {
+fn commit<S: Alter>(keeper: &mut SqliteKeeper<S>, batch: &Batch) -> Result<(), KeepFault> {
     if is_batch(batch) {
         keeper.commit(batch)
     } else {
@@ -71,8 +70,8 @@ fn commit(keeper: &mut FileKeeper, batch: &Batch) -> Result<(), KeepFault> {
 }
 
 // Whether the batch of this cell is kept, or fails.
-fn comes_to(
-    keeper: &mut FileKeeper,
+fn comes_to<S: Alter>(
+    keeper: &mut SqliteKeeper<S>,
     alloc: Global,
     line: Line,
     wanted: Result<(), KeepFault>,
@@ -83,13 +82,13 @@ fn comes_to(
     }
 }
 
-fn tells_last(keeper: &mut FileKeeper, wanted: Result<u64, KeepFault>) -> bool {
+fn tells_last<S: Alter>(keeper: &mut SqliteKeeper<S>, wanted: Result<u64, KeepFault>) -> bool {
     keeper.last() == wanted
 }
 
 // Whether these are the entries of the range.
-fn tells_entries(
-    keeper: &mut FileKeeper,
+fn tells_entries<S: Alter>(
+    keeper: &mut SqliteKeeper<S>,
     alloc: Global,
     after: u64,
     upto: u64,
@@ -102,8 +101,8 @@ fn tells_entries(
 }
 
 // Whether these are the cells of the range.
-fn tells_cells(
-    keeper: &mut FileKeeper,
+fn tells_cells<S: Alter>(
+    keeper: &mut SqliteKeeper<S>,
     alloc: Global,
     after: u64,
     upto: u64,
@@ -115,23 +114,23 @@ fn tells_cells(
     }
 }
 
-fn entries_fail(keeper: &mut FileKeeper) -> bool {
+fn entries_fail<S: Alter>(keeper: &mut SqliteKeeper<S>) -> bool {
     keeper.entries(0, 1) == Err(KeepFault::Failed)
 }
 
-fn cells_fail(keeper: &mut FileKeeper) -> bool {
+fn cells_fail<S: Alter>(keeper: &mut SqliteKeeper<S>) -> bool {
     keeper.cells(0, 1) == Err(KeepFault::Failed)
 }
 
 // Keeps three batches, of which the second takes the row of the first one's cell away.
-fn keep(keeper: &mut FileKeeper, alloc: Global) -> bool {
+fn keep<S: Alter>(keeper: &mut SqliteKeeper<S>, alloc: Global) -> bool {
     comes_to(keeper, alloc, (1, "B", "{}"), Ok(()))
         && comes_to(keeper, alloc, (2, "B", ""), Ok(()))
         && comes_to(keeper, alloc, (3, "A B", "[1]"), Ok(()))
 }
 
 // Whether all is told, whole and by ranges.
-fn tell(keeper: &mut FileKeeper, alloc: Global) -> bool {
+fn tell<S: Alter>(keeper: &mut SqliteKeeper<S>, alloc: Global) -> bool {
     tells_last(keeper, Ok(3))
         && tells_entries(keeper, alloc, 0, u64::MAX, &[1, 2, 3])
         && tells_entries(keeper, alloc, 1, 2, &[2])
@@ -146,14 +145,14 @@ fn tell(keeper: &mut FileKeeper, alloc: Global) -> bool {
 }
 
 // Commits the last entry once more, with another cell, which fails and changes nothing of what was kept before.
-fn refuse(keeper: &mut FileKeeper, alloc: Global) -> bool {
+fn refuse<S: Alter>(keeper: &mut SqliteKeeper<S>, alloc: Global) -> bool {
     comes_to(keeper, alloc, (3, "C", "{}"), Err(KeepFault::Failed))
         && keeper.faults() == 1
         && tell(keeper, alloc)
 }
 
 // Whether each of the four calls fails and is counted.
-fn fail(keeper: &mut FileKeeper, alloc: Global) -> bool {
+fn fail<S: Alter>(keeper: &mut SqliteKeeper<S>, alloc: Global) -> bool {
     tells_last(keeper, Err(KeepFault::Failed))
         && entries_fail(keeper)
         && cells_fail(keeper)
@@ -168,7 +167,7 @@ enum Session {
     Fail,
 }
 
-fn run(keeper: &mut FileKeeper, alloc: Global, session: Session) -> bool {
+fn run<S: Alter>(keeper: &mut SqliteKeeper<S>, alloc: Global, session: Session) -> bool {
     match session {
         Session::Keep => keep(keeper, alloc),
         Session::Refuse => refuse(keeper, alloc),

@@ -1,17 +1,15 @@
-//! Stores that are opened: a sound one, and one after each of many single changes, which is told by its number.
+//! Stores that are opened: a sound one, and one after each of many single changes, of which the number is told of the entry
+//! or the cell that was changed.
 use crate::limits::{ISSUER, MOMENT, TWO_RECORDS};
 use crate::runs::words;
 use lei_outside::{
-    Bytes, Clock, Keeper, KeptCell, KeptEntry, List, MapKeeper, NoMemory, SureSink, SureSource,
-    may_be_kept,
+    Bytes, Clock, KeepFault, Keeper, KeptCell, KeptEntry, List, MapKeeper, NoMemory, SureSink,
+    SureSource, may_be_kept,
 };
 use leireg_run::{Untold, no_file, run};
 use std::alloc::Global;
-use std::process::Abort;
 use std::test::Fail;
 use std::thread::Threads;
-
-const UPLOADS: u32 = 999;
 
 // A clock that stands still. It tells nothing of its moments.
 #[derive(Drop)]
@@ -27,19 +25,42 @@ impl Clock for Still {
     }
 }
 
-// What is changed of a store, an entry by its place or the first cell.
+// What is changed of a store that has an accreditation and an upload of two records: of its second entry, of its first cell,
+// or of how many of them there are.
 #[derive(Clone, Copy, Debug)]
 enum Change {
     Nothing,
-    Answer(usize),
-    Number(usize),
-    Moment(usize),
-    Out(usize),
+    Number,
+    Moment,
+    FirstEntryOut,
     Row,
     Touched,
     Withdrawn,
-    Fewer,
-    More,
+    FirstCellOut,
+    OneCellMore,
+}
+
+// Each change, and what is told then begins with.
+const CHANGES: [(Change, &str); 9] = [
+    (Change::Nothing, ""),
+    (Change::Number, "STORE_DAMAGED 2\n"),
+    (Change::Moment, "STORE_DAMAGED 2\n"),
+    (Change::FirstEntryOut, "STORE_DAMAGED 1\n"),
+    (Change::Row, "STORE_DAMAGED 2\n"),
+    (Change::Touched, "STORE_DAMAGED 1\n"),
+    (Change::Withdrawn, "STORE_DAMAGED 2\n"),
+    (Change::FirstCellOut, "STORE_DAMAGED 2\n"),
+    (Change::OneCellMore, "STORE_DAMAGED 2\n"),
+];
+
+fn entry_with(alloc: Global, entry: &KeptEntry, change: Change) -> Result<KeptEntry, NoMemory> {
+    let mut entry = entry.copy(alloc)?;
+    match change {
+        Change::Number => entry.number = 2,
+        Change::Moment => entry.moment = 0,
+        _ => {}
+    }
+    Ok(entry)
 }
 
 // The entries of a store with a change.
@@ -48,21 +69,26 @@ fn entries_with(
     entries: &[KeptEntry],
     change: Change,
 ) -> Result<List<KeptEntry>, NoMemory> {
-    let mut list = Vec::with_capacity(alloc, entries.len())?;
-    for (place, entry) in entries.iter().enumerate() {
-        let mut entry = entry.copy(alloc)?;
-        match change {
-            Change::Answer(changed) if changed == place => entry.answer = Bytes::copy_of(
-                alloc, b"x",
-            )?,
-            Change::Number(changed) if changed == place => entry.number = 1,
-            Change::Moment(changed) if changed == place => entry.moment = 0,
-            Change::Out(changed) if changed == place => continue,
-            _ => {}
+    let mut list = Vec::new(alloc);
+    for entry in entries {
+        if entry.seq > 1 {
+            list.push(entry_with(alloc, entry, change)?)?;
+        } else if !matches!(change, Change::FirstEntryOut) {
+            list.push(entry.copy(alloc)?)?;
         }
-        list.push(entry)?;
     }
     Ok(List::from(list))
+}
+
+fn cell_with(alloc: Global, cell: &KeptCell, change: Change) -> Result<KeptCell, NoMemory> {
+    let mut cell = cell.copy(alloc)?;
+    match change {
+        Change::Row => cell.row = Some(Bytes::copy_of(alloc, b"{}")?),
+        Change::Touched => cell.touched = 1,
+        Change::Withdrawn => cell.row = None,
+        _ => {}
+    }
+    Ok(cell)
 }
 
 // The cells of a store with a change.
@@ -71,19 +97,15 @@ fn cells_with(
     cells: &[KeptCell],
     change: Change,
 ) -> Result<List<KeptCell>, NoMemory> {
-    let mut list = Vec::with_capacity(alloc, cells.len())?;
+    let mut list = Vec::new(alloc);
     for (place, cell) in cells.iter().enumerate() {
-        let mut cell = cell.copy(alloc)?;
-        match change {
-            Change::Row if place == 0 => cell.row = Some(Bytes::copy_of(alloc, b"{}")?),
-            Change::Withdrawn if place == 0 => cell.row = None,
-            Change::Touched if place == 0 => cell.touched = 3,
-            Change::Fewer if place == 0 => continue,
-            _ => {}
+        if place > 0 {
+            list.push(cell.copy(alloc)?)?;
+        } else if !matches!(change, Change::FirstCellOut) {
+            list.push(cell_with(alloc, cell, change)?)?;
         }
-        list.push(cell)?;
     }
-    if matches!(change, Change::More) {
+    if matches!(change, Change::OneCellMore) {
         list.push(withdrawn(alloc)?)?;
     }
     Ok(List::from(list))
@@ -115,17 +137,17 @@ fn keeper_with(
     }
 }
 
-// Answers lines over a keeper. Says the status, and gives the keeper back.
+// Answers lines over a keeper, which comes back.
 fn answers<R: Threads + Sync>(
     rt: &R,
     alloc: Global,
+    words: &[String],
     lines: &mut SureSource,
     sink: &mut SureSink,
-    words: &[String],
     keeper: MapKeeper,
-) -> (u8, MapKeeper) {
+) -> MapKeeper {
     let mut second = no_file(alloc);
-    run(
+    let (_, keeper) = run(
         rt,
         alloc,
         words,
@@ -135,97 +157,74 @@ fn answers<R: Threads + Sync>(
         keeper,
         &mut Still,
         &mut Untold,
-    )
+    );
+    keeper
 }
 
-// The lines that accredit an issuer and send an upload of two records and many of one that is rejected.
-fn lines(alloc: Global) -> Result<String, Fail> {
-    let mut lines = format!(in alloc; "ACCREDIT {ISSUER}\nUPLOAD {ISSUER} 1 {TWO_RECORDS}\n")?;
-    for number in 2..UPLOADS + 1 {
-        let line = format!(in alloc; "UPLOAD {ISSUER} {number} {{\"records\":[{{}}]}}\n")?;
-        lines.push_str(line.as_str())?;
-    }
-    Ok(lines)
-}
-
-// What is told where a store is opened with this change.
-fn told<R: Threads + Sync>(
-    rt: &R,
-    alloc: Global,
-    entries: &[KeptEntry],
-    cells: &[KeptCell],
-    change: Change,
-) -> Result<SureSink, Fail> {
-    let words = words(alloc)?;
-    let keeper = keeper_with(alloc, entries, cells, change)?;
-    let mut sink = SureSink::new(alloc, usize::MAX);
-    let mut nothing = SureSource::new(Bytes::from(Vec::new(alloc)), 1);
-    let (_, _) = answers(rt, alloc, &mut nothing, &mut sink, &words, keeper);
-    Ok(sink)
-}
-
-// A store with this change is damaged at the entry of this number, or is sound where that is 0.
-fn is_damaged_at<R: Abort + Threads + Sync>(
-    rt: &R,
-    alloc: Global,
-    entries: &[KeptEntry],
-    cells: &[KeptCell],
-    change: Change,
-    number: usize,
-) -> Result<(), Fail> {
-    let want = format!(in alloc; "STORE_DAMAGED {number}\n")?;
-    let sink = told(rt, alloc, entries, cells, change)?;
-    if number == 0 {
-        assert!(rt; sink.written().is_empty(), "{change:?}");
-    } else {
-        assert!(rt; sink.written().starts_with(want.as_bytes()), "{change:?}");
-    }
-    Ok(())
-}
-
-// Each change of a store is told.
-fn are_told<R: Abort + Threads + Sync>(
-    rt: &R,
-    alloc: Global,
-    entries: &[KeptEntry],
-    cells: &[KeptCell],
-) -> Result<(), Fail> {
-    for place in (0usize..1000).step_by(20) {
-        is_damaged_at(rt, alloc, entries, cells, Change::Answer(place), place + 1)?;
-        is_damaged_at(rt, alloc, entries, cells, Change::Out(place), place + 1)?;
-    }
-    for (change, number) in [
-        (Change::Nothing, 0),
-        (Change::Number(0), 1),
-        (Change::Number(999), 1000),
-        (Change::Moment(1), 2),
-        (Change::Row, 2),
-        (Change::Withdrawn, 2),
-        (Change::Touched, 3),
-        (Change::Fewer, 2),
-        (Change::More, 2),
-    ] {
-        is_damaged_at(rt, alloc, entries, cells, change, number)?;
-    }
-    Ok(())
-}
-
-// A keeper that has an accreditation, an upload of two records, and many that were rejected.
-fn kept<R: Threads + Sync>(rt: &R, alloc: Global) -> Result<MapKeeper, Fail> {
-    let words = words(alloc)?;
-    let lines = Bytes::copy_of(alloc, lines(alloc)?.as_bytes())?;
-    let mut source = SureSource::new(lines, 65_536);
+// A keeper that has an accreditation and an upload of two records.
+fn kept<R: Threads + Sync>(rt: &R, alloc: Global, words: &[String]) -> Result<MapKeeper, NoMemory> {
+    let lines = format!(in alloc; "ACCREDIT {ISSUER}\nUPLOAD {ISSUER} 1 {TWO_RECORDS}\n")?;
+    let mut source = SureSource::new(Bytes::copy_of(alloc, lines.as_bytes())?, 65_536);
     let mut sink = SureSink::new(alloc, usize::MAX);
     let keeper = MapKeeper::new(alloc, List::from(Vec::new(alloc)));
-    let (_, keeper) = answers(rt, alloc, &mut source, &mut sink, &words, keeper);
-    Ok(keeper)
+    Ok(answers(rt, alloc, words, &mut source, &mut sink, keeper))
+}
+
+// What a keeper has.
+fn tables(mut keeper: MapKeeper) -> Result<(List<KeptEntry>, List<KeptCell>), KeepFault> {
+    let entries = keeper.entries(0, u64::MAX)?;
+    let cells = keeper.cells(0, u64::MAX)?;
+    Ok((entries, cells))
+}
+
+// Whether what is told of a store with a change begins so, or nothing is told where nothing is wanted.
+fn is_told<R: Threads + Sync>(
+    rt: &R,
+    alloc: Global,
+    words: &[String],
+    entries: &[KeptEntry],
+    cells: &[KeptCell],
+    change: Change,
+    want: &str,
+) -> bool {
+    let Ok(keeper) = keeper_with(alloc, entries, cells, change) else {
+        return false;
+    };
+    let mut sink = SureSink::new(alloc, usize::MAX);
+    let mut nothing = no_file(alloc);
+    drop(answers(rt, alloc, words, &mut nothing, &mut sink, keeper));
+    let told = sink.written();
+    told.starts_with(want.as_bytes()) && told.is_empty() == want.is_empty()
+}
+
+// The first change of which something else is told.
+fn untold<R: Threads + Sync>(
+    rt: &R,
+    alloc: Global,
+    words: &[String],
+    entries: &[KeptEntry],
+    cells: &[KeptCell],
+) -> Option<Change> {
+    for (change, want) in CHANGES {
+        if !is_told(rt, alloc, words, entries, cells, change, want) {
+            return Some(change);
+        }
+    }
+    None
 }
 
 #[test]
 fn each_change_of_a_store_is_told_by_its_number(rt: HostRuntime) -> Result<(), Fail> {
-    let mut keeper = kept(&rt, rt.alloc())?;
-    let entries = keeper.entries(0, u64::MAX)?;
-    let cells = keeper.cells(0, u64::MAX)?;
-    assert_eq!(rt; (entries.len(), cells.len()), (1000, 2));
-    are_told(&rt, rt.alloc(), entries.as_slice(), cells.as_slice())
+    let words = words(rt.alloc())?;
+    let keeper = kept(&rt, rt.alloc(), words.as_slice())?;
+    let (entries, cells) = tables(keeper)?;
+    let untold = untold(
+        &rt,
+        rt.alloc(),
+        words.as_slice(),
+        entries.as_slice(),
+        cells.as_slice(),
+    );
+    assert!(rt; untold.is_none(), "{untold:?}");
+    Ok(())
 }
