@@ -3,12 +3,12 @@ use crate::trial::Devices;
 use example_sessions::{Change, Run};
 use keeper_sqlite::SqliteKeeper;
 use lei_outside::KeepFault;
-use sqlite::Connection;
 use sqlite::types::ValueRef;
+use sqlite::{Alter, Connection};
 use std::alloc::{AllocError, Global};
+use std::fs;
 use std::rt::Files;
 use std::thread::Threads;
-use std::{fs, io};
 
 const CHANGE: &str = "UPDATE entry SET answer = ?2 WHERE seq = ?1";
 
@@ -34,7 +34,8 @@ pub fn status_over<R: Threads + Sync>(
     Ok(status_of(rt, host, file.as_str(), wanted, devices))
 }
 
-// The keeper is closed here, and in no function with a `?`, where each costs a proof of how it is let go.
+// The keeper is closed here, and in no function with a `?`, where each costs a proof of how it is let go. What is called of
+// it is called over any database: over a file's own type each such function takes half a minute to prove.
 fn status_of<R: Threads + Sync>(
     rt: &R,
     host: &HostRuntime,
@@ -43,9 +44,19 @@ fn status_of<R: Threads + Sync>(
     devices: &mut Devices,
 ) -> u8 {
     let keeper = SqliteKeeper::on_file(host, file);
-    let (status, keeper) = devices.run(rt, host.alloc(), wanted, keeper);
+    let (status, keeper) = run_over(rt, host.alloc(), wanted, devices, keeper);
     keeper.close();
     status
+}
+
+fn run_over<R: Threads + Sync, S: Alter>(
+    rt: &R,
+    alloc: Global,
+    wanted: &Run,
+    devices: &mut Devices,
+    keeper: SqliteKeeper<S>,
+) -> (u8, SqliteKeeper<S>) {
+    devices.run(rt, alloc, wanted, keeper)
 }
 
 // Whether the answer of an entry could be changed in the file.
@@ -53,16 +64,20 @@ fn change_in(host: &HostRuntime, file: &str, change: &Change) -> bool {
     let Ok(mut conn) = Connection::open(host, file) else {
         return false;
     };
+    let changed = change_over(&mut conn, change);
+    conn.close().is_ok() && changed
+}
+
+fn change_over<S: Alter>(conn: &mut Connection<S>, change: &Change) -> bool {
     let values = [
         ValueRef::Int(i64::from(change.entry)),
         ValueRef::Blob(change.answer.as_slice()),
     ];
-    let changed = conn.execute(CHANGE, &values) == Ok(1);
-    conn.close().is_ok() && changed
+    conn.execute(CHANGE, &values) == Ok(1)
 }
 
 /// Removes the file at this path, and the one beside it, where they are there.
-pub fn remove<R: Files>(rt: &R, alloc: Global, path: &str) -> io::Result<()> {
+pub fn remove<R: Files>(rt: &R, alloc: Global, path: &str) -> Result<(), AllocError> {
     let file = file_at(alloc, path)?;
     let log = format!(in alloc; "{file}-wal")?;
     let _ = fs::remove_file(rt, file.as_str());

@@ -7,7 +7,7 @@ use crate::trial::{alike, came_in_memory, came_over_file};
 use example_sessions::{Came, Run, Session};
 use lei_outside::KeepFault;
 use leireg_run::store_path;
-use std::alloc::Global;
+use std::alloc::{AllocError, Global};
 use std::io;
 use std::rt::Files;
 use std::thread::Threads;
@@ -44,9 +44,14 @@ pub fn tell_session<R: Print + Files + AllocGlobal + Threads + Sync>(
 
 // Whether it is run over a file too: a run has a store, and no keeper refuses a call.
 fn is_over_file(session: &Session) -> bool {
-    let runs = session.runs();
-    runs.iter().any(|run| store_path(run.words()).is_some())
-        && !runs.iter().any(|run| run.refuses())
+    let mut has_store = false;
+    for run in session.runs() {
+        if run.refuses() {
+            return false;
+        }
+        has_store = has_store || store_path(run.words()).is_some();
+    }
+    has_store
 }
 
 fn passes_in_memory<R: Print + AllocGlobal + Threads + Sync>(
@@ -88,7 +93,7 @@ fn passes_over_file<R: Print + Files + AllocGlobal + Threads + Sync>(
     Ok(true)
 }
 
-fn remove_stores<R: Files>(rt: &R, alloc: Global, session: &Session) -> io::Result<()> {
+fn remove_stores<R: Files>(rt: &R, alloc: Global, session: &Session) -> Result<(), AllocError> {
     for run in session.runs() {
         if let Some(path) = store_path(run.words()) {
             remove(rt, alloc, path)?;

@@ -23,11 +23,14 @@ impl Devices {
     fn of(alloc: Global, wanted: &Run, most: usize) -> Result<Self, NoMemory>
         requires { 1 ≤ most }
     {
+        let sent = Bytes::copy_of(alloc, wanted.sent())?;
+        let second = Bytes::copy_of(alloc, wanted.second())?;
+        let clock = wanted.clock(alloc)?;
         Ok(Devices {
-            source: SureSource::new(Bytes::copy_of(alloc, wanted.sent())?, most),
-            second: SureSource::new(Bytes::copy_of(alloc, wanted.second())?, most),
+            source: SureSource::new(sent, most),
+            second: SureSource::new(second, most),
             sink: SureSink::new(alloc, most),
-            clock: wanted.clock(alloc)?,
+            clock,
         })
     }
 
@@ -89,33 +92,20 @@ pub fn came_over_file<R: Threads + Sync>(
     requires { 1 ≤ most }
 {
     let alloc = host.alloc();
-    let mut devices = Devices::of(alloc, wanted, most)?;
-    let status = match store_path(wanted.words()) {
-        Some(path) => file::status_over(rt, host, path, wanted, &mut devices)?,
-        None => status_alone(rt, alloc, wanted, &mut devices)?,
+    let Some(path) = store_path(wanted.words()) else {
+        return came_in_memory(rt, alloc, wanted, most, &mut Vec::new(alloc));
     };
+    let mut devices = Devices::of(alloc, wanted, most)?;
+    let status = file::status_over(rt, host, path, wanted, &mut devices)?;
     Ok(devices.came(alloc, status)?)
-}
-
-fn status_alone<R: Threads + Sync>(
-    rt: &R,
-    alloc: Global,
-    wanted: &Run,
-    devices: &mut Devices,
-) -> Result<u8, KeepFault> {
-    let keeper = keeper_of(alloc, &[], wanted)?;
-    let (status, _) = devices.run(rt, alloc, wanted, keeper);
-    Ok(status)
 }
 
 /// How many bytes two texts begin with alike.
 pub fn alike(one: &[u8], other: &[u8]) -> usize {
-    let mut count = 0usize;
-    for (left, right) in one.iter().zip(other) {
-        if left != right {
-            break;
+    for count in 0..one.len() {
+        if one.get(count) != other.get(count) {
+            return count;
         }
-        count = count.saturating_add(1);
     }
-    count
+    one.len()
 }
