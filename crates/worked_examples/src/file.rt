@@ -26,27 +26,31 @@ pub fn status_over<R: Threads + Sync>(
     devices: &mut Devices,
 ) -> Result<u8, KeepFault> {
     let file = file_at(host.alloc(), path)?;
-    for change in wanted.changes() {
-        if !change_in(host, file.as_str(), change) {
-            return Err(KeepFault::Failed);
-        }
-    }
-    Ok(status_of(rt, host, file.as_str(), wanted, devices))
+    status_in(rt, host, file.as_str(), wanted, devices)
 }
 
-// The keeper is closed here, and in no function with a `?`, where each costs a proof of how it is let go. What is called of
-// it is called over any database: over a file's own type each such function takes half a minute to prove.
-fn status_of<R: Threads + Sync>(
+// The one function that names a file's own type, which costs half a minute of proof wherever it stands: what can be is
+// called over any database.
+fn status_in<R: Threads + Sync>(
     rt: &R,
     host: &HostRuntime,
     file: &str,
     wanted: &Run,
     devices: &mut Devices,
-) -> u8 {
+) -> Result<u8, KeepFault> {
+    for change in wanted.changes() {
+        let Ok(mut conn) = Connection::open(host, file) else {
+            return Err(KeepFault::Failed);
+        };
+        let changed = is_changed(&mut conn, change);
+        if conn.close().is_err() || !changed {
+            return Err(KeepFault::Failed);
+        }
+    }
     let keeper = SqliteKeeper::on_file(host, file);
     let (status, keeper) = run_over(rt, host.alloc(), wanted, devices, keeper);
     keeper.close();
-    status
+    Ok(status)
 }
 
 fn run_over<R: Threads + Sync, S: Alter>(
@@ -59,16 +63,8 @@ fn run_over<R: Threads + Sync, S: Alter>(
     devices.run(rt, alloc, wanted, keeper)
 }
 
-// Whether the answer of an entry could be changed in the file.
-fn change_in(host: &HostRuntime, file: &str, change: &Change) -> bool {
-    let Ok(mut conn) = Connection::open(host, file) else {
-        return false;
-    };
-    let changed = change_over(&mut conn, change);
-    conn.close().is_ok() && changed
-}
-
-fn change_over<S: Alter>(conn: &mut Connection<S>, change: &Change) -> bool {
+// Whether the answer of an entry could be changed.
+fn is_changed<S: Alter>(conn: &mut Connection<S>, change: &Change) -> bool {
     let values = [
         ValueRef::Int(i64::from(change.entry)),
         ValueRef::Blob(change.answer.as_slice()),
