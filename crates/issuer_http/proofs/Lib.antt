@@ -1,0 +1,10 @@
+pub mod Filling
+pub mod Reading
+pub mod Ranging
+pub mod Wanting
+pub mod Giving
+pub mod Counting
+pub mod Sending
+pub mod Running
+pub mod Stepping
+pub mod Ending

@@ -1,0 +1,24 @@
+use Rattle.std.proofs.Common.{◌≡◌, ◌-◌, length}
+use Rattle.issuer_http.proofs.Stepping.{Walking}
+use Rattle.issuer_http.proofs.walking.answer_all.Given as goal
+use Rattle.issuer_http.specs.Serving.{progress}
+
+abbrev pub invariant-loop-wish : goal.invariant-loop-wish
+invariant-loop-wish g l =
+    let given = g.C.Clock.given in
+    let written = g.L.Link.written in
+    let left = g.L.Link.left in
+    let keeper_faults = g.K.Keeper.faults in
+    let read_faults = g.L.Link.read_faults in
+    let write_faults = g.L.Link.write_faults in
+    record {
+      walking : Walking (progress l.fn.office.office (keeper_faults l.fn.office.keeper) (given l.fn.clock) (written l.fn.link))
+          l.block l.used l.wish
+          (progress l.office.office (keeper_faults l.office.keeper) (given l.clock) (written l.link));
+      kept : write_faults l.link ≡ write_faults l.fn.link;
+      left : left l.link ≡ left l.fn.link;
+      read_kept : read_faults l.link ≡ read_faults l.fn.link;
+    }
+
+abbrev pub decreases-loop-wish : goal.decreases-loop-wish
+decreases-loop-wish g l = length l.block - l.used

@@ -1,0 +1,87 @@
+-- Replies as responses of HTTP (RFC 9112). This project's profile.
+use Rattle.std.specs.Prelude.{ℕ, Bool, List, [], ◌∷◌, ◌++◌, length, Option, Some, None, Result, MatchResult}
+use Rattle.http_heads.specs.Responses.{response_head}
+use Rattle.http_heads.specs.declared.responses.Content.{Content}
+use Rattle.http_heads.specs.declared.responses.Response.{Response}
+use Rattle.http_heads.specs.declared.routes.Allowed.{Allowed as KnownMethods}
+use Rattle.lei_office.specs.Words.{reply_status_code, reply_words}
+use Rattle.lei_office.specs.declared.reply.Allowed.{Allowed}
+use Rattle.lei_office.specs.declared.reply.Kind.{Kind}
+use Rattle.lei_office.specs.declared.reply.Refusal.{Refusal}
+use Rattle.lei_office.specs.declared.reply.Refusal.TheVariants as refusals
+use Rattle.lei_office.specs.declared.reply.Reply.{Reply}
+use Rattle.lei_office.specs.declared.reply.Reply.TheVariants as replies
+use Rattle.lei_outside.specs.Told.{Grows, WritesFront}
+use Rattle.issuer_http.specs.Requests.{Want}
+
+-- What the text of a kind is.
+abbrev pub content_of : Kind → Content
+content_of Kind.Json = Content.Json
+content_of Kind.Csv = Content.Csv
+
+-- What the text of a reply is: a refusal is plain words.
+abbrev pub content_in : Reply → Content
+content_in (replies.Text code kind text) = content_of kind
+content_in (replies.Words refusal) = Content.Plain
+
+-- The methods that a header tells.
+abbrev pub methods_of : Allowed → KnownMethods
+methods_of Allowed.Put = KnownMethods.Put
+methods_of Allowed.Get = KnownMethods.Get
+methods_of Allowed.GetPut = KnownMethods.GetPut
+
+-- Where the request's method is none of its route, the methods of the route.
+abbrev pub methods_in : Refusal → Option KnownMethods
+methods_in (refusals.Method allowed) = Some (methods_of allowed)
+methods_in refusals.TooLong = None
+methods_in refusals.NoRoute = None
+methods_in refusals.Path = None
+methods_in refusals.IssuerUnknown = None
+methods_in refusals.NumberTaken = None
+methods_in (refusals.NumberAhead number) = None
+methods_in (refusals.Malformed fault) = None
+methods_in refusals.LedgerFull = None
+methods_in refusals.NotKept = None
+methods_in refusals.LeiUnknown = None
+methods_in refusals.NothingPublished = None
+methods_in refusals.PublicationUnknown = None
+methods_in refusals.NoBase = None
+methods_in refusals.NoMemory = None
+methods_in refusals.KeeperFault = None
+methods_in refusals.Head = None
+methods_in refusals.HeadTooLong = None
+methods_in refusals.LengthRequired = None
+
+-- The same of a reply.
+abbrev pub methods_told : Reply → Option KnownMethods
+methods_told (replies.Text code kind text) = None
+methods_told (replies.Words refusal) = methods_in refusal
+
+-- What the head of the response to a reply says. It tells whether the connection is closed behind it.
+abbrev pub response_to : Bool → Reply → Response
+response_to last reply = record {
+  code = reply_status_code reply;
+  content = content_in reply;
+  size = length (reply_words reply);
+  allow = methods_told reply;
+  closes = last;
+}
+
+-- The bytes of a response: its head, and the text of the reply.
+unfoldable pub response_bytes : Bool → Reply → List ℕ
+response_bytes last reply = response_head (response_to last reply) ++ reply_words reply
+
+-- The bytes of the response to what was wanted.
+abbrev pub response_text : Want → Reply → List ℕ
+response_text want reply = response_bytes want.last reply
+
+-- The bytes of the responses to what was wanted, in order.
+abbrev pub response_texts : List Want → List Reply → List ℕ
+response_texts [] replies = []
+response_texts (want ∷ wants) [] = []
+response_texts (want ∷ wants) (reply ∷ replies) = response_text want reply ++ response_texts wants replies
+
+-- These bytes were written whole; or a front of them, and not all.
+abbrev pub IsSent : {T E : Type 0} → Option (List ℕ) → Option (List ℕ) → List ℕ → Result T E → Type 0
+IsSent before after bytes result =
+    MatchResult result (λ _. Grows before after bytes) (λ _. WritesFront before after bytes)

@@ -1,0 +1,18 @@
+//! How serving a connection ends.
+
+/// Why a connection isn't served any further.
+#[derive(Clone, Copy, Debug, PartialEq, Eq)]
+pub enum Ended {
+    /// The input ended, or a request that asks to close was answered.
+    Closed,
+    /// A read failed.
+    ReadFault,
+    /// A write failed.
+    WriteFault,
+    /// A head was refused, and that was answered.
+    BadHead,
+    /// 1,073,741,824 bytes were taken.
+    InputLimit,
+    /// Memory ran out.
+    NoMemory,
+}

@@ -1,0 +1,15 @@
+//! The register over HTTP: the requests that bytes begin with, the responses to them, and a connection that is served.
+#![tactic(auto)]
+
+mod answering;
+mod ended;
+mod requests;
+mod responses;
+mod serving;
+mod walking;
+mod window;
+
+pub use ended::Ended;
+pub use requests::{HttpRead, next_head, next_request};
+pub use responses::{Scratch, send_response};
+pub use serving::{MAX_INPUT, serve_alone};

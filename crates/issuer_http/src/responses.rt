@@ -1,0 +1,188 @@
+//! Replies as responses of HTTP, sent to a link.
+ghost use Rattle.std.specs.Prelude.{◌≡◌, ◌++◌, [], length, OnOk, IsErrOf};
+ghost use Rattle.http_heads.specs.Responses.{response_head};
+ghost use Rattle.lei_outside.specs.Count.{Rose};
+ghost use Rattle.lei_office.specs.Words.{refusal_words};
+ghost use Rattle.issuer_http.specs.Responses.{IsSent, content_of, methods_in, methods_of, response_bytes};
+
+use http_heads::{Content, Response, put_head};
+use lei_office::{Allowed, Kind, Refusal, Reply};
+use lei_outside::{Link, NoMemory, SinkFault, send_all};
+use std::alloc::Global;
+
+/// A text of more bytes is sent from where it lies, and one of at most so many together with its head.
+const COPY: usize = 16_384;
+
+/// Memory in which responses are put together, one after the other.
+#[derive(Drop)]
+pub struct Scratch {
+    head: Vec<u8>,
+    words: Vec<u8>,
+}
+
+impl Scratch {
+    /// No memory yet.
+    pub fn new(alloc: Global) -> Self {
+        Scratch {
+            head: Vec::new(alloc),
+            words: Vec::new(alloc),
+        }
+    }
+}
+
+/// Sends the response to a reply, and says in it whether the connection is closed behind it.
+#[tactic(auto, unfolding(crate::specs::Responses::response_bytes))]
+pub fn send_response<L: Link>(
+    link: &mut L,
+    scratch: &mut Scratch,
+    last: bool,
+    reply: &Reply,
+) -> Result<(), SinkFault>
+    ensures sent { IsSent (L.written link.old) (L.written link.new) (response_bytes last reply.now) result }
+    ensures kept { ¬ (IsErrOf result SinkFault.Failed) → L.write_faults link.new ≡ L.write_faults link.old }
+    ensures failed { IsErrOf result SinkFault.Failed → Rose (L.write_faults link.old) (L.write_faults link.new) }
+    ensures left { L.left link.new ≡ L.left link.old }
+    ensures read_count { L.read_faults link.new ≡ L.read_faults link.old }
+{
+    match reply {
+        Reply::Text { code, kind, text } => {
+            let response = Response {
+                code: *code,
+                content: content_of(*kind),
+                size: text.len(),
+                allow: None,
+                closes: last,
+            };
+            send(link, &mut scratch.head, &response, text.as_slice())
+        }
+        Reply::Words(refusal) => send_refusal(link, scratch, last, *refusal),
+    }
+}
+
+/// Sends the response to a refusal.
+#[tactic(auto, unfolding(crate::specs::Responses::response_bytes))]
+pub fn send_refusal<L: Link>(
+    link: &mut L,
+    scratch: &mut Scratch,
+    last: bool,
+    refusal: Refusal,
+) -> Result<(), SinkFault>
+    ensures sent { IsSent (L.written link.old) (L.written link.new) (response_bytes last (Reply.Words refusal)) result }
+    ensures kept { ¬ (IsErrOf result SinkFault.Failed) → L.write_faults link.new ≡ L.write_faults link.old }
+    ensures failed { IsErrOf result SinkFault.Failed → Rose (L.write_faults link.old) (L.write_faults link.new) }
+    ensures left { L.left link.new ≡ L.left link.old }
+    ensures read_count { L.read_faults link.new ≡ L.read_faults link.old }
+{
+    if write_words(&mut scratch.words, refusal).is_err() {
+        return Err(SinkFault::NoMemory);
+    }
+    let response = Response {
+        code: refusal.status_code(),
+        content: Content::Plain,
+        size: scratch.words.len(),
+        allow: methods_in(refusal),
+        closes: last,
+    };
+    send(link, &mut scratch.head, &response, &scratch.words)
+}
+
+// Sends the head of a response and its text.
+fn send<L: Link>(
+    link: &mut L,
+    head: &mut Vec<u8>,
+    response: &Response,
+    text: &[u8],
+) -> Result<(), SinkFault>
+    ensures sent { IsSent (L.written link.old) (L.written link.new) (response_head response.now ++ text.now) result }
+    ensures kept { ¬ (IsErrOf result SinkFault.Failed) → L.write_faults link.new ≡ L.write_faults link.old }
+    ensures failed { IsErrOf result SinkFault.Failed → Rose (L.write_faults link.old) (L.write_faults link.new) }
+    ensures left { L.left link.new ≡ L.left link.old }
+    ensures read_count { L.read_faults link.new ≡ L.read_faults link.old }
+{
+    if text.len() > COPY {
+        if write_head(head, response, b"").is_err() {
+            return Err(SinkFault::NoMemory);
+        }
+        send_both(link, head, text)
+    } else {
+        if write_head(head, response, text).is_err() {
+            return Err(SinkFault::NoMemory);
+        }
+        send_one(link, head)
+    }
+}
+
+// Writes the head of a response and this much of its text.
+fn write_head(out: &mut Vec<u8>, response: &Response, text: &[u8]) -> Result<(), NoMemory>
+    ensures { OnOk result (out.new.items ≡ response_head response.now ++ text.now) }
+{
+    out.clear();
+    put_head(out, response)?;
+    out.extend_from_slice(text)?;
+    Ok(())
+}
+
+fn send_one<L: Link>(link: &mut L, piece: &[u8]) -> Result<(), SinkFault>
+    ensures sent { IsSent (L.written link.old) (L.written link.new) piece.now result }
+    ensures kept { ¬ (IsErrOf result SinkFault.Failed) → L.write_faults link.new ≡ L.write_faults link.old }
+    ensures failed { IsErrOf result SinkFault.Failed → Rose (L.write_faults link.old) (L.write_faults link.new) }
+    ensures left { L.left link.new ≡ L.left link.old }
+    ensures read_count { L.read_faults link.new ≡ L.read_faults link.old }
+{
+    send_all(link, piece)
+}
+
+fn send_both<L: Link>(link: &mut L, first: &[u8], second: &[u8]) -> Result<(), SinkFault>
+    ensures sent { IsSent (L.written link.old) (L.written link.new) (first.now ++ second.now) result }
+    ensures kept { ¬ (IsErrOf result SinkFault.Failed) → L.write_faults link.new ≡ L.write_faults link.old }
+    ensures failed { IsErrOf result SinkFault.Failed → Rose (L.write_faults link.old) (L.write_faults link.new) }
+    ensures left { L.left link.new ≡ L.left link.old }
+    ensures read_count { L.read_faults link.new ≡ L.read_faults link.old }
+{
+    match send_one(link, first) {
+        Ok(()) => send_one(link, second),
+        Err(fault) => Err(fault),
+    }
+}
+
+// Writes a refusal in words.
+fn write_words(out: &mut Vec<u8>, refusal: Refusal) -> Result<(), NoMemory>
+    ensures { OnOk result (out.new.items ≡ refusal_words refusal) }
+{
+    out.clear();
+    out.extend_from_slice(refusal.name().as_bytes())?;
+    if let Some(number) = refusal.number() {
+        let mut digits = itoa::Buffer::new();
+        out.extend_from_slice(b" ")?;
+        out.extend_from_slice(digits.format(number).as_bytes())?;
+    }
+    Ok(())
+}
+
+fn content_of(kind: Kind) -> Content
+    ensures { result ≡ content_of kind }
+{
+    match kind {
+        Kind::Json => Content::Json,
+        Kind::Csv => Content::Csv,
+    }
+}
+
+fn methods_in(refusal: Refusal) -> Option<http_heads::Allowed>
+    ensures { result ≡ methods_in refusal }
+{
+    match refusal {
+        Refusal::Method(allowed) => Some(methods_of(allowed)),
+        _ => None,
+    }
+}
+
+fn methods_of(allowed: Allowed) -> http_heads::Allowed
+    ensures { result ≡ methods_of allowed }
+{
+    match allowed {
+        Allowed::Put => http_heads::Allowed::Put,
+        Allowed::Get => http_heads::Allowed::Get,
+        Allowed::GetPut => http_heads::Allowed::GetPut,
+    }
+}
