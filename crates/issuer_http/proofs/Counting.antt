@@ -1,5 +1,5 @@
 -- How many replies tell a fault of the keeper, and how far its count of faults has risen.
-use Rattle.std.proofs.Common.{◌≡◌, ℕ, ◌+◌, ◌≤◌, Bool, true, false, cond, List, [], ◌∷◌, ◌++◌, length, refl, sym, ap, ◌∙◌, subst, arith, length-append}
+use Rattle.std.proofs.Common.{◌≡◌, ℕ, ◌+◌, ◌≤◌, zero, suc, Bool, true, false, cond, List, [], ◌∷◌, ◌++◌, length, Contains, refl, sym, ap, ◌∙◌, subst, arith, length-append}
 use Rattle.std.specs.List.{filter}
 use Rattle.std.proofs.lemmas.List.Elements.{filter-append}
 use Rattle.lei_outside.specs.Count.{Rose}
@@ -86,3 +86,23 @@ pub rose_on : (xs ys : List Reply) (a b c : ℕ) → RoseBy (keeper_faults xs) a
 rose_on xs ys a b c first second =
     let R : ℕ → Type 0 = λ n. RoseBy n a c in
     subst R (sym (keeper_faults-append xs ys)) (RoseBy-join (keeper_faults xs) (keeper_faults ys) a b c first second)
+
+-- ---- where the count didn't rise
+
+more_faults : (reply : Reply) (replies : List Reply) → keeper_faults replies ≤ keeper_faults (reply ∷ replies)
+more_faults reply replies = omega (arith, keeper_faults-append (reply ∷ []) replies)
+
+counts_some : (replies : List Reply) → Contains replies (Words KeeperFault) → 1 ≤ keeper_faults replies
+counts_some [] (i, within, is) = absurd (omega (arith, within))
+counts_some (reply ∷ replies) (zero, within, is) =
+    let F : Reply → Type 0 = λ r. 1 ≤ keeper_faults (r ∷ replies) in
+    subst F (sym is) (omega (arith, keeper_faults-append (Words KeeperFault ∷ []) replies))
+counts_some (reply ∷ replies) (suc i, within, is) =
+    let rest : 1 ≤ keeper_faults replies = counts_some replies (i, omega (arith, within), is) in
+    omega (arith, rest, more_faults reply replies)
+
+pub none_told : (replies : List Reply) (before now : ℕ) → RoseBy (keeper_faults replies) before now
+    → ¬ (Rose before now) → ¬ (Contains replies (Words KeeperFault))
+none_told replies before now rose still has =
+    let some : 1 ≤ keeper_faults replies = counts_some replies has in
+    still (omega (arith, rose, some))

@@ -8,3 +8,4 @@ pub mod Sending
 pub mod Running
 pub mod Stepping
 pub mod Ending
+pub mod Completing

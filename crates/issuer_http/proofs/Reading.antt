@@ -82,6 +82,27 @@ read_more bytes more ask read =
     let fits : nat_le (size_of ask) (length (bytes ++ more)) ≡ true = grind (arith, nat_tests) in
     read_of (bytes ++ more) ask (ask_more bytes more ask whole.wish) fits
 
+abbrev is_bad : WishRead → Bool
+is_bad WishRead.More = false
+is_bad (WishRead.Bad fault) = true
+is_bad (WishRead.Asks ask) = false
+
+never_bad : (ask : Ask) (there : Bool) → is_bad (if_there ask there) ≡ false
+never_bad ask true = refl
+never_bad ask false = refl
+
+-- and a head that is refused stays so
+pub bad_more : (bytes more : List ℕ) (fault : HeadFault) → IsRead bytes (WishRead.Bad fault)
+    → IsRead (bytes ++ more) (WishRead.Bad fault)
+bad_more bytes more fault (WishRead.More, is, same) = absurd (false≢true (sym (ap is_bad same)))
+bad_more bytes more fault (WishRead.Bad found, is, same) = (
+  WishRead.Bad found,
+  wish_more bytes more (WishRead.Bad found) (λ other. false≢true (sym (ap is_bad other))) is,
+  same,
+)
+bad_more bytes more fault (WishRead.Asks found, is, same) =
+    absurd (false≢true (sym (ap is_bad same ∙ never_bad found (nat_le (size_of found) (length bytes)))))
+
 -- ---- each head that is read
 
 -- what a head asks that isn't refused

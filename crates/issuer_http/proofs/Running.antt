@@ -1,17 +1,21 @@
 -- What was answered, and what was answered behind it.
-use Rattle.std.proofs.Common.{◌≡◌, ℕ, ℤ, List, [], ◌∷◌, ◌++◌, length, take, Ok, Err, refl, sym, ap, ◌∙◌, subst, append_assoc, arith, length-append}
+use Rattle.std.proofs.Common.{Contains, ◌≡◌, ℕ, ℤ, List, [], ◌∷◌, ◌++◌, length, take, Ok, Err, refl, sym, ap, ◌∙◌, subst, append_assoc, arith, length-append}
 use Rattle.std.proofs.lemmas.List.{append-nil, map-append}
+use Rattle.lei_outside.specs.Count.{Rose}
 use Rattle.lei_outside.specs.Told.{Grows, WritesFront}
 use Rattle.lei_outside.proofs.Told.{Grows-none, Grows-join}
-use Rattle.lei_office.specs.Legal.{AskStep, Session}
+use Rattle.lei_office.specs.Legal.{AskStep, Session, replies_to}
 use Rattle.lei_office.specs.State.{OfficeState}
+use Rattle.lei_office.proofs.Sessions.{exact}
+use Rattle.lei_office.specs.declared.reply.Refusal.TheVariants.{NoMemory}
 use Rattle.lei_office.specs.declared.reply.Reply.{Reply}
+use Rattle.lei_office.specs.declared.reply.Reply.TheVariants.{Words}
 use Rattle.lei_office.specs.declared.request.Asked.{Asked}
 use Rattle.issuer_http.specs.Faults.{RoseBy, keeper_faults}
 use Rattle.issuer_http.specs.Requests.{Want}
 use Rattle.issuer_http.specs.Responses.{response_text, response_texts}
 use Rattle.issuer_http.specs.Serving.{Answered, Progress, Ran, Stopped, asks_of}
-use Rattle.issuer_http.proofs.Counting.{RoseBy-none, rose_on}
+use Rattle.issuer_http.proofs.Counting.{RoseBy-none, none_told, rose_on}
 use Rattle.issuer_http.proofs.Giving.{Gives-none, Gives-join}
 
 pub Session-join : (old mid new : OfficeState) (asks more : List Asked) (xs ys : List ℤ) (replies others : List Reply)
@@ -79,6 +83,15 @@ replies-of : (start now : Progress) (wants : List Want) → (run : Ran start wan
 replies-of start now wants run =
     session-length start.office now.office (asks_of wants) run.moments run.replies run.session ∙ asks-length wants
 
+-- the replies where memory is never wanting and no call of the keeper fails
+exactly : (start now : Progress) (wants : List Want) (moments : List ℤ) (replies : List Reply)
+    → Session start.office (asks_of wants) moments replies now.office
+    → RoseBy (keeper_faults replies) start.faults now.faults → ¬ (Rose start.faults now.faults)
+    → ¬ (Contains replies (Words NoMemory)) → replies ≡ replies_to start.office (asks_of wants) moments
+exactly start now wants moments replies session refuses still lacks =
+    exact (asks_of wants) start.office now.office moments replies session lacks
+    (none_told replies start.faults now.faults refuses still)
+
 -- ---- runs
 
 pub ran_nothing : (at : Progress) → Ran at [] at
@@ -89,23 +102,29 @@ ran_nothing at = record {
   session = (refl, refl);
   writes = Grows-none at.written;
   refuses = RoseBy-none at.faults at.faults refl;
+  exact = λ still lacks. refl;
 }
 
 pub ran_join : (start mid now : Progress) (wants more : List Want) → Ran start wants mid → Ran mid more now
     → Ran start (wants ++ more) now
 ran_join start mid now wants more first second =
     let G : List ℕ → Type 0 = λ bytes. Grows start.written now.written bytes in
+    let moments = first.moments ++ second.moments in
+    let replies = first.replies ++ second.replies in
+    let session = session_of start.office mid.office now.office wants more first.moments second.moments first.replies
+    second.replies first.session second.session in
+    let refuses = rose_on first.replies second.replies start.faults mid.faults now.faults first.refuses second.refuses in
     record {
-      moments = first.moments ++ second.moments;
+      moments = moments;
       gives = Gives-join start.given mid.given now.given first.moments second.moments first.gives second.gives;
-      replies = first.replies ++ second.replies;
-      session = session_of start.office mid.office now.office wants more first.moments second.moments first.replies
-          second.replies first.session second.session;
+      replies = replies;
+      session = session;
       writes = subst G
           (sym (texts-join wants more first.replies second.replies (replies-of start mid wants first)))
           (Grows-join start.written mid.written now.written (response_texts wants first.replies)
           (response_texts more second.replies) first.writes second.writes);
-      refuses = rose_on first.replies second.replies start.faults mid.faults now.faults first.refuses second.refuses;
+      refuses = refuses;
+      exact = λ still lacks. exactly start now (wants ++ more) moments replies session refuses still lacks;
     }
 
 -- a response that was written whole
@@ -113,13 +132,16 @@ pub ran_one : {T E : Type 0} (before after : Progress) (want : Want) (done : T)
     → Answered {T = T} {E = E} before want (Ok done) after → Ran before (want ∷ []) after
 ran_one {T} {E} before after want done answered =
     let G : List ℕ → Type 0 = λ bytes. Grows before.written after.written bytes in
+    let session = session_one before.office after.office want answered.moments answered.reply answered.step in
     record {
       moments = answered.moments;
       gives = answered.gives;
       replies = answered.reply ∷ [];
-      session = session_one before.office after.office want answered.moments answered.reply answered.step;
+      session = session;
       writes = subst G (sym (append-nil (response_text want answered.reply))) answered.writes;
       refuses = answered.refuses;
+      exact = λ still lacks. exactly before after (want ∷ []) answered.moments (answered.reply ∷ []) session answered.refuses
+          still lacks;
     }
 
 -- ---- runs that stop

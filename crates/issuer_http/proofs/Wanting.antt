@@ -14,7 +14,7 @@ body_more bytes more ask fits =
     ap (take ask.body) (drop-append-le ask.head bytes more (omega (arith, fits)))
     ∙ take-append-le ask.body (drop ask.head bytes) more within
 
-want_more : (bytes more : List ℕ) (ask : Ask) → size_of ask ≤ length bytes → want_of (bytes ++ more) ask ≡ want_of bytes ask
+pub want_more : (bytes more : List ℕ) (ask : Ask) → size_of ask ≤ length bytes → want_of (bytes ++ more) ask ≡ want_of bytes ask
 want_more bytes more ask fits =
     let W : List ℕ → Want = λ body. record { asked = asked_of ask.wish body; last = ask.last } in
     ap W (body_more bytes more ask fits)

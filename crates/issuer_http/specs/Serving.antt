@@ -1,15 +1,17 @@
 -- What serving a connection does, and how it ends.
-use Rattle.std.specs.Prelude.{◌≡◌, ◌⊎◌, ◌<◌, ◌≤◌, ℕ, ℤ, Bool, true, false, List, [], ◌∷◌, ◌++◌, length, map, take, drop, All, if◌then◌else◌, Option, Some, None, Result, Ok, Err, MatchResult}
+use Rattle.std.specs.Prelude.{◌≡◌, ◌⊎◌, ◌<◌, ◌≤◌, ℕ, ℤ, Bool, true, false, List, [], ◌∷◌, ◌++◌, length, map, take, drop, All, Contains, if◌then◌else◌, Option, Some, None, Result, Ok, Err, MatchResult}
 use Rattle.http_heads.specs.Requests.{IsRead}
 use Rattle.http_heads.specs.Wishes.{IsWishRead}
 use Rattle.http_heads.specs.declared.head.HeadFault.{HeadFault}
 use Rattle.http_heads.specs.declared.wishes.Ask.{Ask}
 use Rattle.http_heads.specs.declared.wishes.WishRead.{WishRead}
+use Rattle.lei_outside.specs.Count.{Rose}
 use Rattle.lei_outside.specs.Told.{Grows, IsAtEnd, Loses, WritesFront}
 use Rattle.lei_outside.specs.declared.faults.SinkFault.{SinkFault}
-use Rattle.lei_office.specs.Legal.{AskStep, Session}
+use Rattle.lei_office.specs.Legal.{AskStep, Session, replies_to}
 use Rattle.lei_office.specs.State.{OfficeState}
 use Rattle.lei_office.specs.declared.reply.Refusal.{Refusal}
+use Rattle.lei_office.specs.declared.reply.Refusal.TheVariants.{NoMemory}
 use Rattle.lei_office.specs.declared.reply.Reply.{Reply}
 use Rattle.lei_office.specs.declared.reply.Reply.TheVariants.{Words}
 use Rattle.lei_office.specs.declared.request.Asked.{Asked}
@@ -67,7 +69,8 @@ pub record Answered {T E : Type 0} (before : Progress) (want : Want) (sent : Res
   pub refuses : RoseBy (keeper_faults (reply ∷ [])) before.faults after.faults
 
 -- From the start on this was wanted and got its replies, in order, at moments of the clock, from one office to the other.
--- What was written are the responses, in order. No more replies are KEEPER_FAULT than calls of the keeper have failed.
+-- What was written are the responses, in order. No more replies are KEEPER_FAULT than calls of the keeper have failed. Where
+-- none failed and memory was never wanting, the replies are those that the requests and the moments determine.
 pub record Ran (start : Progress) (wants : List Want) (now : Progress) : Type 0 where
   pub moments : List ℤ
   pub gives : Gives start.given now.given moments
@@ -75,6 +78,8 @@ pub record Ran (start : Progress) (wants : List Want) (now : Progress) : Type 0 
   pub session : Session start.office (asks_of wants) moments replies now.office
   pub writes : Grows start.written now.written (response_texts wants replies)
   pub refuses : RoseBy (keeper_faults replies) start.faults now.faults
+  pub exact : ¬ (Rose start.faults now.faults) → ¬ (Contains replies (Words NoMemory))
+      → replies ≡ replies_to start.office (asks_of wants) moments
 
 -- The same, but of the responses to the last of it perhaps a front alone was written.
 pub record Stopped (start : Progress) (wants last : List Want) (now : Progress) : Type 0 where
@@ -144,6 +149,15 @@ pub record Serves (before : Progress) (left : Option (List ℕ)) (after : Progre
   pub bytes : List ℕ
   pub takes : Loses left left_now bytes
   pub ends : EndsWith ended before bytes left_now after
+
+-- What comes of a link that has these bytes left, where neither of its sides fails and memory is never wanting: they were
+-- all taken, and all whole requests answered, or those up to the first that asks to close, or all and that the head behind
+-- them is refused; or they are as many as end a connection.
+abbrev pub Completes : Ended → Progress → List ℕ → Progress → Type 0
+Completes ended before bytes after =
+    ((ended ≡ Ended.Closed) × (AnswersAll before bytes after ⊎ AnswersToLast before bytes after))
+    ⊎ ((ended ≡ Ended.BadHead) × AnswersToBadHead before bytes after)
+    ⊎ ((ended ≡ Ended.InputLimit) × (input_limit ≤ length bytes))
 
 -- ---- inside
 

@@ -1,8 +1,8 @@
 //! A connection that is served alone.
-ghost use Rattle.std.specs.Prelude.{◌≡◌, [], IfOk};
+ghost use Rattle.std.specs.Prelude.{◌≡◌, ℕ, List, Some};
 ghost use Rattle.http_heads.specs.Routes.{routes};
 ghost use Rattle.lei_outside.specs.Count.{Rose};
-ghost use Rattle.issuer_http.specs.Serving.{Serves, progress};
+ghost use Rattle.issuer_http.specs.Serving.{Completes, Serves, progress};
 ghost use Rattle.issuer_http.specs.declared.ended.Ended.{Ended};
 
 use crate::Ended;
@@ -37,6 +37,12 @@ pub fn serve_alone<R: Threads + Sync, K: Keeper, L: Link, C: Clock>(
     ensures no_read_fault { ¬ (result ≡ Ended.ReadFault) → L.read_faults link.new ≡ L.read_faults link.old }
     ensures write_fault { result ≡ Ended.WriteFault → Rose (L.write_faults link.old) (L.write_faults link.new) }
     ensures no_write_fault { ¬ (result ≡ Ended.WriteFault) → L.write_faults link.new ≡ L.write_faults link.old }
+    ensures complete { (bytes : List ℕ) → L.left link.old ≡ Some bytes → ¬ (result ≡ Ended.NoMemory)
+        → ¬ (Rose (L.read_faults link.old) (L.read_faults link.new))
+        → ¬ (Rose (L.write_faults link.old) (L.write_faults link.new))
+        → Completes result
+        (progress office.old.office (K.faults office.old.keeper) (C.given clock.old) (L.written link.old)) bytes
+        (progress office.new.office (K.faults office.new.keeper) (C.given clock.new) (L.written link.new)) }
 {
     match router(alloc) {
         Ok(router) => serve(rt, alloc, office, &router, link, clock),
