@@ -1,0 +1,29 @@
+-- Of each command all is known.
+use Rattle.std.proofs.Common.{◌≡◌, true, refl}
+use Rattle.clap.specs.Faults.{is_simple_and_free}
+use Rattle.clap.proofs.OnLiterals.{clap_on_literals}
+use Rattle.program_words.specs.Commands.{apply_app, check_app, demo_app, digits_app, lines_app, serve_app}
+
+pub lines_simple : is_simple_and_free lines_app ≡ true
+unfolding clap_on_literals
+lines_simple = refl
+
+pub serve_simple : is_simple_and_free serve_app ≡ true
+unfolding clap_on_literals
+serve_simple = refl
+
+pub apply_simple : is_simple_and_free apply_app ≡ true
+unfolding clap_on_literals
+apply_simple = refl
+
+pub check_simple : is_simple_and_free check_app ≡ true
+unfolding clap_on_literals
+check_simple = refl
+
+pub digits_simple : is_simple_and_free digits_app ≡ true
+unfolding clap_on_literals
+digits_simple = refl
+
+pub demo_simple : is_simple_and_free demo_app ≡ true
+unfolding clap_on_literals
+demo_simple = refl

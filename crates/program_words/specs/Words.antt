@@ -1,0 +1,153 @@
+-- Words: what the words behind the program's name ask for. This project's profile.
+use Rattle.std.specs.Prelude.{◌≤◌, ℕ, List, [], ◌∷◌, codes, if◌then◌else◌, Option, Some, None, option_map, option_and_then}
+use Rattle.std.specs.Str.{bytes_eq}
+use Rattle.copy_csv.specs.declared.sheets.Form.{Form}
+use Rattle.copy_csv.specs.declared.sheets.Sheet.{Sheet}
+use Rattle.lei_code.specs.Texts.{Text}
+use Rattle.request_words.specs.Words.{form_of, number_within, sheet_of}
+use Rattle.clap.specs.Walk.{Row, first_of}
+use Rattle.program_words.specs.Commands.{apply_app, check_app, demo_app, digits_app, lines_app, read_by, serve_app}
+use Rattle.program_words.specs.declared.runs.Command.{Command}
+use Rattle.program_words.specs.declared.runs.Command.TheVariants as commands
+use Rattle.program_words.specs.declared.runs.WantedRun.{WantedRun}
+
+-- To answer the lines of the input, to answer over HTTP, to patch a copy of this sheet and form by a delta, to say whether
+-- a text is an LEI, to make the check digits of a text, or to make up a register of so many records.
+pub data Deed : Type 0 where
+  to_answer_lines : Deed
+  to_serve : Deed
+  to_patch : Sheet → Form → Deed
+  to_check : Text → Deed
+  to_make_digits : Text → Deed
+  to_make_up : ℕ → Deed
+
+-- What is to be done, and with what: the path of a store, those of a first and of a second file, and of a server its port,
+-- how many workers it has and how many connections each of them takes. A number that isn't asked for is 0.
+pub record Meant : Type 0 where
+  pub deed : Deed
+  pub store : Option Text
+  pub first : Option Text
+  pub second : Option Text
+  pub port : ℕ
+  pub workers : ℕ
+  pub connections : ℕ
+
+-- a deed for which nothing else is asked
+abbrev pub only : Deed → Meant
+only deed = record {
+  deed = deed;
+  store = None;
+  first = None;
+  second = None;
+  port = 0;
+  workers = 0;
+  connections = 0;
+}
+
+-- ---- what each command means, by the texts under its names
+
+-- Lines are answered from a store, where a path is given: any text, the empty one too.
+abbrev pub lines_meant : List Row → Option Meant
+lines_meant rows = Some (record (only to_answer_lines) { store = first_of (codes "store") rows })
+
+-- the number in this range that stands under this name
+abbrev pub number_under : Text → ℕ → ℕ → List Row → Option ℕ
+number_under name low high rows = option_and_then (number_within low high) (first_of name rows)
+
+-- how many connections each worker takes: 4,294,967,295 where it isn't said
+abbrev pub connections_told : Option Text → Option ℕ
+connections_told None = Some 4_294_967_295
+connections_told (Some text) = number_within 1 4_294_967_295 text
+
+-- a server by its numbers, and nothing where one of them can't be read
+abbrev pub serve_by : Option ℕ → Option ℕ → Option ℕ → Option Text → Option Meant
+serve_by (Some port) (Some workers) (Some connections) store = Some (record (only to_serve) {
+  store = store;
+  port = port;
+  workers = workers;
+  connections = connections;
+})
+serve_by (Some port) (Some workers) None store = None
+serve_by (Some port) None connections store = None
+serve_by None workers connections store = None
+
+-- A server has a port from 0 to 65,535, and one worker.
+abbrev pub serve_meant : List Row → Option Meant
+serve_meant rows = serve_by (number_under (codes "port") 0 65_535 rows) (number_under (codes "workers") 1 1 rows)
+    (connections_told (first_of (codes "connections") rows)) (first_of (codes "store") rows)
+
+-- a copy is patched by a sheet, a form and two files, and nothing where one of them can't be read
+abbrev pub apply_by : Option Sheet → Option Form → Option Text → Option Text → Option Meant
+apply_by (Some sheet) (Some form) (Some copy) (Some delta) =
+    Some (record (only (to_patch sheet form)) { first = Some copy; second = Some delta })
+apply_by (Some sheet) (Some form) (Some copy) None = None
+apply_by (Some sheet) (Some form) None delta = None
+apply_by (Some sheet) None copy delta = None
+apply_by None form copy delta = None
+
+-- The file of the copy is the first, and that of the delta the second. A path may be any text, the empty one too.
+abbrev pub apply_meant : List Row → Option Meant
+apply_meant rows = apply_by (option_and_then sheet_of (first_of (codes "TABLE") rows))
+    (option_and_then form_of (first_of (codes "FORM") rows)) (first_of (codes "COPY") rows) (first_of (codes "DELTA") rows)
+
+-- Any text is checked, the empty one too.
+abbrev pub check_meant : List Row → Option Meant
+check_meant rows = option_map (λ text. only (to_check text)) (first_of (codes "CODE") rows)
+
+-- Check digits are made of any text, the empty one too.
+abbrev pub digits_meant : List Row → Option Meant
+digits_meant rows = option_map (λ text. only (to_make_digits text)) (first_of (codes "TEXT") rows)
+
+-- A register has from 2 to 100,000 records.
+abbrev pub demo_meant : List Row → Option Meant
+demo_meant rows = option_map (λ records. only (to_make_up records)) (number_under (codes "N") 2 100_000 rows)
+
+-- ---- what the words mean
+
+-- The first word is the command's name, byte by byte, and the words behind it are read by that command.
+abbrev pub meant_by : Text → List Text → Option Meant
+meant_by name words =
+    if bytes_eq name (codes "lines") then option_and_then lines_meant (read_by lines_app words)
+    else (if bytes_eq name (codes "serve") then option_and_then serve_meant (read_by serve_app words)
+    else (if bytes_eq name (codes "apply") then option_and_then apply_meant (read_by apply_app words)
+    else (if bytes_eq name (codes "check") then option_and_then check_meant (read_by check_app words)
+    else (if bytes_eq name (codes "digits") then option_and_then digits_meant (read_by digits_app words)
+    else (if bytes_eq name (codes "demo") then option_and_then demo_meant (read_by demo_app words)
+    else None)))))
+
+-- What the words behind the program's name ask for, and nothing where they are no command.
+abbrev pub meant : List Text → Option Meant
+meant [] = None
+meant (name ∷ words) = meant_by name words
+
+-- ---- what is read of them
+
+-- what a command was read for
+abbrev pub deed_of : Command → Deed
+deed_of commands.Lines = to_answer_lines
+deed_of commands.Serve = to_serve
+deed_of (commands.Apply sheet form) = to_patch sheet form
+deed_of (commands.Check code) = to_check code.now
+deed_of (commands.Digits text) = to_make_digits text.now
+deed_of (commands.Demo records) = to_make_up records
+
+-- what a run was read for
+abbrev pub meaning : WantedRun → Meant
+meaning run = record {
+  deed = deed_of run.command;
+  store = option_map (λ path. path.now) run.store;
+  first = option_map (λ path. path.now) run.first;
+  second = option_map (λ path. path.now) run.second;
+  port = run.port;
+  workers = run.workers;
+  connections = run.connections;
+}
+
+-- The number of records that a command makes up lies in its range.
+abbrev pub IsInRange : Command → Type 0
+IsInRange commands.Lines = Unit {0}
+IsInRange commands.Serve = Unit {0}
+IsInRange (commands.Apply sheet form) = Unit {0}
+IsInRange (commands.Check code) = Unit {0}
+IsInRange (commands.Digits text) = Unit {0}
+IsInRange (commands.Demo records) = (2 ≤ records) × (records ≤ 100_000)
