@@ -15,4 +15,3 @@ pub mod Completing
 pub mod Unopened
 pub mod FileReading
 pub mod Applied
-pub mod FileWords

@@ -17,7 +17,6 @@ pub mod status;
 mod window;
 mod writing;
 
-pub use command::{file_paths, store_path};
 pub use files::{MAX_FILE, no_file};
 pub use program::{MAX_INPUT, run};
 pub use register_demo::{Progress, Untold};

@@ -1,27 +1,29 @@
 //! The program's run, from its words, its inputs, its output, its keeper and its clock to its status.
-ghost use Rattle.std.specs.Prelude.{◌≡◌, ◌≢◌, ◌↔◌, [], None, Ok, false, Option, map, string_bytes, IsErrOf};
+ghost use Rattle.std.specs.Prelude.{◌≡◌, ◌≢◌, ◌⊎◌, [], None, Some, Ok, false, Option, map, string_bytes, IsErrOf};
 ghost use Rattle.lei_outside.specs.Count.{Rose};
 ghost use Rattle.lei_outside.specs.Faults.{FailsLast};
 ghost use Rattle.lei_outside.specs.Keeping.{KeptTables};
 ghost use Rattle.lei_outside.specs.Told.{Grows};
 ghost use Rattle.lei_office.specs.Kept.{Keeps};
-ghost use Rattle.leireg_run.specs.Ends.{RunsFrom, RunsLines, Does, Completes, IsDamageTold, IsUnopened, MayTell, TellsDamage, damage_text};
+ghost use Rattle.leireg_run.specs.Ends.{RunsFrom, RunsLines, Does, DoesIfRead, Completes, IsDamageTold, IsUnopened, MayTell, TellsDamage, damage_text};
 ghost use Rattle.leireg_run.specs.Outside.{outside};
 ghost use Rattle.leireg_run.specs.Reading.{Holds};
 ghost use Rattle.leireg_run.specs.Status.{end_status};
 ghost use Rattle.leireg_run.specs.Applying.{FailsOneOf};
-ghost use Rattle.leireg_run.specs.Words.{IsInRange, Meant, to_answer_lines, meant, meaning, reads_input, reads_second, Mean};
+ghost use Rattle.program_words.specs.Words.{Deed, IsInRange, deed_of, to_answer_lines};
+ghost use Rattle.leireg_run.specs.Words.{Mean, deed_in, reads_input, reads_second, unless_serving};
 
 use crate::applying::apply;
 use crate::codes::{check, digits};
-use crate::command::{Command, command_of};
+use crate::command::command_of;
 use crate::damage::write_damage;
 use crate::demo::tell_demo;
 use crate::outbox::BLOCK;
 use crate::reader::Reader;
-use crate::status::{OK, Stop, USAGE};
+use crate::status::{NO_MEMORY, OK, Stop, USAGE};
 use lei_office::{Damage, OpenFault};
 use lei_outside::{Clock, Keeper, Sink, SinkFault, Source};
+use program_words::{Command, WordsFault};
 use register_demo::Progress;
 use std::alloc::Global;
 use std::thread::Threads;
@@ -43,14 +45,16 @@ pub fn run<R: Threads + Sync, S: Source, T: Source, W: Sink, K: Keeper, C: Clock
     clock: &mut C,
     progress: &mut P,
 ) -> (u8, K)
-    ensures usage { result.0 ≡ 1 ↔ (meant (map string_bytes words.now) ≡ None) }
-    ensures untouched { result.0 ≡ 1 → (out.new ≡ out.old) × (input.new ≡ input.old) × (second.new ≡ second.old) }
-    ensures unread { (what : Meant) → Mean words.now what → reads_input what ≡ false → input.new ≡ input.old }
-    ensures second_unread { (what : Meant) → Mean words.now what → reads_second what ≡ false → second.new ≡ second.old }
+    ensures usage { result.0 ≡ 1 → deed_in (map string_bytes words.now) ≡ None }
+    ensures refused { deed_in (map string_bytes words.now) ≡ None → (result.0 ≡ 1) ⊎ (result.0 ≡ 6) }
+    ensures untouched { deed_in (map string_bytes words.now) ≡ None
+        → (out.new ≡ out.old) × (input.new ≡ input.old) × (second.new ≡ second.old) }
+    ensures unread { (what : Deed) → Mean words.now what → reads_input what ≡ false → input.new ≡ input.old }
+    ensures second_unread { (what : Deed) → Mean words.now what → reads_second what ≡ false → second.new ≡ second.old }
     ensures unasked { ¬ (Mean words.now to_answer_lines) → clock.new ≡ clock.old }
     ensures unkept { ¬ (Mean words.now to_answer_lines) → result.1 ≡ keeper }
     ensures unopened { IsUnopened result.0 → (input.new ≡ input.old) × (clock.new ≡ clock.old) }
-    ensures does { (what : Meant) → Mean words.now what → Does (MayTell K.tables) what
+    ensures does { (what : Deed) → Mean words.now what → DoesIfRead (MayTell K.tables) what
         (outside (S.left input.old) (C.given clock.old) (W.written out.old) (K.tables keeper) (K.faults keeper))
         (outside (S.left input.new) (C.given clock.new) (W.written out.new) (K.tables result.1) (K.faults result.1))
         (T.left second.old) (T.left second.new) result.0 }
@@ -61,7 +65,7 @@ pub fn run<R: Threads + Sync, S: Source, T: Source, W: Sink, K: Keeper, C: Clock
     ensures write_fault { result.0 ≡ 4 → FailsLast W.written W.faults out.old out.new }
     ensures no_write_fault { result.0 ≢ 4 → result.0 ≢ 7 → W.faults out.new ≡ W.faults out.old }
     ensures damage_fault { result.0 ≡ 7 → Rose (W.faults out.old) (W.faults out.new) → FailsLast W.written W.faults out.old out.new }
-    ensures complete { (what : Meant) → Mean words.now what → result.0 ≢ 6
+    ensures complete { (what : Deed) → Mean words.now what → result.0 ≢ 6
         → ¬ (Rose (S.faults input.old) (S.faults input.new)) → ¬ (Rose (T.faults second.old) (T.faults second.new))
         → ¬ (Rose (W.faults out.old) (W.faults out.new))
         → Completes (MayTell K.tables) what
@@ -69,8 +73,10 @@ pub fn run<R: Threads + Sync, S: Source, T: Source, W: Sink, K: Keeper, C: Clock
         (outside (S.left input.new) (C.given clock.new) (W.written out.new) (K.tables result.1) (K.faults result.1))
         (T.left second.old) (T.left second.new) result.0 }
 {
-    let Some(command) = command_of(words) else {
-        return (USAGE, keeper);
+    let command = match command_of(alloc, words) {
+        Ok(command) => command,
+        Err(WordsFault::Usage) => return (USAGE, keeper),
+        Err(WordsFault::NoMemory) => return (NO_MEMORY, keeper),
     };
     match run_command(
         rt, alloc, &command, input, second, out, keeper, clock, progress,
@@ -91,13 +97,14 @@ fn run_command<R: Threads + Sync, S: Source, T: Source, W: Sink, K: Keeper, C: C
     clock: &mut C,
     progress: &mut P,
 ) -> (Result<(), Stop>, K)
-    requires { IsInRange command.now }
-    ensures unread { reads_input (meaning command.now) ≡ false → input.new ≡ input.old }
-    ensures second_unread { reads_second (meaning command.now) ≡ false → second.new ≡ second.old }
-    ensures unasked { ¬ (meaning command.now ≡ to_answer_lines) → clock.new ≡ clock.old }
-    ensures unkept { ¬ (meaning command.now ≡ to_answer_lines) → result.1 ≡ keeper }
+    requires range { IsInRange command.now }
+    requires run { unless_serving (deed_of command.now) ≡ Some (deed_of command.now) }
+    ensures unread { reads_input (deed_of command.now) ≡ false → input.new ≡ input.old }
+    ensures second_unread { reads_second (deed_of command.now) ≡ false → second.new ≡ second.old }
+    ensures unasked { ¬ (deed_of command.now ≡ to_answer_lines) → clock.new ≡ clock.old }
+    ensures unkept { ¬ (deed_of command.now ≡ to_answer_lines) → result.1 ≡ keeper }
     ensures unopened { IsUnopened (end_status result.0) → (input.new ≡ input.old) × (clock.new ≡ clock.old) }
-    ensures does { Does (MayTell K.tables) (meaning command.now)
+    ensures does { Does (MayTell K.tables) (deed_of command.now)
         (outside (S.left input.old) (C.given clock.old) (W.written out.old) (K.tables keeper) (K.faults keeper))
         (outside (S.left input.new) (C.given clock.new) (W.written out.new) (K.tables result.1) (K.faults result.1))
         (T.left second.old) (T.left second.new) (end_status result.0) }
@@ -118,6 +125,7 @@ fn run_command<R: Threads + Sync, S: Source, T: Source, W: Sink, K: Keeper, C: C
 {
     match command {
         Command::Lines => run_lines(rt, alloc, input, out, keeper, clock),
+        Command::Serve => unreachable!(),
         Command::Check(code) => (check(code, out), keeper),
         Command::Digits(text) => (digits(text, out), keeper),
         Command::Apply(sheet, form) => (apply(alloc, *sheet, *form, input, second, out), keeper),

@@ -3,7 +3,9 @@
 
 mod commands;
 mod fault;
+mod help;
 mod runs;
 
 pub use fault::WordsFault;
+pub use help::help_of;
 pub use runs::{Command, WantedRun, wanted};

@@ -1,4 +1,4 @@
-use Rattle.std.proofs.Common.{ap}
+use Rattle.std.proofs.Common.{ap, sym}
 use Rattle.leireg_run.specs.Status.{end_status}
 use Rattle.leireg_run.specs.Ends.{MayTell}
 use Rattle.leireg_run.proofs.Completing.{completes_meant, completes_stopped}
@@ -7,11 +7,11 @@ use Rattle.leireg_run.proofs.program.run.Goals as goal
 
 pub returns-in-Ok-default-clause-complete : goal.returns-in-Ok-default-clause-complete
 returns-in-Ok-default-clause-complete g c = λ what means _ _ _ _. completes_meant (MayTell g.K.Keeper.tables) _ what _ _ _ _ _ _
-    (ap end_status c.in-Ok-default.is-0) c.in-Some.ensures.meant means c.run_command.ensures.does
+    (ap end_status c.in-Ok-default.is-0) (sym c.in-Ok.ensures.meant) means c.run_command.ensures.does
 
 pub returns-in-Err-default-clause-complete : goal.returns-in-Err-default-clause-complete
 returns-in-Err-default-clause-complete g c = λ what means n6 input_still second_still out_still.
     let ended = c.run_command.ensures in
-    completes_stopped (MayTell g.K.Keeper.tables) _ what _ _ _ _ _ c.run_command.result.0 c.in-Err-default.stop c.status.result c.in-Err-default.is-0 c.status.ensures c.in-Some.ensures.meant means
+    completes_stopped (MayTell g.K.Keeper.tables) _ what _ _ _ _ _ c.run_command.result.0 c.in-Err-default.stop c.status.result c.in-Err-default.is-0 c.status.ensures (sym c.in-Ok.ensures.meant) means
     (λ failed. one_rose _ _ _ _ _ _ _ _ (ended.read_fault failed) input_still second_still) (λ failed. out_still (rose_of _ _ _ _ (ended.write_fault failed))) n6
     (λ damaged. ended.damage_told damaged out_still) ended.does

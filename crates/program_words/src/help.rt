@@ -1,0 +1,58 @@
+//! How the program is called, told to a person.
+
+const COMMANDS: &'static str = "usage: leireg COMMAND
+  lines   answers each line of the standard input
+  serve   answers requests over HTTP
+  apply   patches a golden copy by a delta
+  check   tells whether a text is a Legal Entity Identifier
+  digits  makes the check digits of a Legal Entity Identifier
+  demo    makes up a register, and tells what became of it
+example: leireg lines --help";
+
+const LINES: &'static str = "usage: leireg lines [--store PATH]
+answers each line of the standard input: ACCREDIT OFFICE, UPLOAD OFFICE NUMBER BODY, KEPT OFFICE NUMBER,
+PUBLISH NUMBER, SHOW LEI, COPY TABLE FORM, DELTA BASE TABLE FORM or STATUS
+  --store PATH  keeps the register in the file PATH; without it the register is in memory
+example: leireg lines --store register.db";
+
+const SERVE: &'static str =
+    "usage: leireg serve --port P --workers W [--connections N] [--store PATH]
+answers requests over HTTP on 127.0.0.1, and tells its address on the standard error
+  --port P         the port, from 0 to 65535; with 0 one that is free
+  --workers W      how many connections are served at once: 1
+  --connections N  ends behind N connections, from 1 to 4294967295; without it behind 4294967295
+  --store PATH     keeps the register in the file PATH; without it the register is in memory
+example: leireg serve --port 8080 --workers 1";
+
+const APPLY: &'static str = "usage: leireg apply TABLE FORM COPY DELTA
+writes the golden copy that the one in the file COPY becomes by the delta in the file DELTA
+  TABLE  lei, rr or repex
+  FORM   csv or json
+example: leireg apply lei csv copy.csv delta.csv";
+
+const CHECK: &'static str = "usage: leireg check CODE
+tells whether CODE is a Legal Entity Identifier
+example: leireg check 5493001KJTIIGC8Y1R12";
+
+const DIGITS: &'static str = "usage: leireg digits TEXT
+makes the check digits of TEXT, the first 18 characters of a Legal Entity Identifier
+example: leireg digits 5493001KJTIIGC8Y1R";
+
+const DEMO: &'static str = "usage: leireg demo N
+makes up a register, publishes it, and tells what became of it
+  N  how many records it has, from 2 to 100000
+example: leireg demo 1000";
+
+/// How the command of this name is called: its usage, each option with its range, and an example, in lines of which the
+/// last has no end. For a word that names none, the commands that there are.
+pub fn help_of(name: &str) -> &'static str {
+    match name {
+        "lines" => LINES,
+        "serve" => SERVE,
+        "apply" => APPLY,
+        "check" => CHECK,
+        "digits" => DIGITS,
+        "demo" => DEMO,
+        _ => COMMANDS,
+    }
+}
