@@ -11,7 +11,10 @@ use std::process::ExitCode;
 use std::rt::Files;
 use std::thread::Threads;
 use std::{env, fs, io};
-use telling::tell_session;
+use telling::{tell_help, tell_session};
+
+/// The file that shows how each command is called.
+const GUIDE: &'static str = "GUIDE.md";
 
 /// How many sessions passed, and how many did not, a file that is not read among them.
 #[derive(Clone, Copy)]
@@ -59,6 +62,9 @@ fn run_file<R: Print + Files + AllocGlobal + Threads + Sync>(
         println!(rt; "{file}: cannot be read")?;
         return Ok(known);
     };
+    if file == GUIDE {
+        count.add(tell_help(rt, file, text.as_str())?);
+    }
     match Document::read(alloc, known, text.as_str()) {
         Ok(document) => {
             for session in document.sessions() {

@@ -3,7 +3,7 @@ use example_sessions::{Change, Run};
 use lei_outside::{
     Bytes, KeepFault, Keeper, KeptCell, KeptEntry, List, MapKeeper, NoMemory, Text, may_be_kept,
 };
-use leireg_run::store_path;
+use program_words::wanted;
 use std::alloc::Global;
 
 /// What a run left at the path of its store.
@@ -25,9 +25,17 @@ impl Store {
     }
 }
 
+/// The path of the store that the words of a run name, if they name one.
+pub fn path_of<'a>(alloc: Global, run: &'a Run) -> Option<&'a str> {
+    match wanted(alloc, run.words()) {
+        Ok(wanted) => wanted.store,
+        Err(_) => None,
+    }
+}
+
 /// The keeper of a run: what the last run with its path left among these, with what is changed of it, or nothing.
 pub fn keeper_of(alloc: Global, stores: &[Store], run: &Run) -> Result<MapKeeper, KeepFault> {
-    let store = store_of(stores, run);
+    let store = store_of(alloc, stores, run);
     let entries = entries_with(alloc, entries_in(store), run.changes())?;
     let cells = copies(alloc, cells_in(store))?;
     if !may_be_kept(entries.as_slice(), cells.as_slice()) {
@@ -36,8 +44,8 @@ pub fn keeper_of(alloc: Global, stores: &[Store], run: &Run) -> Result<MapKeeper
     Ok(run.keeper(alloc, entries, cells)?)
 }
 
-fn store_of<'a>(stores: &'a [Store], run: &Run) -> Option<&'a Store> {
-    let path = store_path(run.words())?;
+fn store_of<'a>(alloc: Global, stores: &'a [Store], run: &Run) -> Option<&'a Store> {
+    let path = path_of(alloc, run)?;
     stores
         .iter()
         .rev()

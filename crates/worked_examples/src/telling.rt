@@ -2,11 +2,11 @@
 ghost use Rattle.std.specs.Prelude.{◌≡◌, ◌≤◌, ◌↔◌, IfOk, IsTrue};
 
 use crate::file::remove;
-use crate::stores::Store;
+use crate::stores::{Store, path_of};
 use crate::trial::{alike, came_in_memory, came_over_file};
 use example_sessions::{Came, Run, Session};
 use lei_outside::KeepFault;
-use leireg_run::store_path;
+use program_words::help_of;
 use std::alloc::{AllocError, Global};
 use std::io;
 use std::rt::Files;
@@ -23,7 +23,7 @@ pub fn tell_session<R: Print + Files + AllocGlobal + Threads + Sync>(
     file: &str,
     session: &Session,
 ) -> io::Result<bool> {
-    let over_file = is_over_file(session);
+    let over_file = is_over_file(host.alloc(), session);
     for size in SIZES {
         if !passes_in_memory(rt, host.alloc(), file, session, size)? {
             return Ok(false);
@@ -42,14 +42,29 @@ pub fn tell_session<R: Print + Files + AllocGlobal + Threads + Sync>(
     Ok(true)
 }
 
+// The words whose help a guide shows, the empty one for that of the whole program.
+const COMMANDS: [&str; 7] = ["", "lines", "serve", "apply", "check", "digits", "demo"];
+
+/// Tells whether the help of each command stands in a text as it is printed, and says that.
+pub fn tell_help<R: Print>(rt: &R, file: &str, text: &str) -> io::Result<bool> {
+    for name in COMMANDS {
+        if !text.contains(help_of(name)) {
+            println!(rt; "{file}: the help of '{name}' is not shown as it is printed")?;
+            return Ok(false);
+        }
+    }
+    println!(rt; "{file}: the help of each command stands there as it is printed")?;
+    Ok(true)
+}
+
 // Whether it is run over a file too: a run has a store, and no keeper refuses a call.
-fn is_over_file(session: &Session) -> bool {
+fn is_over_file(alloc: Global, session: &Session) -> bool {
     let mut has_store = false;
     for run in session.runs() {
         if run.refuses() {
             return false;
         }
-        has_store = has_store || store_path(run.words()).is_some();
+        has_store = has_store || path_of(alloc, run).is_some();
     }
     has_store
 }
@@ -95,7 +110,7 @@ fn passes_over_file<R: Print + Files + AllocGlobal + Threads + Sync>(
 
 fn remove_stores<R: Files>(rt: &R, alloc: Global, session: &Session) -> Result<(), AllocError> {
     for run in session.runs() {
-        if let Some(path) = store_path(run.words()) {
+        if let Some(path) = path_of(alloc, run) {
             remove(rt, alloc, path)?;
         }
     }

@@ -2,10 +2,10 @@
 ghost use Rattle.std.specs.Prelude.{◌≤◌};
 
 use crate::file;
-use crate::stores::{Store, keeper_of};
+use crate::stores::{Store, keeper_of, path_of};
 use example_sessions::{Came, Run};
 use lei_outside::{Bytes, KeepFault, Keeper, ListClock, NoMemory, Sink, SureSink, SureSource};
-use leireg_run::{Untold, run, store_path};
+use leireg_run::{Untold, run};
 use std::alloc::Global;
 use std::thread::Threads;
 
@@ -76,7 +76,7 @@ pub fn came_in_memory<R: Threads + Sync>(
     let mut devices = Devices::of(alloc, wanted, most)?;
     let keeper = keeper_of(alloc, stores.as_slice(), wanted)?;
     let (status, mut keeper) = devices.run(rt, alloc, wanted, keeper);
-    if let Some(path) = store_path(wanted.words()) {
+    if let Some(path) = path_of(alloc, wanted) {
         stores.push(Store::of(alloc, path, &mut keeper)?)?;
     }
     Ok(devices.came(alloc, status)?)
@@ -92,7 +92,7 @@ pub fn came_over_file<R: Threads + Sync>(
     requires { 1 ≤ most }
 {
     let alloc = host.alloc();
-    let Some(path) = store_path(wanted.words()) else {
+    let Some(path) = path_of(alloc, wanted) else {
         return came_in_memory(rt, alloc, wanted, most, &mut Vec::new(alloc));
     };
     let mut devices = Devices::of(alloc, wanted, most)?;
