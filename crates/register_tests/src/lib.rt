@@ -17,3 +17,5 @@ mod runs;
 mod sqlite_keeper;
 #[cfg(test)]
 mod stores;
+#[cfg(test)]
+mod words;

@@ -1,0 +1,98 @@
+// What words ask of a server.
+use lei_outside::NoMemory;
+use program_words::{Command, WordsFault, wanted};
+use std::alloc::Global;
+use std::test::Fail;
+
+// The words of servers, with their ports, their connections and the paths of their stores.
+const SERVERS: [(&str, u16, u64, Option<&str>); 4] = [
+    ("serve --port 0 --workers 1", 0, 4_294_967_295, None),
+    (
+        "serve --workers=1 --port=65535",
+        65_535,
+        4_294_967_295,
+        None,
+    ),
+    (
+        "serve --store a --connections=4294967295 --workers 1 --port 80",
+        80,
+        4_294_967_295,
+        Some("a"),
+    ),
+    (
+        "serve --port 8080 --workers 1 --connections 1 --store=",
+        8_080,
+        1,
+        Some(""),
+    ),
+];
+
+// Words that are no command, a line each.
+const OTHERS: &str = "serve
+serve --port 0
+serve --workers 1
+serve --port 0 --workers 0
+serve --port 0 --workers 2
+serve --port 65536 --workers 1
+serve --port 080 --workers 1
+serve --port +80 --workers 1
+serve --port= --workers 1
+serve --port 0 --port 0 --workers 1
+serve --port 0 --workers 1 --connections 0
+serve --port 0 --workers 1 --connections 4294967296
+serve --port 0 --workers 1 8080
+serve --port 0 --workers 1 --help
+serve -- --port 0 --workers 1
+Serve --port 0 --workers 1";
+
+fn words_of(alloc: Global, text: &str) -> Result<Vec<String>, NoMemory> {
+    let mut words = Vec::new(alloc);
+    for word in text.split(' ') {
+        words.push(String::from_str(alloc, word)?)?;
+    }
+    Ok(words)
+}
+
+fn is_server(
+    alloc: Global,
+    words: &[String],
+    port: u16,
+    connections: u64,
+    store: Option<&str>,
+) -> bool {
+    match wanted(alloc, words) {
+        Ok(run) => {
+            matches!(run.command, Command::Serve)
+                && run.port == port
+                && run.workers == 1
+                && run.connections == connections
+                && run.store == store
+        }
+        Err(_) => false,
+    }
+}
+
+fn is_refused(alloc: Global, words: &[String]) -> bool {
+    matches!(wanted(alloc, words), Err(WordsFault::Usage))
+}
+
+#[test]
+fn options_of_a_server_stand_in_any_order(rt: HostRuntime) -> Result<(), Fail> {
+    for (text, port, connections, store) in SERVERS {
+        let words = words_of(rt.alloc(), text)?;
+        assert!(rt;
+            is_server(rt.alloc(), &words, port, connections, store),
+            "{text}"
+        );
+    }
+    Ok(())
+}
+
+#[test]
+fn other_words_are_no_server(rt: HostRuntime) -> Result<(), Fail> {
+    for text in OTHERS.lines() {
+        let words = words_of(rt.alloc(), text)?;
+        assert!(rt; is_refused(rt.alloc(), &words), "{text}");
+    }
+    Ok(())
+}
