@@ -1,0 +1,40 @@
+-- Connections over a stream, and the door through which they come, as contracts see them.
+use Rattle.std.specs.Prelude.{◌≡◌, ◌<◌, ◌-◌, ◌⊎◌, ℕ, Bool, false, true, Option, None, Some, Result, Ok, Err}
+use Rattle.lei_outside.specs.Count.{counted}
+use Rattle.lei_outside.specs.declared.door.Came.{Came}
+
+-- A link over a stream: the stream, and how many reads and writes have failed.
+pub record StreamState (S : Type 0) : Type 0 where
+  pub stream : S
+  pub read_faults : ℕ
+  pub write_faults : ℕ
+
+-- A door over a listener: whether there is one, how many lines it may still give, whether a line is out, and how many
+-- calls have failed.
+pub record ListenerState : Type 0 where
+  pub listens : Bool
+  pub to_give : ℕ
+  pub out : Bool
+  pub faults : ℕ
+
+-- What came of waiting for a connection: one of those that are still to be given; none, where all were; or it failed,
+-- which it always does without a listener.
+abbrev pub Waits : {S E : Type 0} → ListenerState → Result (Option S) E → Type 0
+Waits door (Ok (Some stream)) = (door.listens ≡ true) × (0 < door.to_give)
+Waits door (Ok None) = (door.listens ≡ true) × (door.to_give ≡ 0)
+Waits door (Err fault) = (door.listens ≡ false) ⊎ (0 < door.to_give)
+
+-- What a door's call does to it: it gave one of its lines, which is out now; it is closed, exactly where it has a listener
+-- and gave them all; or the call failed, which is counted.
+abbrev pub Gives : {L : Type 0} → ListenerState → Came L → ListenerState → Type 0
+Gives old (Came.Line line) new = (old.listens ≡ true) × (0 < old.to_give)
+    × (new ≡ record old { to_give = old.to_give - 1; out = true })
+Gives old Came.Closed new = (old.listens ≡ true) × (old.to_give ≡ 0) × (new ≡ old)
+Gives old Came.Failed new = ((old.listens ≡ false) ⊎ (0 < old.to_give))
+    × (new ≡ record old { faults = counted old.faults })
+
+-- A line that came has not failed yet.
+abbrev pub IsNew : {S : Type 0} → Came (StreamState S) → Type 0
+IsNew (Came.Line line) = (line.read_faults ≡ 0) × (line.write_faults ≡ 0)
+IsNew Came.Closed = Unit {0}
+IsNew Came.Failed = Unit {0}
