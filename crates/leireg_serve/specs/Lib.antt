@@ -1,0 +1,3 @@
+pub mod Words
+pub mod Desks
+pub mod Ends

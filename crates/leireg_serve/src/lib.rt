@@ -1,0 +1,10 @@
+//! The command that serves the register over HTTP, over any keeper, doors and clocks.
+#![tactic(auto)]
+
+mod desk;
+mod serving;
+mod words;
+
+pub use desk::{Desk, DeskEnd, serve_desk};
+pub use serving::{DOOR_FAULT, serve};
+pub use words::{ServeWords, serve_words};
