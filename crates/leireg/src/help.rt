@@ -1,32 +1,43 @@
-//! What helps a person where a run ends with another status than `OK`.
+//! What is told to a person where a run ends with another status than `OK`.
 use leireg_run::status::{
     INPUT_TOO_LONG, KEEPER_FAULT, NO_MEMORY, READ_FAULT, REFUSED, STORE_DAMAGED, USAGE, WRITE_FAULT,
 };
+use leireg_serve::DOOR_FAULT;
 
-const COMMANDS: &'static str = "usage:
-  leireg lines [--store PATH]         answers each line of the standard input, as in ACCREDIT OFFICE, UPLOAD OFFICE NUMBER BODY, KEPT OFFICE NUMBER, PUBLISH NUMBER, SHOW LEI, COPY TABLE FORM, DELTA BASE TABLE FORM or STATUS, and keeps the register in the file PATH
-  leireg apply TABLE FORM COPY DELTA  writes the golden copy that the one in the file COPY becomes by the delta in the file DELTA; TABLE is lei, rr or repex, and FORM is csv or json
-  leireg check CODE                   tells whether CODE is a Legal Entity Identifier
-  leireg digits TEXT                  makes the check digits of TEXT, the first 18 characters of a code
-  leireg demo N                       makes up a register of N records, from 2 to 100000, publishes it, and tells what became of it";
-
-/// What helps a person, printed after the word of a status: how the program is called, or one line.
-pub fn help_text(status: u8) -> &'static str {
+/// What happened, in one line.
+pub fn cause(status: u8) -> &'static str {
     match status {
-        USAGE => COMMANDS,
-        REFUSED => "the standard output tells what is wrong with the text or the files",
+        USAGE => "the words are no command of this program",
+        REFUSED => "the text or the files are refused",
         READ_FAULT =>
-            "an input could not be read; see that the files are there; of the lines of the standard input, those that had ended were answered",
+            "an input could not be read; of the lines of the standard input, those that had ended were answered",
         WRITE_FAULT =>
             "the standard output could not be written; what it took may end inside a reply",
-        KEEPER_FAULT =>
-            "the store could not be read; see that its folder is there and that no other program has it open",
+        KEEPER_FAULT => "the store could not be read",
         NO_MEMORY => "there was too little memory; what was written may end inside a reply",
-        STORE_DAMAGED =>
-            "the standard output tells the first difference in the store; put back a copy of it from before",
-        INPUT_TOO_LONG =>
-            "an input is too long: lines may have 4294967295 bytes in all, and a file of apply 1073741823",
+        STORE_DAMAGED => "the store is not what its entries come to",
+        INPUT_TOO_LONG => "an input is too long",
+        DOOR_FAULT => "no connection could be taken",
         _ => "the program ended early",
+    }
+}
+
+/// What to do about it, in one line.
+pub fn advice(status: u8) -> &'static str {
+    match status {
+        REFUSED => "read on the standard output what is wrong with them",
+        READ_FAULT => "see that the files are there and may be read",
+        WRITE_FAULT => "send the lines again, to an output that takes the replies",
+        KEEPER_FAULT =>
+            "see that its folder is there, that the file may be written, and that no other program has it open",
+        NO_MEMORY => "give the program more memory",
+        STORE_DAMAGED =>
+            "put back a copy of it from before; with lines the standard output tells the first difference",
+        INPUT_TOO_LONG =>
+            "part it: lines may have 4294967295 bytes in all, and a file of apply 1073741823",
+        DOOR_FAULT =>
+            "see that the port is free, or take port 0, for which the machine chooses one",
+        _ => "run it again",
     }
 }
 

@@ -7,19 +7,23 @@ mod fakes;
 mod files;
 mod help;
 mod progress;
+mod serving;
 mod streams;
 mod watched;
 
 use clock::SystemClock;
 use files::FileSource;
-use help::help_text;
+use help::{advice, cause};
 use keeper_sqlite::SqliteKeeper;
 use lei_outside::{Keeper, Source, SureKeeper};
 use leireg_run::status::{NO_MEMORY, OK, USAGE, status_text};
-use leireg_run::{file_paths, no_file, run, store_path};
+use leireg_run::{no_file, run};
+use program_words::{Command, WantedRun, WordsFault, help_of, wanted};
 use progress::Counted;
+use serving::serve_wanted;
 use std::fs::File;
 use std::process::ExitCode;
+use std::sync::Wait;
 use std::thread::Threads;
 use std::{env, io};
 use streams::{StdSink, StdSource};
@@ -28,23 +32,61 @@ use watched::Watched;
 fn main(rt: HostRuntime) -> io::Result<ExitCode> {
     let status = match words(&rt) {
         Ok(words) => run_words(&rt, &rt, &words),
-        Err(status) => status,
+        Err(status) => {
+            tell(&rt, status, "");
+            status
+        }
     };
-    if status != OK {
-        eprintln!(rt; "{}\n{}", status_text(status), help_text(status))?;
-    }
     Ok(ExitCode::from(status))
 }
 
-// Runs the command that the words are, and says its status. The runtime is handed on as one that may start threads, and as
-// the host.
-fn run_words<R: Threads + Sync>(rt: &R, host: &HostRuntime, words: &[String]) -> u8 {
-    if let Some((copy, delta)) = file_paths(words) {
-        return run_over_files(rt, host, words, copy, delta);
+// Does what the words ask for, and says the status. Where that isn't `OK`, a person is told what happened and what to do.
+fn run_words<R: Threads + Wait + Sync>(rt: &R, host: &HostRuntime, words: &[String]) -> u8 {
+    let status = match wanted(host.alloc(), words) {
+        Ok(wanted) => run_wanted(rt, host, words, &wanted),
+        Err(WordsFault::Usage) => USAGE,
+        Err(WordsFault::NoMemory) => NO_MEMORY,
+    };
+    tell(host, status, first_of(words));
+    status
+}
+
+// Tells of a status other than `OK` on the standard error: its word, what happened, and what to do, or how the command of
+// this name is called.
+fn tell(host: &HostRuntime, status: u8, name: &str) {
+    if status == OK {
+        return;
     }
-    match store_path(words) {
-        Some(path) => run_over_store(rt, host, words, path),
-        None => run_alone(rt, host, words),
+    let advice = if status == USAGE {
+        help_of(name)
+    } else {
+        advice(status)
+    };
+    let _ = eprintln!(host; "{}\n{}\n{}", status_text(status), cause(status), advice);
+}
+
+// The first word, and the empty one where there is none.
+fn first_of(words: &[String]) -> &str {
+    match words.first() {
+        Some(word) => word.as_str(),
+        None => "",
+    }
+}
+
+// The runtime is handed on as one that may start threads and wait, and as the host.
+fn run_wanted<R: Threads + Wait + Sync>(
+    rt: &R,
+    host: &HostRuntime,
+    words: &[String],
+    wanted: &WantedRun<'_>,
+) -> u8 {
+    match wanted.command {
+        Command::Serve => serve_wanted(rt, host, words, wanted),
+        Command::Apply(_, _) => run_over_files(rt, host, words, wanted),
+        _ => match wanted.store {
+            Some(path) => run_over_store(rt, host, words, path),
+            None => run_alone(rt, host, words),
+        },
     }
 }
 
@@ -52,14 +94,21 @@ fn run_over_files<R: Threads + Sync>(
     rt: &R,
     host: &HostRuntime,
     words: &[String],
-    copy: &str,
-    delta: &str,
+    wanted: &WantedRun<'_>,
 ) -> u8 {
-    let mut copy = FileSource::new(File::open(host, copy).ok());
-    let mut delta = FileSource::new(File::open(host, delta).ok());
+    let mut copy = file_at(host, wanted.first);
+    let mut delta = file_at(host, wanted.second);
     let keeper = SureKeeper::new(host.alloc());
     let (status, _) = run_between(rt, host, words, &mut copy, &mut delta, keeper);
     status
+}
+
+// The file at a path. One that can't be opened fails at each read.
+fn file_at(host: &HostRuntime, path: Option<&str>) -> FileSource<File> {
+    match path {
+        Some(path) => FileSource::new(File::open(host, path).ok()),
+        None => FileSource::new(None),
+    }
 }
 
 fn run_over_store<R: Threads + Sync>(

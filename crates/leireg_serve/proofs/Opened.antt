@@ -1,5 +1,5 @@
 -- Serving over a store that was opened.
-use Rattle.std.proofs.Common.{◌≡◌, ℕ, ℤ, List, Option, inl, inr, refl, sym, ap, subst}
+use Rattle.std.proofs.Common.{◌≡◌, ℕ, ℤ, List, Option, None, Some, inl, inr, refl, sym, ap, subst}
 use Rattle.lei_outside.specs.Keeping.{KeptTables, Stays}
 use Rattle.lei_office.specs.Kept.{Keeps}
 use Rattle.lei_office.specs.Legal.{Legal}
@@ -16,6 +16,11 @@ ends_at : {L : Type 0} (may : Option KeptTables → Type 0) (tells : LineTells L
     → EndsServing may tells before after status
 ends_at may tells before after status DeskEnd.Closed opens none is = inl (is, opens, none refl)
 ends_at may tells before after status DeskEnd.Failed opens none is = inr (inl (is, opens))
+
+-- what is told stays as it is
+pub stays_same : (told : Option KeptTables) → Stays told told
+stays_same None = tt {0}
+stays_same (Some tables) = refl
 
 -- the store was opened, the desk served and the office closed
 pub ends_opened : {K L : Type 0} (tables : K → Option KeptTables) (faults : K → ℕ) (tells : LineTells L) (keeper opened mid back : K)

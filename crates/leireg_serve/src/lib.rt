@@ -7,4 +7,4 @@ mod words;
 
 pub use desk::{Desk, DeskEnd, serve_desk};
 pub use serving::{DOOR_FAULT, serve};
-pub use words::{ServeWords, serve_words};
+pub use words::server_of;

@@ -1,17 +1,19 @@
 //! The command that serves the register, from its words, its keeper and its desk to its status.
-ghost use Rattle.std.specs.Prelude.{◌≡◌, ◌≢◌, ◌↔◌, [], ◌∷◌, None, false, map, string_bytes};
+ghost use Rattle.std.specs.Prelude.{◌≡◌, ◌≢◌, ◌⊎◌, [], ◌∷◌, None, false, map, string_bytes};
 ghost use Rattle.lei_outside.specs.Count.{Rose};
 ghost use Rattle.leireg_run.specs.Ends.{MayTell};
 ghost use Rattle.leireg_serve.specs.Desks.{line_tells};
 ghost use Rattle.leireg_serve.specs.Ends.{EndsServing, IsUnserved, desk_status, outside};
-ghost use Rattle.leireg_serve.specs.Words.{Mean, Meant, meant};
+ghost use Rattle.leireg_serve.specs.Words.{Mean, served_by};
+ghost use Rattle.program_words.specs.Words.{Meant};
 ghost use Rattle.leireg_serve.specs.declared.desk.Desk.{Desk};
 
 use crate::desk::{Desk, DeskEnd, serve_desk};
-use crate::words::serve_words;
+use crate::words::server_of;
 use lei_office::{Limits, Office, OpenFault};
 use lei_outside::{Clock, Door, Gate, Keeper};
 use leireg_run::status::{KEEPER_FAULT, NO_MEMORY, OK, STORE_DAMAGED, USAGE};
+use program_words::WordsFault;
 use std::alloc::Global;
 use std::sync::Wait;
 use std::thread::Threads;
@@ -32,9 +34,10 @@ pub fn serve<R: Threads + Wait + Sync, K: Keeper, D: Door, C: Clock, G: Gate>(
 ) -> (u8, K, Vec<Desk<D, C>>)
     requires one { (what : Meant) → Mean words.now what
         → (desk : Desk D C) × (desks.items ≡ desk ∷ []) × (D.out desk.door ≡ false) }
-    ensures usage { result.0 ≡ 1 ↔ (meant (map string_bytes words.now) ≡ None) }
+    ensures usage { result.0 ≡ 1 → served_by (map string_bytes words.now) ≡ None }
+    ensures refused { served_by (map string_bytes words.now) ≡ None → (result.0 ≡ 1) ⊎ (result.0 ≡ 6) }
     ensures unserved { IsUnserved result.0 → result.2.items ≡ desks.items }
-    ensures unkept { result.0 ≡ 1 → result.1 ≡ keeper }
+    ensures unkept { served_by (map string_bytes words.now) ≡ None → (result.1 ≡ keeper) × (result.2.items ≡ desks.items) }
     ensures serves { (what : Meant) → Mean words.now what → (old : Desk D C) → desks.items ≡ old ∷ []
         → (new : Desk D C) × (result.2.items ≡ new ∷ []) × (D.out new.door ≡ false)
         × EndsServing (MayTell K.tables)
@@ -45,12 +48,13 @@ pub fn serve<R: Threads + Wait + Sync, K: Keeper, D: Door, C: Clock, G: Gate>(
         × (result.0 ≡ 9 → Rose (D.faults old.door) (D.faults new.door))
         × (result.0 ≢ 9 → D.faults new.door ≡ D.faults old.door) }
 {
-    match serve_words(words) {
-        Some(_) => {
+    match server_of(alloc, words) {
+        Ok(_) => {
             let (status, keeper) = serve_over(rt, alloc, keeper, &mut desks[0]);
             (status, keeper, desks)
         }
-        None => (USAGE, keeper, desks),
+        Err(WordsFault::Usage) => (USAGE, keeper, desks),
+        Err(WordsFault::NoMemory) => (NO_MEMORY, keeper, desks),
     }
 }
 

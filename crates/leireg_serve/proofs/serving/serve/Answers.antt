@@ -1,20 +1,21 @@
-use Rattle.std.proofs.Common.{◌≡◌, ◌≢◌, slice_set, ap, ◌∙◌, subst}
+use Rattle.std.proofs.Common.{◌≡◌, ◌≢◌, false, slice_set, refl, ap, ◌∙◌, subst, inl, inr, arith}
 use Rattle.lei_outside.specs.Count.{Rose}
 use Rattle.leireg_run.specs.Ends.{MayTell}
 use Rattle.leireg_serve.specs.Desks.{line_tells}
 use Rattle.leireg_serve.specs.Ends.{EndsServing, outside}
 use Rattle.leireg_serve.specs.declared.desk.Desk.{Desk}
-use Rattle.leireg_serve.proofs.Sole.{sole_is, sole_same, sole_set}
+use Rattle.leireg_serve.proofs.Opened.{stays_same}
+use Rattle.leireg_serve.proofs.Sole.{sole_has, sole_is, sole_same, sole_set}
 use Rattle.leireg_serve.proofs.serving.serve.Goals as goal
 
-pub returns-in-Some-clause-unserved : goal.returns-in-Some-clause-unserved
-returns-in-Some-clause-unserved g c unserved =
+pub returns-in-Ok-clause-unserved : goal.returns-in-Ok-clause-unserved
+returns-in-Ok-clause-unserved g c unserved =
     let items = c.args.desks.items in
     ap (slice_set items 0) (c.serve_over-status.ensures.unserved unserved)
     ∙ sole_same items c.index_mut.result.now c.index_mut.ensures.value
 
-pub returns-in-Some-clause-serves : goal.returns-in-Some-clause-serves
-returns-in-Some-clause-serves g c what means old is =
+pub returns-in-Ok-clause-serves : goal.returns-in-Ok-clause-serves
+returns-in-Ok-clause-serves g c what means old is =
     let items = c.args.desks.items in
     let status = c.serve_over-status.result.0 in
     let back = c.serve_over-status.result.1 in
@@ -35,4 +36,16 @@ returns-in-Some-clause-serves g c what means old is =
       subst E at served.ends,
       subst F at served.door_fault,
       subst N at served.no_door_fault,
+    )
+
+pub returns-in-Err-NoMemory-clause-serves : goal.returns-in-Err-NoMemory-clause-serves
+returns-in-Err-NoMemory-clause-serves g c what means old is =
+    let asked = c.requires.one what means in
+    let IsIn : Desk g.row.D.Denot g.row.C.Denot → Type 0 = λ desk. g.D.Door.out desk.door ≡ false in (
+      old,
+      is,
+      sole_has IsIn c.args.desks.items asked.0 old asked.1 is asked.2,
+      inr (inr (inr (inl (refl, stays_same (g.K.Keeper.tables c.args.keeper))))),
+      λ nine. absurd (omega (arith, nine)),
+      λ _. refl,
     )
