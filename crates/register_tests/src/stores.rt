@@ -7,7 +7,7 @@ use lei_outside::{
     SureSource, may_be_kept,
 };
 use leireg_run::{Untold, no_file, run};
-use std::alloc::Global;
+use std::alloc::{AllocError, Global};
 use std::test::Fail;
 use std::thread::Threads;
 
@@ -25,14 +25,17 @@ impl Clock for Still {
     }
 }
 
-// What is changed of a store that has an accreditation and an upload of two records: of its second entry, of its first cell,
-// or of how many of them there are.
+// The last number of the store's uploads, of which all but the first are of one record that is rejected.
+const UPLOADS: u64 = 999;
+
+// What is changed of a store: of an entry by its number, of its first cell, or of how many of them there are.
 #[derive(Clone, Copy, Debug)]
 enum Change {
     Nothing,
-    Number,
-    Moment,
-    FirstEntryOut,
+    Answer(u64),
+    Out(u64),
+    Number(u64),
+    Moment(u64),
     Row,
     Touched,
     Withdrawn,
@@ -40,27 +43,34 @@ enum Change {
     OneCellMore,
 }
 
-// Each change, and what is told then begins with.
-const CHANGES: [(Change, &str); 9] = [
-    (Change::Nothing, ""),
-    (Change::Number, "STORE_DAMAGED 2\n"),
-    (Change::Moment, "STORE_DAMAGED 2\n"),
-    (Change::FirstEntryOut, "STORE_DAMAGED 1\n"),
-    (Change::Row, "STORE_DAMAGED 2\n"),
-    (Change::Touched, "STORE_DAMAGED 1\n"),
-    (Change::Withdrawn, "STORE_DAMAGED 2\n"),
-    (Change::FirstCellOut, "STORE_DAMAGED 2\n"),
-    (Change::OneCellMore, "STORE_DAMAGED 2\n"),
+// Changes, and the number that is told of each, which is 0 where nothing is told.
+const CHANGES: [(Change, u64); 9] = [
+    (Change::Nothing, 0),
+    (Change::Number(1), 1),
+    (Change::Number(1_000), 1_000),
+    (Change::Moment(2), 2),
+    (Change::Row, 2),
+    (Change::Touched, 1),
+    (Change::Withdrawn, 2),
+    (Change::FirstCellOut, 2),
+    (Change::OneCellMore, 2),
 ];
 
 fn entry_with(alloc: Global, entry: &KeptEntry, change: Change) -> Result<KeptEntry, NoMemory> {
     let mut entry = entry.copy(alloc)?;
     match change {
-        Change::Number => entry.number = 2,
-        Change::Moment => entry.moment = 0,
+        Change::Answer(number) if number == entry.seq => {
+            entry.answer = Bytes::copy_of(alloc, b"x")?;
+        }
+        Change::Number(number) if number == entry.seq => entry.number = 1_000_000,
+        Change::Moment(number) if number == entry.seq => entry.moment = 0,
         _ => {}
     }
     Ok(entry)
+}
+
+fn is_out(entry: &KeptEntry, change: Change) -> bool {
+    matches!(change, Change::Out(number) if number == entry.seq)
 }
 
 // The entries of a store with a change.
@@ -71,10 +81,8 @@ fn entries_with(
 ) -> Result<List<KeptEntry>, NoMemory> {
     let mut list = Vec::new(alloc);
     for entry in entries {
-        if entry.seq > 1 {
+        if !is_out(entry, change) {
             list.push(entry_with(alloc, entry, change)?)?;
-        } else if !matches!(change, Change::FirstEntryOut) {
-            list.push(entry.copy(alloc)?)?;
         }
     }
     Ok(List::from(list))
@@ -161,9 +169,19 @@ fn answers<R: Threads + Sync>(
     keeper
 }
 
-// A keeper that has an accreditation and an upload of two records.
+// The lines that accredit an issuer and send its uploads.
+fn lines(alloc: Global) -> Result<String, AllocError> {
+    let mut lines = format!(in alloc; "ACCREDIT {ISSUER}\nUPLOAD {ISSUER} 1 {TWO_RECORDS}\n")?;
+    for number in 2..UPLOADS + 1 {
+        let line = format!(in alloc; "UPLOAD {ISSUER} {number} {{\"records\":[{{}}]}}\n")?;
+        lines.push_str(line.as_str())?;
+    }
+    Ok(lines)
+}
+
+// A keeper that has what these lines leave.
 fn kept<R: Threads + Sync>(rt: &R, alloc: Global, words: &[String]) -> Result<MapKeeper, NoMemory> {
-    let lines = format!(in alloc; "ACCREDIT {ISSUER}\nUPLOAD {ISSUER} 1 {TWO_RECORDS}\n")?;
+    let lines = lines(alloc)?;
     let mut source = SureSource::new(Bytes::copy_of(alloc, lines.as_bytes())?, 65_536);
     let mut sink = SureSink::new(alloc, usize::MAX);
     let keeper = MapKeeper::new(alloc, List::from(Vec::new(alloc)));
@@ -177,7 +195,7 @@ fn tables(mut keeper: MapKeeper) -> Result<(List<KeptEntry>, List<KeptCell>), Ke
     Ok((entries, cells))
 }
 
-// Whether what is told of a store with a change begins so, or nothing is told where nothing is wanted.
+// Whether the number is told of a store with a change, or nothing is told where it is 0.
 fn is_told<R: Threads + Sync>(
     rt: &R,
     alloc: Global,
@@ -185,7 +203,7 @@ fn is_told<R: Threads + Sync>(
     entries: &[KeptEntry],
     cells: &[KeptCell],
     change: Change,
-    want: &str,
+    number: u64,
 ) -> bool {
     let Ok(keeper) = keeper_with(alloc, entries, cells, change) else {
         return false;
@@ -193,11 +211,21 @@ fn is_told<R: Threads + Sync>(
     let mut sink = SureSink::new(alloc, usize::MAX);
     let mut nothing = no_file(alloc);
     drop(answers(rt, alloc, words, &mut nothing, &mut sink, keeper));
-    let told = sink.written();
-    told.starts_with(want.as_bytes()) && told.is_empty() == want.is_empty()
+    begins_with(alloc, sink.written(), number)
 }
 
-// The first change of which something else is told.
+// Whether a text begins with the line that tells a damaged store by this number, or is empty where that is 0.
+fn begins_with(alloc: Global, text: &[u8], number: u64) -> bool {
+    if number == 0 {
+        return text.is_empty();
+    }
+    match format!(in alloc; "STORE_DAMAGED {number}\n") {
+        Ok(line) => text.starts_with(line.as_bytes()),
+        Err(_) => false,
+    }
+}
+
+// The first change of which something else is told: of each twentieth entry another answer or none at all, and others.
 fn untold<R: Threads + Sync>(
     rt: &R,
     alloc: Global,
@@ -205,8 +233,15 @@ fn untold<R: Threads + Sync>(
     entries: &[KeptEntry],
     cells: &[KeptCell],
 ) -> Option<Change> {
-    for (change, want) in CHANGES {
-        if !is_told(rt, alloc, words, entries, cells, change, want) {
+    for number in (1u64..1_000).step_by(20) {
+        for change in [Change::Answer(number), Change::Out(number)] {
+            if !is_told(rt, alloc, words, entries, cells, change, number) {
+                return Some(change);
+            }
+        }
+    }
+    for (change, number) in CHANGES {
+        if !is_told(rt, alloc, words, entries, cells, change, number) {
             return Some(change);
         }
     }
