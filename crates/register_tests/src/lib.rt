@@ -6,6 +6,8 @@ pub mod batches;
 #[cfg(test)]
 mod copies;
 #[cfg(test)]
+mod http;
+#[cfg(test)]
 mod limits;
 #[cfg(test)]
 mod moments;

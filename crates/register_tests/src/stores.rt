@@ -11,9 +11,9 @@ use std::alloc::{AllocError, Global};
 use std::test::Fail;
 use std::thread::Threads;
 
-// A clock that stands still. It tells nothing of its moments.
+/// A clock that stands still. It tells nothing of its moments.
 #[derive(Drop)]
-struct Still;
+pub struct Still;
 
 impl Clock for Still {
     ghost use Rattle.std.specs.Prelude.{None};

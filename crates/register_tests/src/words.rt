@@ -45,7 +45,8 @@ serve --port 0 --workers 1 --help
 serve -- --port 0 --workers 1
 Serve --port 0 --workers 1";
 
-fn words_of(alloc: Global, text: &str) -> Result<Vec<String>, NoMemory> {
+/// The words of a text, parted by spaces.
+pub fn words_of(alloc: Global, text: &str) -> Result<Vec<String>, NoMemory> {
     let mut words = Vec::new(alloc);
     for word in text.split(' ') {
         words.push(String::from_str(alloc, word)?)?;

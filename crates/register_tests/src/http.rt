@@ -1,0 +1,539 @@
+// Connections over HTTP: what is sent, what comes back, and how they end.
+ghost use Rattle.std.specs.Prelude.{◌≡◌, ◌≤◌, IfOk, false};
+
+use crate::stores::Still;
+use crate::words::words_of;
+use issuer_http::{Ended, serve_alone};
+use lei_office::{Limits, Office};
+use lei_outside::{
+    ByteLink, ByteSink, ByteSource, Bytes, List, ListDoor, NoMemory, OpenGate, SureKeeper,
+};
+use leireg_run::status::OK;
+use leireg_serve::{Desk, serve};
+use std::alloc::Global;
+use std::sync::Wait;
+use std::test::Fail;
+use std::thread::Threads;
+
+// Each connection, parted by `^`: its title, how it ends, what is sent and what comes back, parted by `~`. A line ends in CR
+// and LF. `@` is the status of an empty register, `$` a text of 8,192 letters, `%` are 33 headers, `&` a LF alone and `|` a tab.
+const CONNECTIONS: &str = r#"a status and a path without a route~Closed~GET /v1/status HTTP/1.1
+
+GET /nothing HTTP/1.1
+
+~HTTP/1.1 200 OK
+content-type: application/json
+content-length: 101
+
+@HTTP/1.1 404 Not Found
+content-type: text/plain
+content-length: 8
+
+NO_ROUTE^a header that is none, and nothing behind it~BadHead~GET /v1/status HTTP/1.1
+bad header
+
+GET /v1/status HTTP/1.1
+
+~HTTP/1.1 400 Bad Request
+content-type: text/plain
+content-length: 4
+connection: close
+
+HEAD^a head of more than 8,192 bytes~BadHead~GET /$ HTTP/1.1
+
+~HTTP/1.1 431 Request Header Fields Too Large
+content-type: text/plain
+content-length: 13
+connection: close
+
+HEAD_TOO_LONG^33 headers~BadHead~GET /v1/status HTTP/1.1
+%
+~HTTP/1.1 431 Request Header Fields Too Large
+content-type: text/plain
+content-length: 13
+connection: close
+
+HEAD_TOO_LONG^33 headers, and a coded body~BadHead~GET /v1/status HTTP/1.1
+%Transfer-Encoding: chunked
+
+~HTTP/1.1 431 Request Header Fields Too Large
+content-type: text/plain
+content-length: 13
+connection: close
+
+HEAD_TOO_LONG^a coded body~BadHead~GET /v1/status HTTP/1.1
+Transfer-Encoding: chunked
+
+~HTTP/1.1 411 Length Required
+content-type: text/plain
+content-length: 15
+connection: close
+
+LENGTH_REQUIRED^a coded body, and a length that is none~BadHead~GET /v1/status HTTP/1.1
+Content-Length: x
+transfer-encoding: gzip
+
+~HTTP/1.1 411 Length Required
+content-type: text/plain
+content-length: 15
+connection: close
+
+LENGTH_REQUIRED^a length that is none~BadHead~GET /v1/status HTTP/1.1
+Content-Length: 1x
+
+~HTTP/1.1 400 Bad Request
+content-type: text/plain
+content-length: 4
+connection: close
+
+HEAD^a length of eleven digits~BadHead~GET /v1/status HTTP/1.1
+Content-Length: 00000000001
+
+~HTTP/1.1 400 Bad Request
+content-type: text/plain
+content-length: 4
+connection: close
+
+HEAD^two lengths that differ, one of them too great~BadHead~GET /v1/status HTTP/1.1
+Content-Length: 4194305
+content-length: 1
+
+~HTTP/1.1 400 Bad Request
+content-type: text/plain
+content-length: 4
+connection: close
+
+HEAD^two lengths that are alike~Closed~GET /v1/status HTTP/1.1
+Content-Length: 5
+Content-Length: 05
+
+helloGET /v1/status HTTP/1.1
+
+~HTTP/1.1 200 OK
+content-type: application/json
+content-length: 101
+
+@HTTP/1.1 200 OK
+content-type: application/json
+content-length: 101
+
+@^a length that is too great~BadHead~GET /v1/status HTTP/1.1
+Content-Length: 4194305
+
+~HTTP/1.1 413 Payload Too Large
+content-type: text/plain
+content-length: 8
+connection: close
+
+TOO_LONG^a length that is too great, at no route~BadHead~PUT /nothing HTTP/1.1
+Content-Length: 9999999999
+
+~HTTP/1.1 413 Payload Too Large
+content-type: text/plain
+content-length: 8
+connection: close
+
+TOO_LONG^a body at no route~Closed~PUT /nothing HTTP/1.1
+Content-Length: 5
+
+helloGET /v1/status HTTP/1.1
+
+~HTTP/1.1 404 Not Found
+content-type: text/plain
+content-length: 8
+
+NO_ROUTEHTTP/1.1 200 OK
+content-type: application/json
+content-length: 101
+
+@^another method at no route~Closed~POST /v1/ HTTP/1.1
+
+~HTTP/1.1 404 Not Found
+content-type: text/plain
+content-length: 8
+
+NO_ROUTE^other methods than those of the routes~Closed~HEAD /v1/status HTTP/1.1
+
+GET /v1/issuers/506700GE1G29325QX363 HTTP/1.1
+
+POST /v1/issuers/506700GE1G29325QX363/uploads/1 HTTP/1.1
+
+GET /v1/publications/x HTTP/1.1
+
+~HTTP/1.1 405 Method Not Allowed
+content-type: text/plain
+content-length: 6
+allow: GET
+
+METHODHTTP/1.1 405 Method Not Allowed
+content-type: text/plain
+content-length: 6
+allow: PUT
+
+METHODHTTP/1.1 405 Method Not Allowed
+content-type: text/plain
+content-length: 6
+allow: GET, PUT
+
+METHODHTTP/1.1 405 Method Not Allowed
+content-type: text/plain
+content-length: 6
+allow: PUT
+
+METHOD^an upload without a length~BadHead~PUT /v1/issuers/506700GE1G29325QX363/uploads/1 HTTP/1.1
+
+GET /v1/status HTTP/1.1
+
+~HTTP/1.1 411 Length Required
+content-type: text/plain
+content-length: 15
+connection: close
+
+LENGTH_REQUIRED^an upload without a length, of no number~BadHead~PUT /v1/issuers/506700GE1G29325QX363/uploads/01 HTTP/1.1
+
+~HTTP/1.1 411 Length Required
+content-type: text/plain
+content-length: 15
+connection: close
+
+LENGTH_REQUIRED^words of a path that are none~Closed~GET /v1/records/195 HTTP/1.1
+
+PUT /v1/issuers/506700GE1G29325QX363/uploads/01 HTTP/1.1
+Content-Length: 2
+
+{}GET /v1/copies/lei/xml HTTP/1.1
+
+GET /v1/deltas/last-year/lei/csv HTTP/1.1
+
+PUT /v1/publications/1000001 HTTP/1.1
+
+~HTTP/1.1 400 Bad Request
+content-type: text/plain
+content-length: 4
+
+PATHHTTP/1.1 400 Bad Request
+content-type: text/plain
+content-length: 4
+
+PATHHTTP/1.1 400 Bad Request
+content-type: text/plain
+content-length: 4
+
+PATHHTTP/1.1 400 Bad Request
+content-type: text/plain
+content-length: 4
+
+PATHHTTP/1.1 400 Bad Request
+content-type: text/plain
+content-length: 4
+
+PATH^a request that asks to close, and one behind it~Closed~GET /v1/status HTTP/1.1
+Connection: keep-alive ,|CLOSE 
+
+GET /v1/status HTTP/1.1
+
+~HTTP/1.1 200 OK
+content-type: application/json
+content-length: 101
+connection: close
+
+@^a connection that isn't to be closed~Closed~GET /v1/status HTTP/1.1
+Connection: closed, keep-alive
+
+GET /v1/status HTTP/1.1
+
+~HTTP/1.1 200 OK
+content-type: application/json
+content-length: 101
+
+@HTTP/1.1 200 OK
+content-type: application/json
+content-length: 101
+
+@^a request of HTTP/1.0, and one behind it~Closed~GET /v1/status HTTP/1.0
+
+GET /v1/status HTTP/1.1
+
+~HTTP/1.1 200 OK
+content-type: application/json
+content-length: 101
+connection: close
+
+@^a refusal that closes~Closed~GET /nothing HTTP/1.1
+connection: close
+
+GET /v1/status HTTP/1.1
+
+~HTTP/1.1 404 Not Found
+content-type: text/plain
+content-length: 8
+connection: close
+
+NO_ROUTE^a query~Closed~GET /v1/status?entries=1 HTTP/1.1
+
+~HTTP/1.1 200 OK
+content-type: application/json
+content-length: 101
+
+@^an expectation~Closed~GET /v1/status HTTP/1.1
+Expect: 100-continue
+
+~HTTP/1.1 200 OK
+content-type: application/json
+content-length: 101
+
+@^an input that ends in a body~Closed~PUT /v1/issuers/506700GE1G29325QX363 HTTP/1.1
+Content-Length: 5
+
+hell~^an input that ends in a head~Closed~GET /v1/status HTTP/1.1
+
+GET /v1/status HTTP/1.1
+Host: a~HTTP/1.1 200 OK
+content-type: application/json
+content-length: 101
+
+@^an input without a byte~Closed~~^uploads and a publication~Closed~PUT /v1/issuers/506700GE1G29325QX363 HTTP/1.1
+
+PUT /v1/issuers/506700GE1G29325QX363/uploads/1 HTTP/1.1
+Content-Length: 16
+
+{"records":[{}]}PUT /v1/issuers/506700GE1G29325QX363/uploads/1 HTTP/1.1
+Content-Length: 16
+
+{"records":[{}]}GET /v1/issuers/506700GE1G29325QX363/uploads/1 HTTP/1.1
+
+PUT /v1/issuers/506700GE1G29325QX363/uploads/1 HTTP/1.1
+Content-Length: 2
+
+{}PUT /v1/issuers/506700GE1G29325QX363/uploads/3 HTTP/1.1
+Content-Length: 16
+
+{"records":[{}]}PUT /v1/issuers/506700GE1G29325QX363/uploads/2 HTTP/1.1
+Content-Length: 1
+
+{GET /v1/records/00000000000000000195 HTTP/1.1
+
+PUT /v1/publications/1 HTTP/1.1
+
+GET /v1/copies/repex/csv HTTP/1.1
+
+GET /v1/deltas/1/lei/json HTTP/1.1
+
+GET /v1/deltas/last-day/lei/json HTTP/1.1
+
+~HTTP/1.1 200 OK
+content-type: application/json
+content-length: 43
+
+{"entry":1,"issuer":"506700GE1G29325QX363"}HTTP/1.1 200 OK
+content-type: application/json
+content-length: 88
+
+{"entry":2,"issuer":"506700GE1G29325QX363","items":["C02 FIELD_MISSING LEI"],"number":1}HTTP/1.1 200 OK
+content-type: application/json
+content-length: 88
+
+{"entry":2,"issuer":"506700GE1G29325QX363","items":["C02 FIELD_MISSING LEI"],"number":1}HTTP/1.1 200 OK
+content-type: application/json
+content-length: 88
+
+{"entry":2,"issuer":"506700GE1G29325QX363","items":["C02 FIELD_MISSING LEI"],"number":1}HTTP/1.1 409 Conflict
+content-type: text/plain
+content-length: 12
+
+NUMBER_TAKENHTTP/1.1 409 Conflict
+content-type: text/plain
+content-length: 14
+
+NUMBER_AHEAD 2HTTP/1.1 400 Bad Request
+content-type: text/plain
+content-length: 18
+
+MALFORMED NOT_JSONHTTP/1.1 404 Not Found
+content-type: text/plain
+content-length: 11
+
+LEI_UNKNOWNHTTP/1.1 201 Created
+content-type: application/json
+content-length: 89
+
+{"contentDate":"2025-01-11T00:00:00Z","entry":3,"lei":0,"publication":1,"repex":0,"rr":0}HTTP/1.1 200 OK
+content-type: text/csv
+content-length: 65
+
+"LEI","ExceptionCategory","ExceptionReason","ExceptionReference"&HTTP/1.1 200 OK
+content-type: application/json
+content-length: 103
+
+{"contentDate":"2025-01-11T00:00:00Z","fromPublication":1,"publication":1,"recordCount":0,"records":[]}HTTP/1.1 404 Not Found
+content-type: text/plain
+content-length: 7
+
+NO_BASE"#;
+
+const STATUS: &str =
+    r#"{"entries":0,"exceptions":0,"issuers":0,"keptBytes":0,"publications":0,"records":0,"relationships":0}"#;
+
+// Puts what a letter of the table stands for.
+fn put(out: &mut Vec<u8>, letter: u8) -> Result<(), NoMemory> {
+    match letter {
+        b'\n' => out.extend_from_slice(b"\r\n")?,
+        b'@' => out.extend_from_slice(STATUS.as_bytes())?,
+        b'&' => out.push(b'\n')?,
+        b'|' => out.push(b'\t')?,
+        b'$' => {
+            for _ in 0..8_192 {
+                out.push(b'x')?;
+            }
+        }
+        b'%' => {
+            for _ in 0..33 {
+                out.extend_from_slice(b"a: b\r\n")?;
+            }
+        }
+        _ => out.push(letter)?,
+    }
+    Ok(())
+}
+
+// The bytes that a text of the table stands for.
+fn bytes_of(alloc: Global, text: &str) -> Result<Bytes, NoMemory> {
+    let mut bytes = Vec::new(alloc);
+    for letter in text.bytes() {
+        put(&mut bytes, letter)?;
+    }
+    Ok(Bytes::from(bytes))
+}
+
+fn none(alloc: Global) -> List<u64> {
+    List::from(Vec::new(alloc))
+}
+
+// A link that gives these bytes, and takes and gives at most so many at once.
+fn link_of(alloc: Global, sent: Bytes, most: usize) -> ByteLink
+    requires { 1 ≤ most }
+{
+    ByteLink::new(
+        ByteSource::new(sent, most, none(alloc)),
+        ByteSink::new(alloc, most, none(alloc)),
+    )
+}
+
+// How serving a link over an office that has nothing ends. The office is closed, since letting it go costs a proof for each
+// of its parts.
+fn end_of<R: Threads + Sync>(rt: &R, alloc: Global, link: &mut ByteLink) -> Option<Ended> {
+    match Office::open(rt, alloc, SureKeeper::new(alloc), Limits::standard()) {
+        Ok(mut office) => {
+            let ended = serve_alone(rt, alloc, &mut office, link, &mut Still);
+            let _ = office.close();
+            Some(ended)
+        }
+        Err(_) => None,
+    }
+}
+
+fn ended_of(word: &str) -> Option<Ended> {
+    match word {
+        "Closed" => Some(Ended::Closed),
+        "BadHead" => Some(Ended::BadHead),
+        _ => None,
+    }
+}
+
+// The parts of a connection of the table behind its title: how it ends, what is sent and what comes back.
+fn parts_of(text: &str) -> Option<(&str, &str, &str)> {
+    let (ended, rest) = text.split_once('~')?;
+    let (sent, wanted) = rest.split_once('~')?;
+    Some((ended, sent, wanted))
+}
+
+// Whether this comes back of what is sent, at most so many bytes at once, and the connection ends so.
+fn comes_back<R: Threads + Sync>(
+    rt: &R,
+    alloc: Global,
+    most: usize,
+    sent: &str,
+    wanted: &str,
+    ended: &str,
+) -> bool
+    requires { 1 ≤ most }
+{
+    let (Ok(sent), Ok(wanted)) = (bytes_of(alloc, sent), bytes_of(alloc, wanted)) else {
+        return false;
+    };
+    let mut link = link_of(alloc, sent, most);
+    let end = end_of(rt, alloc, &mut link);
+    end.is_some() && end == ended_of(ended) && link.sink().written() == wanted.as_slice()
+}
+
+// Whether a connection of the table comes out as it says, in one piece and in single bytes.
+fn is_as_said<R: Threads + Sync>(rt: &R, alloc: Global, text: &str) -> bool {
+    match parts_of(text) {
+        Some((ended, sent, wanted)) => {
+            comes_back(rt, alloc, 65_536, sent, wanted, ended)
+                && comes_back(rt, alloc, 1, sent, wanted, ended)
+        }
+        None => false,
+    }
+}
+
+#[test]
+fn connections_are_answered_as_the_table_says(rt: HostRuntime) -> Result<(), Fail> {
+    for connection in CONNECTIONS.split('^') {
+        let (title, rest) = connection.split_once('~').ok_or("a title")?;
+        assert!(rt; is_as_said(&rt, rt.alloc(), rest), "{title}");
+    }
+    Ok(())
+}
+
+// A door through which one link comes.
+fn door_of(alloc: Global, link: ByteLink) -> Result<ListDoor, NoMemory>
+    ensures { IfOk result (λ door. door.out ≡ false) }
+{
+    let mut links = Vec::new(alloc);
+    links.push(link)?;
+    ListDoor::new(alloc, List::from(links))
+}
+
+// Whether this came back of the one link of a desk.
+fn has_come(desks: &[Desk<ListDoor, Still>], wanted: &[u8]) -> bool {
+    match desks {
+        [desk] => match desk.door.came_back() {
+            [link] => link.sink().written() == wanted,
+            _ => false,
+        },
+        _ => false,
+    }
+}
+
+// Whether a server with these words is done, and this comes back of what is sent to it.
+fn is_done<R: Threads + Wait + Sync>(
+    rt: &R,
+    alloc: Global,
+    words: &[String],
+    sent: &str,
+    wanted: &str,
+) -> bool {
+    let (Ok(sent), Ok(wanted)) = (bytes_of(alloc, sent), bytes_of(alloc, wanted)) else {
+        return false;
+    };
+    let Ok(door) = door_of(alloc, link_of(alloc, sent, 7)) else {
+        return false;
+    };
+    let clock = Still;
+    let Ok(desks) = vec![in alloc; Desk { door, clock }] else {
+        return false;
+    };
+    let (status, _, desks) = serve(rt, alloc, words, SureKeeper::new(alloc), desks, &OpenGate);
+    status == OK && has_come(&desks, wanted.as_slice())
+}
+
+#[test]
+fn a_server_answers_the_connection_of_its_door(rt: HostRuntime) -> Result<(), Fail> {
+    let words = words_of(rt.alloc(), "serve --port 0 --workers 1")?;
+    let (_, rest) = CONNECTIONS.split_once('~').ok_or("a title")?;
+    let (first, _) = rest.split_once('^').ok_or("a connection")?;
+    let (_, sent, wanted) = parts_of(first).ok_or("its parts")?;
+    assert!(rt; is_done(&rt, rt.alloc(), &words, sent, wanted));
+    Ok(())
+}
