@@ -1,8 +1,8 @@
 -- What comes of a link that doesn't fail.
-use Rattle.std.proofs.Common.{◌≡◌, ◌⊎◌, ℕ, ◌<◌, ◌≤◌, List, [], ◌∷◌, ◌++◌, length, Option, None, Some, inl, inr, refl, sym, ap, ◌∙◌, subst, arith, length-append}
+use Rattle.std.proofs.Common.{◌≡◌, ◌⊎◌, ℕ, ◌≤◌, List, [], ◌∷◌, ◌++◌, length, Option, None, Some, inl, inr, refl, sym, ap, ◌∙◌, subst, arith, length-append}
 use Rattle.std.proofs.lemmas.List.{append-nil}
 use Rattle.lei_outside.specs.Told.{IsAtEnd, Loses}
-use Rattle.issuer_http.specs.Requests.{Want, refused, want_of}
+use Rattle.issuer_http.specs.Requests.{Want}
 use Rattle.issuer_http.specs.Serving.{AnswersAll, AnswersToBadHead, AnswersToLast, Completes, EndsWith, Progress, Ran, Serves, input_limit}
 use Rattle.issuer_http.specs.declared.ended.Ended.{Ended}
 use Rattle.issuer_http.proofs.Reading.{bad_more, read_more, whole_of}
