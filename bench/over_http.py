@@ -1,7 +1,7 @@
 #!/usr/bin/env python3
 """Measures requests over HTTP on one kept connection, and beside each the same over another server in the same run.
 
-The requests are `GET /v1/status`, uploads of one record, and uploads of 5,000 records and 4 MB, each sent when the reply to
+The requests are `GET /v1/status`, uploads of one record, and uploads of 4,400 records and 4 MB, each sent when the reply to
 the one before it has come. The client is written in C and is compiled first, so that the server is what is measured. The
 other servers are one in C, which answers each request with a reply of the same length and does no more, and Python's
 `http.server`. A row has the requests or the bytes a second, by the clock, the best of some runs, and the ratios to both.
@@ -24,7 +24,7 @@ RUNS = 3
 MANY = 20_000
 SMALL = 2_000
 LARGE = 16
-LARGE_RECORDS = 5_000
+LARGE_RECORDS = 4_400
 LARGE_BYTES = 4_190_000
 
 
@@ -60,6 +60,7 @@ def sessions():
 class Handler(BaseHTTPRequestHandler):
     """Reads a request with its body, and answers it with a text."""
     protocol_version = "HTTP/1.1"
+    disable_nagle_algorithm = True
 
     def do_GET(self):
         self.rfile.read(int(self.headers.get("Content-Length", 0)))
