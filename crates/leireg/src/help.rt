@@ -40,6 +40,3 @@ pub fn advice(status: u8) -> &'static str {
         _ => "run it again",
     }
 }
-
-#[cfg(test)]
-mod tests;

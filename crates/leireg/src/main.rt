@@ -1,21 +1,15 @@
 //! The program of the register.
 #![tactic(auto)]
 
-mod clock;
-#[cfg(test)]
-mod fakes;
-mod files;
 mod help;
 mod progress;
 mod serving;
-mod streams;
 mod watched;
 
-use clock::SystemClock;
-use files::FileSource;
 use help::{advice, cause};
 use keeper_sqlite::SqliteKeeper;
 use lei_outside::{Keeper, Source, SureKeeper};
+use leireg_devices::{FileSource, StdSink, StdSource, SystemClock};
 use leireg_run::status::{NO_MEMORY, OK, USAGE, status_text};
 use leireg_run::{no_file, run};
 use program_words::{Command, WantedRun, WordsFault, help_of, wanted};
@@ -26,7 +20,6 @@ use std::process::ExitCode;
 use std::sync::Wait;
 use std::thread::Threads;
 use std::{env, io};
-use streams::{StdSink, StdSource};
 use watched::Watched;
 
 fn main(rt: HostRuntime) -> io::Result<ExitCode> {

@@ -1,8 +1,8 @@
 //! The register served over HTTP, by connections of the machine.
-use crate::clock::SystemClock;
 use crate::watched::Watched;
 use keeper_sqlite::SqliteKeeper;
 use lei_outside::{Keeper, OpenGate, SureKeeper};
+use leireg_devices::SystemClock;
 use leireg_run::status::NO_MEMORY;
 use leireg_serve::{Desk, serve};
 use leireg_sockets::{Deadlines, TcpDoor};
