@@ -31,7 +31,7 @@ use lei_records::{Item, Writes};
 use register_table::Table;
 use std::alloc::Global;
 use std::thread::Threads;
-use upload_format::{UploadFault, read_upload};
+use upload_format::{Reader, UploadFault};
 use upload_ledger::{Ledger, Place};
 
 /// What is decided of a request.
@@ -52,6 +52,7 @@ pub fn decide<R: Threads + Sync>(
     ledger: &Ledger,
     table: &Table,
     shelf: &mut Shelf,
+    reader: &mut Reader,
     request: &Request,
     moment: i64,
 ) -> Result<Decision, NoMemory>
@@ -69,7 +70,7 @@ pub fn decide<R: Threads + Sync>(
 {
     match request {
         Request::Accredit(issuer) => accredit(alloc, limits, ledger, issuer, moment),
-        Request::Upload(call) => upload(alloc, limits, ledger, table, call, moment),
+        Request::Upload(call) => upload(alloc, limits, ledger, table, reader, call, moment),
         Request::Kept(issuer, number) => {
             Ok(Decision::Stays(kept(alloc, ledger, issuer, *number)?))
         }
@@ -192,6 +193,7 @@ fn upload(
     limits: Limits,
     ledger: &Ledger,
     table: &Table,
+    reader: &mut Reader,
     call: &Call,
     moment: i64,
 ) -> Result<Decision, NoMemory>
@@ -213,7 +215,7 @@ fn upload(
         Place::Repeat(answer) => Ok(Decision::Stays(kept_reply(alloc, answer)?)),
         Place::Taken => Ok(refused(Refusal::NumberTaken)),
         Place::Ahead(next) => Ok(refused(Refusal::NumberAhead(next))),
-        Place::Fresh => take_upload(alloc, limits, ledger, table, call, moment),
+        Place::Fresh => take_upload(alloc, limits, ledger, table, reader, call, moment),
     }
 }
 
@@ -222,6 +224,7 @@ fn take_upload(
     limits: Limits,
     ledger: &Ledger,
     table: &Table,
+    reader: &mut Reader,
     call: &Call,
     moment: i64,
 ) -> Result<Decision, NoMemory>
@@ -233,7 +236,7 @@ fn take_upload(
         (entry_writes limits (after limits ledger.now.entries)) result }
     ensures next { IsValid call.now.office → AddsNext ledger.now.entries result }
 {
-    let upload = match read_upload(alloc, call.body.as_slice()) {
+    let upload = match reader.read(alloc, call.body.as_slice()) {
         Ok(upload) => upload,
         Err(UploadFault::Malformed(fault)) => return Ok(refused(Refusal::Malformed(fault))),
         Err(UploadFault::NoMemory) => return Err(NoMemory),

@@ -34,6 +34,7 @@ use register_table::Table;
 use std::alloc::Global;
 use std::marker::Model;
 use std::thread::Threads;
+use upload_format::Reader;
 use upload_ledger::{Ledger, PUBLISH};
 
 /// The register of one caller at a time, over a keeper of what it takes. Contracts see it as its limits with its history,
@@ -45,6 +46,7 @@ pub struct Office<K: Keeper> {
     ledger: Ledger,
     table: Table,
     shelf: Shelf,
+    reader: Reader,
     keeper: K,
 }
 
@@ -96,6 +98,7 @@ impl<K: Keeper> Office<K> {
                 ledger,
                 table,
                 shelf,
+                reader: Reader::new(alloc),
                 keeper,
             }),
             Ok(Found::Damaged(damage)) => Err(OpenFault::StoreDamaged(keeper, damage)),
@@ -155,6 +158,7 @@ impl<K: Keeper> Office<K> {
             &mut self.ledger,
             &mut self.table,
             &mut self.shelf,
+            &mut self.reader,
             &mut self.keeper,
             request,
             moment,
@@ -177,6 +181,7 @@ fn reply_to<K: Keeper, R: Threads + Sync>(
     ledger: &mut Ledger,
     table: &mut Table,
     shelf: &mut Shelf,
+    reader: &mut Reader,
     keeper: &mut K,
     request: &Request,
     moment: i64,
@@ -198,7 +203,9 @@ fn reply_to<K: Keeper, R: Threads + Sync>(
     ensures fault { result ≡ Words KeeperFault → Rose (K.faults keeper.old) (K.faults keeper.new) }
     ensures request { IsRequest request.now }
 {
-    match decide(rt, alloc, limits, ledger, table, shelf, request, moment) {
+    match decide(
+        rt, alloc, limits, ledger, table, shelf, reader, request, moment,
+    ) {
         Ok(Decision::Stays(reply)) => reply,
         Ok(Decision::Adds(entry, writes)) => {
             let publishes = entry.kind == PUBLISH;

@@ -22,6 +22,7 @@ use lei_outside::{KeepFault, Keeper, NoMemory};
 use register_table::Table;
 use std::alloc::Global;
 use std::thread::Threads;
+use upload_format::Reader;
 use upload_ledger::Ledger;
 
 /// So many entries are read at once, and the cells of so many are compared at once.
@@ -63,6 +64,7 @@ pub fn read_store<K: Keeper, R: Threads + Sync>(
 {
     let last = keeper.last()?;
     let (mut ledger, mut table, mut shelf) = parts(alloc)?;
+    let mut reader = Reader::new(alloc);
     match replay_store(
         rt,
         alloc,
@@ -72,6 +74,7 @@ pub fn read_store<K: Keeper, R: Threads + Sync>(
         &mut ledger,
         &mut table,
         &mut shelf,
+        &mut reader,
     ) {
         Ok(None) => Ok(Found::Sound(ledger, table, shelf)),
         Ok(Some(damage)) => Ok(Found::Damaged(damage)),
@@ -90,6 +93,7 @@ fn replay_store<K: Keeper, R: Threads + Sync>(
     ledger: &mut Ledger,
     table: &mut Table,
     shelf: &mut Shelf,
+    reader: &mut Reader,
 ) -> Result<Option<Damage>, KeepFault>
     requires limits { AreLimits limits }
     requires kept { IfSome (K.tables keeper.old) AreKept }
@@ -104,7 +108,9 @@ fn replay_store<K: Keeper, R: Threads + Sync>(
     ensures faultless { ¬ (IsErrOf result KeepFault.Failed) → K.faults keeper.new ≡ K.faults keeper.old }
     ensures failed { IsErrOf result KeepFault.Failed → Rose (K.faults keeper.old) (K.faults keeper.new) }
 {
-    match replay_entries(rt, alloc, limits, keeper, last, ledger, table, shelf)? {
+    match replay_entries(
+        rt, alloc, limits, keeper, last, ledger, table, shelf, reader,
+    )? {
         Some(damage) => return Ok(Some(damage)),
         None => {}
     }
@@ -133,6 +139,7 @@ fn replay_entries<K: Keeper, R: Threads + Sync>(
     ledger: &mut Ledger,
     table: &mut Table,
     shelf: &mut Shelf,
+    reader: &mut Reader,
 ) -> Result<Option<Damage>, KeepFault>
     requires limits { AreLimits limits }
     requires kept { IfSome (K.tables keeper.old) AreKept }
@@ -159,6 +166,7 @@ fn replay_entries<K: Keeper, R: Threads + Sync>(
             ledger,
             table,
             shelf,
+            reader,
             page.as_slice(),
             upto,
         )? {

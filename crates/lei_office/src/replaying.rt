@@ -29,6 +29,7 @@ use lei_shapes::Moment;
 use register_table::Table;
 use std::alloc::Global;
 use std::thread::Threads;
+use upload_format::Reader;
 use upload_ledger::{ACCREDIT, Ledger, PUBLISH, UPLOAD};
 
 /// Replays the stored entries of a page, which are to be those up to the number `upto`. Says the first that differs.
@@ -39,6 +40,7 @@ pub fn replay_page<R: Threads + Sync>(
     ledger: &mut Ledger,
     table: &mut Table,
     shelf: &mut Shelf,
+    reader: &mut Reader,
     page: &[KeptEntry],
     upto: u64,
 ) -> Result<Option<Damage>, NoMemory>
@@ -54,7 +56,7 @@ pub fn replay_page<R: Threads + Sync>(
         if stored.seq != number {
             return Ok(Some(missing(alloc, number)?));
         }
-        match replay(rt, alloc, limits, ledger, table, shelf, stored)? {
+        match replay(rt, alloc, limits, ledger, table, shelf, reader, stored)? {
             Some(replayed) => {
                 let kept = entry_line(alloc, stored)?;
                 return Ok(Some(Damage {
@@ -92,6 +94,7 @@ fn replay<R: Threads + Sync>(
     ledger: &mut Ledger,
     table: &mut Table,
     shelf: &mut Shelf,
+    reader: &mut Reader,
     stored: &KeptEntry,
 ) -> Result<Option<Bytes>, NoMemory>
     requires limits { AreLimits limits }
@@ -105,7 +108,7 @@ fn replay<R: Threads + Sync>(
         Some((request, moment)) => {
             let moment = stamp(ledger.entries(), moment);
             replay_request(
-                rt, alloc, limits, ledger, table, shelf, &request, moment, stored,
+                rt, alloc, limits, ledger, table, shelf, reader, &request, moment, stored,
             )
         }
         None => Ok(Some(Bytes::copy_of(alloc, b"NOT_AN_ENTRY")?)),
@@ -120,6 +123,7 @@ fn replay_request<R: Threads + Sync>(
     ledger: &mut Ledger,
     table: &mut Table,
     shelf: &mut Shelf,
+    reader: &mut Reader,
     request: &Request,
     moment: i64,
     stored: &KeptEntry,
@@ -136,7 +140,9 @@ fn replay_request<R: Threads + Sync>(
     ensures replays { IfOk result (Replays limits ledger.old.entries stored.now ledger.new.entries table.new) }
     ensures shelf { IfOk result (λ told. ShelvesUnless told limits ledger.new.entries shelf.new.now) }
 {
-    match decide(rt, alloc, limits, ledger, table, shelf, request, moment)? {
+    match decide(
+        rt, alloc, limits, ledger, table, shelf, reader, request, moment,
+    )? {
         Decision::Stays(reply) => Ok(Some(reply_words(alloc, reply)?)),
         Decision::Adds(entry, writes) => {
             if !is_same(&entry, stored) {
