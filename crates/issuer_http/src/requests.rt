@@ -8,7 +8,7 @@ ghost use Rattle.issuer_http.specs.declared.requests.HttpRead.TheVariants.{NoMem
 
 use http_heads::{Ask, HeadFault, Place, Wish, WishRead, next_ask, router};
 use lei_office::{Allowed, Asked, Call, Refusal, Request};
-use lei_outside::{Bytes, NoMemory};
+use lei_outside::{NoMemory, Shared};
 use matchit::Router;
 use std::alloc::Global;
 
@@ -92,7 +92,7 @@ pub fn asked_of(alloc: Global, wish: &Wish, body: &[u8]) -> Result<Asked, NoMemo
         Wish::Upload(office, number) => Ok(Asked::Ask(Request::Upload(Call {
             office: *office,
             number: *number,
-            body: Bytes::copy_of(alloc, body)?,
+            body: Shared::copy_of(alloc, body)?,
         }))),
         Wish::Kept(issuer, number) => Ok(Asked::Ask(Request::Kept(*issuer, *number))),
         Wish::Publish(number) => Ok(Asked::Ask(Request::Publish(*number))),

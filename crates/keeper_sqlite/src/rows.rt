@@ -7,7 +7,7 @@ ghost use Rattle.sqlite.specs.Values.{bound, bound_value, or_null};
 ghost use Rattle.keeper_sqlite.specs.Rows.{IsCellRow, IsEntryRow, cell_row, entry_row};
 
 use crate::faults::fault_of;
-use lei_outside::{Bytes, KeepFault, KeptCell, KeptEntry, List};
+use lei_outside::{Bytes, KeepFault, KeptCell, KeptEntry, List, Shared};
 use sqlite::Row;
 use sqlite::types::ValueRef;
 use std::alloc::Global;
@@ -42,7 +42,7 @@ pub fn cell_values<'a>(cell: &'a KeptCell) -> [ValueRef<'a>; 4]
     ]
 }
 
-fn row_value<'a>(row: &'a Option<Bytes>) -> ValueRef<'a>
+fn row_value<'a>(row: &'a Option<Shared>) -> ValueRef<'a>
     ensures { bound_value (owned result) ≡ or_null Blob row.now }
 {
     match row {
@@ -66,8 +66,8 @@ pub fn entry_of(alloc: Global, row: &Row) -> Result<KeptEntry, KeepFault>
         number: below_at(row, 3, 1 << 32)? as u32,
         moment: i64_at(row, 4)?,
         rules: below_at(row, 5, 1 << 16)? as u16,
-        body: blob_at(alloc, row, 6)?,
-        answer: blob_at(alloc, row, 7)?,
+        body: Shared::copy_of(alloc, blob_at(row, 6)?)?,
+        answer: Bytes::copy_of(alloc, blob_at(row, 7)?)?,
     })
 }
 
@@ -174,26 +174,26 @@ fn text_at(alloc: Global, row: &Row, at: usize) -> Result<Bytes, KeepFault>
 }
 
 // The blob in a column.
-fn blob_at(alloc: Global, row: &Row, at: usize) -> Result<Bytes, KeepFault>
+fn blob_at(row: &Row, at: usize) -> Result<&[u8], KeepFault>
     requires { at < length row.now }
-    ensures ok { IfOk result (λ bytes. column row.now at ≡ Blob bytes) }
+    ensures ok { IfOk result (λ bytes. column row.now at ≡ Blob bytes.now) }
     ensures err { IsErrOf result KeepFault.Failed → (bytes : List ℕ) → column row.now at ≢ Blob bytes }
 {
     match row.get_ref(at) {
-        Ok(ValueRef::Blob(bytes)) => Ok(Bytes::copy_of(alloc, bytes)?),
+        Ok(ValueRef::Blob(bytes)) => Ok(bytes),
         _ => Err(KeepFault::Failed),
     }
 }
 
 // The blob in a column, or none where it has NULL.
-fn blob_or_null_at(alloc: Global, row: &Row, at: usize) -> Result<Option<Bytes>, KeepFault>
+fn blob_or_null_at(alloc: Global, row: &Row, at: usize) -> Result<Option<Shared>, KeepFault>
     requires { at < length row.now }
     ensures ok { IfOk result (λ bytes. column row.now at ≡ or_null Blob bytes) }
     ensures err { IsErrOf result KeepFault.Failed → (column row.now at ≢ Null) × ((bytes : List ℕ) → column row.now at ≢ Blob bytes) }
 {
     match row.get_ref(at) {
         Ok(ValueRef::Null) => Ok(None),
-        Ok(ValueRef::Blob(bytes)) => Ok(Some(Bytes::copy_of(alloc, bytes)?)),
+        Ok(ValueRef::Blob(bytes)) => Ok(Some(Shared::copy_of(alloc, bytes)?)),
         _ => Err(KeepFault::Failed),
     }
 }

@@ -3,7 +3,7 @@ ghost use Rattle.std.specs.Prelude.{◌≡◌, ◌++◌, ◌∷◌, IfOk, OnOk, 
 ghost use Rattle.lei_office.specs.Damage.{cell_line, entry_line, kind_word, moment_word, or_dash, row_word};
 ghost use Rattle.lei_office.specs.Kept.{joined};
 
-use lei_outside::{Bytes, KeptCell, KeptEntry, NoMemory};
+use lei_outside::{Bytes, KeptCell, KeptEntry, NoMemory, Shared};
 use lei_shapes::Moment;
 use std::alloc::Global;
 use upload_ledger::{ACCREDIT, PUBLISH, UPLOAD};
@@ -87,7 +87,7 @@ fn moment_word(alloc: Global, seconds: i64) -> Result<Bytes, NoMemory>
 }
 
 // The text of a row, and `-` for none.
-fn row_word(row: &Option<Bytes>) -> &[u8]
+fn row_word(row: &Option<Shared>) -> &[u8]
     ensures { result.now ≡ row_word row.now }
 {
     match row {

@@ -10,7 +10,7 @@ ghost use Rattle.lei_office.specs.declared.limits.Limits.{Limits};
 use crate::request::Call;
 use crate::texts::{accreditation_text, publication_text, upload_text};
 use lei_code::Lei;
-use lei_outside::{Bytes, KeptEntry, NoMemory};
+use lei_outside::{Bytes, KeptEntry, NoMemory, Shared};
 use lei_shapes::Moment;
 use register_judge::Verdict;
 use std::alloc::Global;
@@ -48,7 +48,7 @@ pub fn accreditation(
         number: 0,
         moment,
         rules: RULES,
-        body: Bytes::copy_of(alloc, &[])?,
+        body: Shared::copy_of(alloc, &[])?,
         answer: accreditation_text(alloc, seq, issuer)?,
     })
 }
@@ -71,7 +71,7 @@ pub fn taken_upload(
         number: call.number,
         moment,
         rules: RULES,
-        body: Bytes::copy_of(alloc, call.body.as_slice())?,
+        body: call.body.share()?,
         answer: upload_text(alloc, seq, &call.office, call.number, verdicts)?,
     })
 }
@@ -95,7 +95,7 @@ pub fn publication(
         number,
         moment: moment.seconds(),
         rules: RULES,
-        body: Bytes::copy_of(alloc, &[])?,
+        body: Shared::copy_of(alloc, &[])?,
         answer: publication_text(alloc, seq, number, moment, counts)?,
     })
 }

@@ -14,7 +14,7 @@ ghost use Rattle.register_table.specs.Undos.{IsLater, MayApply, touch_all};
 
 use crate::reply::{Kind, Reply};
 use copy_forms::item_text;
-use lei_outside::{Batch, Bytes, KeepFault, Keeper, KeptCell, KeptEntry, List, NoMemory};
+use lei_outside::{Batch, Bytes, KeepFault, Keeper, KeptCell, KeptEntry, List, NoMemory, Shared};
 use lei_records::{Item, RowKey, Writes};
 use register_table::{Table, Touched};
 use std::alloc::Global;
@@ -144,11 +144,14 @@ fn kept_cell(alloc: Global, told: &Touched) -> Result<KeptCell, NoMemory>
     })
 }
 
-fn row_text(alloc: Global, item: &Option<Item>) -> Result<Option<Bytes>, NoMemory>
+fn row_text(alloc: Global, item: &Option<Item>) -> Result<Option<Shared>, NoMemory>
     ensures { IfOk result (λ text. text ≡ option_map item_text item.now) }
 {
     match item {
-        Some(item) => Ok(Some(item_text(alloc, item)?)),
+        Some(item) => {
+            let text = item_text(alloc, item)?;
+            Ok(Some(Shared::of(alloc, text.into_vec())?))
+        }
         None => Ok(None),
     }
 }

@@ -247,7 +247,7 @@ fn upload_in(alloc: Global, stored: &KeptEntry) -> Result<Option<Request>, NoMem
 {
     match Lei::read(stored.office.as_slice()) {
         Ok(office) if is_upload_number(stored.number) => {
-            let body = Bytes::copy_of(alloc, stored.body.as_slice())?;
+            let body = stored.body.share()?;
             Ok(Some(Request::Upload(Call {
                 office,
                 number: stored.number,

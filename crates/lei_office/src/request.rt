@@ -5,7 +5,7 @@ use crate::reply::Refusal;
 use copy_csv::{Form, Sheet};
 use golden_shelf::Base;
 use lei_code::Lei;
-use lei_outside::Bytes;
+use lei_outside::Shared;
 use request_words::MAX_NUMBER;
 
 /// Whether an upload, or a publication, may have this number.
@@ -21,7 +21,7 @@ pub struct Call {
     pub office: Lei,
     /// From 1 to [`MAX_NUMBER`].
     pub number: u32,
-    pub body: Bytes,
+    pub body: Shared,
 }
 
 /// What the register is asked for.

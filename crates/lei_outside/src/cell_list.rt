@@ -7,7 +7,7 @@ ghost use Rattle.std.specs.Ordering.{nat_cmp};
 ghost use Rattle.lei_outside.specs.CellLists.{between_of, cells_in, content_at};
 ghost use Rattle.lei_outside.specs.Keeping.{cell_at, content_of, place_of, put_cell, put_cells};
 
-use crate::keeper::copy_of_row;
+use crate::keeper::shared_row;
 use crate::{Bytes, KeptCell, NoMemory};
 use std::alloc::Global;
 use std::collections::BTreeMap;
@@ -88,6 +88,6 @@ fn cell_in(alloc: Global, place: &[u8], cell: &KeptCell) -> Result<KeptCell, NoM
         kind,
         name: Bytes::copy_of(alloc, name)?,
         touched: cell.touched,
-        row: copy_of_row(alloc, &cell.row)?,
+        row: shared_row(&cell.row)?,
     })
 }

@@ -1,7 +1,7 @@
 // What the register keeps of a request that changed it.
 ghost use Rattle.std.specs.Prelude.{◌≡◌, IfOk};
 
-use crate::{Bytes, NoMemory};
+use crate::{Bytes, NoMemory, Shared};
 use std::alloc::Global;
 
 /// An entry of the register's history: a request that was answered, with its answer.
@@ -20,13 +20,13 @@ pub struct KeptEntry {
     /// The rules that it was judged by: 1.
     pub rules: u16,
     /// The body of the upload, empty for the others.
-    pub body: Bytes,
+    pub body: Shared,
     /// The text that was answered.
     pub answer: Bytes,
 }
 
 impl KeptEntry {
-    /// The entry in memory of its own.
+    /// The entry in memory of its own, but for the body, which both have in common.
     pub fn copy(&self, alloc: Global) -> Result<Self, NoMemory>
         ensures { IfOk result (λ copy. copy ≡ self.now) }
     {
@@ -37,7 +37,7 @@ impl KeptEntry {
             number: self.number,
             moment: self.moment,
             rules: self.rules,
-            body: Bytes::copy_of(alloc, self.body.as_slice())?,
+            body: self.body.share()?,
             answer: Bytes::copy_of(alloc, self.answer.as_slice())?,
         })
     }

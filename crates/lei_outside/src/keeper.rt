@@ -3,7 +3,7 @@ ghost use Rattle.std.specs.Prelude.{◌≡◌, ℕ, ◌≤◌, Option, IfOk, OnO
 ghost use Rattle.lei_outside.specs.Count.{Rose};
 ghost use Rattle.lei_outside.specs.Keeping.{AreKept, CommitLeaves, Commits, IsBatch, IsNextOf, KeptTables, LeavesNoMore, Stays, cells_between, entries_between, last_number};
 
-use crate::{Bytes, KeepFault, KeptEntry, List, NoMemory};
+use crate::{Bytes, KeepFault, KeptEntry, List, NoMemory, Shared};
 use std::alloc::Global;
 
 /// A cell of the register, as it is kept.
@@ -16,11 +16,11 @@ pub struct KeptCell {
     /// The number of the entry that touched it last.
     pub touched: u64,
     /// The row that is held, as the text of a JSON object, or none after a withdrawal.
-    pub row: Option<Bytes>,
+    pub row: Option<Shared>,
 }
 
 impl KeptCell {
-    /// The cell in memory of its own.
+    /// The cell in memory of its own, but for the row's text, which both have in common.
     pub fn copy(&self, alloc: Global) -> Result<Self, NoMemory>
         ensures { IfOk result (λ copy. copy ≡ self.now) }
     {
@@ -28,17 +28,17 @@ impl KeptCell {
             kind: self.kind,
             name: Bytes::copy_of(alloc, self.name.as_slice())?,
             touched: self.touched,
-            row: copy_of_row(alloc, &self.row)?,
+            row: shared_row(&self.row)?,
         })
     }
 }
 
-/// A row's text in memory of its own, or none.
-pub fn copy_of_row(alloc: Global, row: &Option<Bytes>) -> Result<Option<Bytes>, NoMemory>
-    ensures { IfOk result (λ copy. copy ≡ row.now) }
+/// A row's text for one more holder, or none.
+pub fn shared_row(row: &Option<Shared>) -> Result<Option<Shared>, NoMemory>
+    ensures { IfOk result (λ shared. shared ≡ row.now) }
 {
     match row {
-        Some(row) => Ok(Some(Bytes::copy_of(alloc, row.as_slice())?)),
+        Some(row) => Ok(Some(row.share()?)),
         None => Ok(None),
     }
 }

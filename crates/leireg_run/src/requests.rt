@@ -4,7 +4,7 @@ ghost use Rattle.std.specs.Option.{option_copied};
 ghost use Rattle.leireg_run.specs.Requests.{cut, accreditation_of, copy_of, delta_of, kept_of, publication_of, show_of, upload_of, first_word, request_alone, request_by, request_with, asked_by, asked, or_path, MayWantMemory};
 
 use lei_office::{Asked, Call, Refusal, Request};
-use lei_outside::{Bytes, NoMemory};
+use lei_outside::{NoMemory, Shared};
 use request_words::{base_of, code_of, form_of, number_of, sheet_of};
 use std::alloc::Global;
 
@@ -58,7 +58,7 @@ fn upload_of(alloc: Global, rest: &[u8]) -> Result<Option<Request>, NoMemory>
     Ok(Some(Request::Upload(Call {
         office,
         number,
-        body: Bytes::copy_of(alloc, body)?,
+        body: Shared::copy_of(alloc, body)?,
     })))
 }
 

@@ -6,7 +6,7 @@ ghost use Rattle.register_demo.specs.Plan.{block_count};
 use crate::codes::{manager, put_code};
 use crate::plan::{Group, first_item, last_item};
 use itoa::Buffer;
-use lei_outside::{Bytes, NoMemory};
+use lei_outside::{NoMemory, Shared};
 use std::alloc::Global;
 
 // About how many bytes the body of a block takes.
@@ -168,7 +168,7 @@ fn opening(group: Group) -> &'static str
 }
 
 /// The body that brings the items of a block.
-pub fn block_body(alloc: Global, group: Group, n: u32, block: u32) -> Result<Bytes, NoMemory>
+pub fn block_body(alloc: Global, group: Group, n: u32, block: u32) -> Result<Shared, NoMemory>
     requires least { 2 ≤ n }
     requires most { n ≤ 100_000 }
     requires counted { 1 ≤ block }
@@ -180,5 +180,5 @@ pub fn block_body(alloc: Global, group: Group, n: u32, block: u32) -> Result<Byt
     let (first, last) = (first_item(group, block), last_item(n, block));
     put_items(&mut out, group, manager(block), first, last)?;
     put_all(&mut out, &["]}"])?;
-    Ok(Bytes::from(out))
+    Shared::of(alloc, out)
 }

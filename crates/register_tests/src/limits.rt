@@ -3,7 +3,7 @@ ghost use Rattle.lei_office.specs.Limits.{AreLimits};
 
 use lei_code::Lei;
 use lei_office::{Call, Limits, Office, Reply, Request, is_upload_number};
-use lei_outside::{Bytes, Keeper, NoMemory, SureKeeper};
+use lei_outside::{Keeper, NoMemory, Shared, SureKeeper};
 use lei_shapes::Moment;
 use std::alloc::Global;
 use std::test::Fail;
@@ -74,7 +74,7 @@ fn code(text: &str) -> Option<Lei> {
 
 fn upload(alloc: Global, number: u32, body: &str) -> Option<Request> {
     let office = code(ISSUER)?;
-    match Bytes::copy_of(alloc, body.as_bytes()) {
+    match Shared::copy_of(alloc, body.as_bytes()) {
         Ok(body) => Some(Request::Upload(Call {
             office,
             number,

@@ -3,7 +3,7 @@
 // over any database: over this one each function with a call took half a minute to prove.
 use crate::batches::is_batch;
 use keeper_sqlite::SqliteKeeper;
-use lei_outside::{Batch, Bytes, KeepFault, Keeper, KeptCell, KeptEntry, List, NoMemory};
+use lei_outside::{Batch, Bytes, KeepFault, Keeper, KeptCell, KeptEntry, List, NoMemory, Shared};
 use sqlite::Alter;
 use std::alloc::Global;
 use std::test::Fail;
@@ -20,7 +20,7 @@ fn entry(alloc: Global, seq: u64) -> Result<KeptEntry, NoMemory> {
         number: u32::MAX,
         moment: i64::MIN,
         rules: u16::MAX,
-        body: Bytes::copy_of(alloc, b"")?,
+        body: Shared::copy_of(alloc, b"")?,
         answer: Bytes::copy_of(alloc, &[0, 255])?,
     })
 }
@@ -33,11 +33,11 @@ fn entries(alloc: Global, seqs: &[u64]) -> Result<List<KeptEntry>, NoMemory> {
     Ok(List::from(list))
 }
 
-fn row(alloc: Global, text: &str) -> Result<Option<Bytes>, NoMemory> {
+fn row(alloc: Global, text: &str) -> Result<Option<Shared>, NoMemory> {
     if text.is_empty() {
         Ok(None)
     } else {
-        Ok(Some(Bytes::copy_of(alloc, text.as_bytes())?))
+        Ok(Some(Shared::copy_of(alloc, text.as_bytes())?))
     }
 }
 

@@ -3,8 +3,8 @@
 use crate::limits::{ISSUER, MOMENT, TWO_RECORDS};
 use crate::runs::words;
 use lei_outside::{
-    Bytes, Clock, KeepFault, Keeper, KeptCell, KeptEntry, List, MapKeeper, NoMemory, SureSink,
-    SureSource, may_be_kept,
+    Bytes, Clock, KeepFault, Keeper, KeptCell, KeptEntry, List, MapKeeper, NoMemory, Shared,
+    SureSink, SureSource, may_be_kept,
 };
 use leireg_run::{Untold, no_file, run};
 use std::alloc::{AllocError, Global};
@@ -91,7 +91,7 @@ fn entries_with(
 fn cell_with(alloc: Global, cell: &KeptCell, change: Change) -> Result<KeptCell, NoMemory> {
     let mut cell = cell.copy(alloc)?;
     match change {
-        Change::Row => cell.row = Some(Bytes::copy_of(alloc, b"{}")?),
+        Change::Row => cell.row = Some(Shared::copy_of(alloc, b"{}")?),
         Change::Touched => cell.touched = 1,
         Change::Withdrawn => cell.row = None,
         _ => {}
