@@ -7,3 +7,4 @@ pub mod OptionLemmas
 pub mod FindLemmas
 pub mod PairLemmas
 pub mod PrintedLemmas
+pub mod FieldTextLemmas

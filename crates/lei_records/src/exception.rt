@@ -4,10 +4,11 @@ ghost use Rattle.lei_records.specs.Places.{exception_places};
 ghost use Rattle.lei_records.specs.Rows.{text_at};
 ghost use Rattle.lei_records.specs.Spelled.{IsExceptionRow};
 
+use crate::field_texts::FieldTexts;
 use crate::places;
 use crate::texts::{code_at, text_at};
 use lei_code::Lei;
-use lei_outside::{NoMemory, Texts};
+use lei_outside::NoMemory;
 use lei_shapes::{ExceptionCategory, Reason};
 use std::alloc::Global;
 use std::marker::Model;
@@ -17,7 +18,7 @@ use std::sync::Arc;
 /// its four texts in order of place, where an absent field is the empty text, and whether it is a withdrawal.
 #[derive(Debug, Drop)]
 pub struct ExceptionItem {
-    texts: Arc<Texts, Global>,
+    texts: Arc<FieldTexts, Global>,
     withdraws: bool,
     lei: Lei,
     category: ExceptionCategory,
@@ -65,7 +66,7 @@ impl Eq for ExceptionItem {
 impl ExceptionItem {
     /// The exception with these texts, which move, or its withdrawal. The condition is that they are the row of an
     /// exception.
-    pub fn of(alloc: Global, texts: Texts, withdraws: bool) -> Result<Self, NoMemory>
+    pub fn of(alloc: Global, texts: FieldTexts, withdraws: bool) -> Result<Self, NoMemory>
         requires { IsExceptionRow texts }
         ensures { IfOk result (λ made. made ≡ (texts, withdraws)) }
     {
@@ -79,7 +80,7 @@ impl ExceptionItem {
     }
 
     /// Its texts in order of place.
-    pub fn texts(&self) -> &Texts
+    pub fn texts(&self) -> &FieldTexts
         ensures value { result.now ≡ self.now.0 }
         ensures row { IsExceptionRow self.now.0 }
     {
@@ -141,7 +142,7 @@ impl ExceptionItem {
 }
 
 #[tactic(auto, unfolding(crate::specs::Exceptions::exception_category_in))]
-fn category_of(texts: &Texts) -> ExceptionCategory
+fn category_of(texts: &FieldTexts) -> ExceptionCategory
     requires { IsExceptionRow texts.now }
     ensures { result ≡ Exceptions.exception_category_in texts.now }
 {
@@ -152,7 +153,7 @@ fn category_of(texts: &Texts) -> ExceptionCategory
 }
 
 // The reason that the text at its place reads as, and none where the text is absent.
-fn reason_of(texts: &Texts) -> Option<Reason>
+fn reason_of(texts: &FieldTexts) -> Option<Reason>
     requires { IsExceptionRow texts.now }
     ensures { result ≡ Exceptions.reason_in texts.now }
 {

@@ -5,6 +5,7 @@
 mod check;
 mod copies;
 mod exception;
+mod field_texts;
 mod fields;
 mod item;
 mod laws;
@@ -21,6 +22,7 @@ mod view;
 
 pub use check::{Check, Detail};
 pub use exception::ExceptionItem;
+pub use field_texts::FieldTexts;
 pub use fields::{Content, Facts, Field, Kind, Need};
 pub use item::{Fields, Item, RawItem, Readied, Upload};
 pub use laws::{good_items_have_rows, places_have_their_fields};

@@ -5,9 +5,10 @@ ghost use Rattle.lei_records.specs.Places.{record_places};
 ghost use Rattle.lei_records.specs.Rows.{text_at};
 ghost use Rattle.lei_records.specs.Spelled.{IsPrinted, moment_in, present};
 
+use crate::field_texts::FieldTexts;
 use crate::places::RECORD_PLACES;
 use crate::texts::{moment_at, text_at};
-use lei_outside::{NoMemory, Texts};
+use lei_outside::NoMemory;
 use lei_shapes::Moment;
 use std::alloc::Global;
 use std::marker::Model;
@@ -15,7 +16,7 @@ use std::marker::Model;
 /// The texts of a row. Contracts see the list of them.
 #[derive(Drop)]
 pub struct Printed {
-    texts: Texts,
+    texts: FieldTexts,
     // For a text that was read as a moment, that moment.
     moments: [Option<Moment>; RECORD_PLACES],
 }
@@ -32,12 +33,12 @@ impl Model for Printed {
 }
 
 impl Printed {
-    /// No text, with room for so many of so many bytes together.
-    pub fn with_capacity(alloc: Global, texts: usize, bytes: usize) -> Result<Self, NoMemory>
+    /// No text, with room for so many bytes together.
+    pub fn with_capacity(alloc: Global, bytes: usize) -> Result<Self, NoMemory>
         ensures { IfOk result (λ printed. printed ≡ []) }
     {
         Ok(Printed {
-            texts: Texts::with_capacity(alloc, texts, bytes)?,
+            texts: FieldTexts::with_capacity(alloc, bytes)?,
             moments: [None; RECORD_PLACES],
         })
     }
@@ -55,14 +56,14 @@ impl Printed {
     }
 
     /// The texts, which are seen as they are.
-    pub fn texts(&self) -> &Texts
+    pub fn texts(&self) -> &FieldTexts
         ensures { result.now ≡ self.now }
     {
         &self.texts
     }
 
     /// The texts alone.
-    pub fn into_texts(self) -> Texts
+    pub fn into_texts(self) -> FieldTexts
         ensures { result ≡ self }
     {
         self.texts

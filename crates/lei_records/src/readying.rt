@@ -218,7 +218,7 @@ fn shaped_row(alloc: Global, kind: Kind, texts: &[&str]) -> Result<Shaped, NoMem
     let facts = facts_at(kind, texts);
     let table = kind.fields();
     let count = kind.row_len();
-    let mut row = Printed::with_capacity(alloc, count, size_of(table, texts))?;
+    let mut row = Printed::with_capacity(alloc, size_of(table, texts))?;
     for (index, field) in table.iter().enumerate() {
         let fits = place_text(&mut row, index < count, facts, field, texts[index])?;
         if !fits {

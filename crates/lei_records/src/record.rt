@@ -4,11 +4,12 @@ ghost use Rattle.lei_records.specs.Places.{record_places};
 ghost use Rattle.lei_records.specs.Rows.{text_at};
 ghost use Rattle.lei_records.specs.Spelled.{IsRow};
 
+use crate::field_texts::FieldTexts;
 use crate::places;
 use crate::printed::Printed;
 use crate::texts::{code_at, present_code_at, text_at};
 use lei_code::Lei;
-use lei_outside::{NoMemory, Texts};
+use lei_outside::NoMemory;
 use lei_shapes::{Category, EntityStatus, Moment, RecordStatus};
 use std::alloc::Global;
 use std::marker::Model;
@@ -18,7 +19,7 @@ use std::sync::Arc;
 /// place, where an absent field is the empty text and a moment stands in printed form.
 #[derive(Debug, Drop)]
 pub struct Record {
-    texts: Arc<Texts, Global>,
+    texts: Arc<FieldTexts, Global>,
     lei: Lei,
     status: RecordStatus,
     entity_status: EntityStatus,
@@ -91,7 +92,7 @@ impl Record {
     }
 
     /// Its texts in order of place.
-    pub fn texts(&self) -> &Texts
+    pub fn texts(&self) -> &FieldTexts
         ensures value { result.now ≡ self.now }
         ensures row { IsRow self.now }
     {
@@ -224,7 +225,7 @@ impl Record {
 }
 
 #[tactic(auto, unfolding(crate::specs::Cells::status_in))]
-fn status_of(texts: &Texts) -> RecordStatus
+fn status_of(texts: &FieldTexts) -> RecordStatus
     requires { IsRow texts.now }
     ensures { result ≡ Cells.status_in texts.now }
 {
@@ -235,7 +236,7 @@ fn status_of(texts: &Texts) -> RecordStatus
 }
 
 #[tactic(auto, unfolding(crate::specs::Cells::entity_status_in))]
-fn entity_status_of(texts: &Texts) -> EntityStatus
+fn entity_status_of(texts: &FieldTexts) -> EntityStatus
     requires { IsRow texts.now }
     ensures { result ≡ Cells.entity_status_in texts.now }
 {
@@ -246,7 +247,7 @@ fn entity_status_of(texts: &Texts) -> EntityStatus
 }
 
 #[tactic(auto, unfolding(crate::specs::Cells::category_in))]
-fn category_of(texts: &Texts) -> Category
+fn category_of(texts: &FieldTexts) -> Category
     requires { IsRow texts.now }
     ensures { result ≡ Cells.category_in texts.now }
 {

@@ -4,11 +4,12 @@ ghost use Rattle.lei_records.specs.Relations;
 ghost use Rattle.lei_records.specs.Rows.{text_at};
 ghost use Rattle.lei_records.specs.Spelled.{IsRelationRow};
 
+use crate::field_texts::FieldTexts;
 use crate::places;
 use crate::printed::Printed;
 use crate::texts::{code_at, text_at};
 use lei_code::Lei;
-use lei_outside::{NoMemory, Texts};
+use lei_outside::NoMemory;
 use lei_shapes::{Moment, RelationRegistration, RelationStatus, RelationType};
 use std::alloc::Global;
 use std::marker::Model;
@@ -18,7 +19,7 @@ use std::sync::Arc;
 /// of place, where an absent field is the empty text and a moment stands in printed form.
 #[derive(Debug, Drop)]
 pub struct Relation {
-    texts: Arc<Texts, Global>,
+    texts: Arc<FieldTexts, Global>,
     start: Lei,
     kind: RelationType,
     end: Lei,
@@ -89,7 +90,7 @@ impl Relation {
     }
 
     /// Its texts in order of place.
-    pub fn texts(&self) -> &Texts
+    pub fn texts(&self) -> &FieldTexts
         ensures value { result.now ≡ self.now }
         ensures row { IsRelationRow self.now }
     {
@@ -212,7 +213,7 @@ fn is_active_status(status: RelationStatus) -> bool
 }
 
 #[tactic(auto, unfolding(crate::specs::Relations::kind_in))]
-fn kind_of(texts: &Texts) -> RelationType
+fn kind_of(texts: &FieldTexts) -> RelationType
     requires { IsRelationRow texts.now }
     ensures { result ≡ Relations.kind_in texts.now }
 {
@@ -223,7 +224,7 @@ fn kind_of(texts: &Texts) -> RelationType
 }
 
 #[tactic(auto, unfolding(crate::specs::Relations::relation_status_in))]
-fn status_of(texts: &Texts) -> RelationStatus
+fn status_of(texts: &FieldTexts) -> RelationStatus
     requires { IsRelationRow texts.now }
     ensures { result ≡ Relations.relation_status_in texts.now }
 {
@@ -234,7 +235,7 @@ fn status_of(texts: &Texts) -> RelationStatus
 }
 
 #[tactic(auto, unfolding(crate::specs::Relations::registration_in))]
-fn registration_of(texts: &Texts) -> RelationRegistration
+fn registration_of(texts: &FieldTexts) -> RelationRegistration
     requires { IsRelationRow texts.now }
     ensures { result ≡ Relations.registration_in texts.now }
 {

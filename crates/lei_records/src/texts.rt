@@ -4,12 +4,12 @@ ghost use Rattle.lei_code.specs.Code.{IsValid};
 ghost use Rattle.lei_records.specs.Rows.{text_at};
 ghost use Rattle.lei_records.specs.Spelled.{IsPrinted, moment_in, present};
 
+use crate::field_texts::FieldTexts;
 use lei_code::Lei;
-use lei_outside::Texts;
 use lei_shapes::Moment;
 
 // The text at a place, places counted from 1.
-pub fn text_at(texts: &Texts, place: usize) -> &str
+pub fn text_at(texts: &FieldTexts, place: usize) -> &str
     requires first { 1 ≤ place }
     requires last { place ≤ length texts.now }
     ensures { result.now ≡ text_at texts.now place }
@@ -18,7 +18,7 @@ pub fn text_at(texts: &Texts, place: usize) -> &str
 }
 
 // The code that the text at a place is.
-pub fn code_at(texts: &Texts, place: usize) -> Lei
+pub fn code_at(texts: &FieldTexts, place: usize) -> Lei
     requires first { 1 ≤ place }
     requires last { place ≤ length texts.now }
     requires valid { IsValid (text_at texts.now place) }
@@ -31,7 +31,7 @@ pub fn code_at(texts: &Texts, place: usize) -> Lei
 }
 
 // The same where the text may be absent.
-pub fn present_code_at(texts: &Texts, place: usize) -> Option<Lei>
+pub fn present_code_at(texts: &FieldTexts, place: usize) -> Option<Lei>
     requires first { 1 ≤ place }
     requires last { place ≤ length texts.now }
     requires valid { IfSome (present (text_at texts.now place)) IsValid }
@@ -45,7 +45,7 @@ pub fn present_code_at(texts: &Texts, place: usize) -> Option<Lei>
 
 // The moment that the text at a place reads as.
 #[tactic(auto, unfolding(crate::specs::Spelled::moment_in))]
-pub fn moment_at(texts: &Texts, place: usize) -> Moment
+pub fn moment_at(texts: &FieldTexts, place: usize) -> Moment
     requires first { 1 ≤ place }
     requires last { place ≤ length texts.now }
     requires printed { IsPrinted (text_at texts.now place) }
