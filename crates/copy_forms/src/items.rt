@@ -9,8 +9,8 @@ ghost use Rattle.copy_csv.specs.Sheets.{row_of};
 use crate::json_text::places;
 use copy_csv::Sheet;
 use json::Writer;
-use lei_outside::{Bytes, NoMemory, Texts};
-use lei_records::Item;
+use lei_outside::{Bytes, NoMemory};
+use lei_records::{FieldTexts, Item};
 use std::alloc::Global;
 
 /// The record of an item's row: the fields that are present, with names in byte order.
@@ -25,11 +25,12 @@ pub fn item_text(alloc: Global, item: &Item) -> Result<Bytes, NoMemory>
 }
 
 /// The record of the row that has these texts in order of place.
-pub fn fields_text(alloc: Global, sheet: Sheet, texts: &Texts) -> Result<Bytes, NoMemory>
+pub fn fields_text(alloc: Global, sheet: Sheet, texts: &FieldTexts) -> Result<Bytes, NoMemory>
     requires { length texts.now ≡ Sheets.width sheet }
     ensures { IfOk result (λ text. text ≡ json_record (row_of sheet texts.now)) }
 {
-    let mut out = Writer::new(Vec::with_capacity(alloc, 1024)?);
+    let room = record_room(sheet, texts);
+    let mut out = Writer::new(Vec::with_capacity(alloc, room)?);
     out.begin_object()?;
     for place in places(sheet) {
         put_field(&mut out, sheet, texts, usize::from(*place))?;
@@ -38,8 +39,29 @@ pub fn fields_text(alloc: Global, sheet: Sheet, texts: &Texts) -> Result<Bytes, 
     Ok(Bytes::from(out.into_inner()))
 }
 
+// How many bytes the record takes where no text has escapes, and one to spare, which the writer asks for: of each field
+// that is present the name and the text, four quotes, a colon and a comma.
+fn record_room(sheet: Sheet, texts: &FieldTexts) -> usize
+    requires { length texts.now ≡ Sheets.width sheet }
+{
+    let mut room = 2_usize;
+    for index in 0..sheet.width() {
+        let text = texts.text(index);
+        if !text.is_empty() {
+            room = room.saturating_add(text.len());
+            room = room.saturating_add(sheet.name_at(index + 1).len() + 6);
+        }
+    }
+    room
+}
+
 // Writes the field at a place, unless it is absent.
-fn put_field(out: &mut Writer, sheet: Sheet, texts: &Texts, place: usize) -> Result<(), NoMemory>
+fn put_field(
+    out: &mut Writer,
+    sheet: Sheet,
+    texts: &FieldTexts,
+    place: usize,
+) -> Result<(), NoMemory>
     requires wide { length texts.now ≡ Sheets.width sheet }
     requires first { 1 ≤ place }
     requires last { place ≤ Sheets.width sheet }

@@ -23,8 +23,8 @@ use crate::limits::Limits;
 use crate::reply::{Kind, Refusal, Reply};
 use copy_csv::{Form, Row, Sheet, Texts};
 use golden_shelf::{Base, Shelf, ShelfFault};
-use lei_outside::{Bytes, KeptEntry, List, NoMemory, Texts as Fields};
-use lei_records::{Item, RowKey};
+use lei_outside::{Bytes, KeptEntry, List, NoMemory};
+use lei_records::{FieldTexts, Item, RowKey};
 use lei_shapes::{Moment, RelationRegistration};
 use register_table::{Table, Touched};
 use std::alloc::Global;
@@ -218,7 +218,7 @@ fn published_row(alloc: Global, item: &Item) -> Result<Option<Row>, NoMemory>
 }
 
 // The row of a sheet with these texts, which are copied into one piece of memory.
-fn sheet_row(alloc: Global, sheet: Sheet, fields: &Fields) -> Result<Row, NoMemory>
+fn sheet_row(alloc: Global, sheet: Sheet, fields: &FieldTexts) -> Result<Row, NoMemory>
     requires { length fields.now ≡ sheets.width sheet }
     ensures { IfOk result (λ row. row ≡ sheets.row_of sheet fields.now) }
 {
@@ -230,7 +230,7 @@ fn sheet_row(alloc: Global, sheet: Sheet, fields: &Fields) -> Result<Row, NoMemo
 }
 
 // How many bytes texts have together.
-fn bytes_of(fields: &Fields) -> usize {
+fn bytes_of(fields: &FieldTexts) -> usize {
     let mut bytes = 0_usize;
     for index in 0..fields.len() {
         bytes = bytes.saturating_add(fields.text(index).len());
