@@ -180,5 +180,6 @@ pub fn block_body(alloc: Global, group: Group, n: u32, block: u32) -> Result<Sha
     let (first, last) = (first_item(group, block), last_item(n, block));
     put_items(&mut out, group, manager(block), first, last)?;
     put_all(&mut out, &["]}"])?;
-    Shared::of(alloc, out)
+    let body = Shared::of(alloc, out)?;
+    Ok(body)
 }

@@ -9,6 +9,6 @@ use Rattle.register_demo.proofs.bodies.block_body.Goals as goal
 pub returns : goal.returns
 unfolding block_body
 returns c =
-    body-put c.put_all.new.out.items c.put_items.new.out.items c.from.result (opening c.args.group)
+    body-put c.put_all.new.out.items c.put_items.new.out.items c.in_ok-body.body (opening c.args.group)
     (elements (map (item_text c.args.group (manager c.args.block)) (from_to (first_item c.args.group c.args.block) (last_item c.args.n c.args.block))))
     (search (rules, append-nil)) (search rules) (search rules)
