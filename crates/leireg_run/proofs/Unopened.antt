@@ -59,29 +59,31 @@ opened_status from before after status runs unopened = by_end status runs.course
 -- a call of the keeper failed
 pub fails_opening : (may : Option KeptTables → Type 0) (left : Option (List ℕ)) (given : Option (List ℤ)) (written : Option (List ℕ)) (old new : Option KeptTables) (before now : ℕ)
     → Stays old new → Rose before now → RunsLines may (outside left given written old before) (outside left given written new now) 5
-fails_opening may left given written old new before now stays rose = inr (record { unread = refl; unasked = refl; kept = stays; ends = inl (refl, rose, refl) })
+fails_opening may left given written old new before now stays rose = inr (record { unread = refl; unasked = refl; kept = stays; faultless = λ other. absurd (other refl); ends = inl (refl, rose, refl) })
 
 -- memory was wanted
 pub wants_opening : (may : Option KeptTables → Type 0) (left : Option (List ℕ)) (given : Option (List ℤ)) (written : Option (List ℕ)) (old new : Option KeptTables) (before now : ℕ)
-    → Stays old new → RunsLines may (outside left given written old before) (outside left given written new now) 6
-wants_opening may left given written old new before now stays = inr (record { unread = refl; unasked = refl; kept = stays; ends = inr (inl (refl, refl)) })
+    → Stays old new → now ≡ before → RunsLines may (outside left given written old before) (outside left given written new now) 6
+wants_opening may left given written old new before now stays same = inr (record { unread = refl; unasked = refl; kept = stays; faultless = λ _. same; ends = inr (inl (refl, refl)) })
 
 -- the store is damaged
 pub damaged_opening : (may : Option KeptTables → Type 0) (left : Option (List ℕ)) (given : Option (List ℤ)) (written written' : Option (List ℕ)) (old new : Option KeptTables) (before now : ℕ)
-    (damage : Damage) (stop : Stop) → Stays old new → IfSome new (λ tables. IsDamage standard tables damage) → IsDamageTold written written' (damage_text damage) stop
+    (damage : Damage) (stop : Stop) → Stays old new → now ≡ before → IfSome new (λ tables. IsDamage standard tables damage) → IsDamageTold written written' (damage_text damage) stop
     → RunsLines may (outside left given written old before) (outside left given written' new now) (stop_status stop)
-damaged_opening may left given written written' old new before now damage stop stays is (inl told) =
+damaged_opening may left given written written' old new before now damage stop stays same is (inl told) =
     inr (record {
       unread = refl;
       unasked = refl;
       kept = stays;
+      faultless = λ _. same;
       ends = inr (inr (inr (ap stop_status told.0, told.1, record { damage = damage; is = is; written = told.2 })));
     })
-damaged_opening may left given written written' old new before now damage stop stays is (inr wanted) =
+damaged_opening may left given written written' old new before now damage stop stays same is (inr wanted) =
     inr (record {
       unread = refl;
       unasked = refl;
       kept = stays;
+      faultless = λ _. same;
       ends = inr (inr (inl (ap stop_status wanted.0, record { damage = damage; is = is; written = wanted.1 })));
     })
 

@@ -1,5 +1,5 @@
 -- How a run ends, by its command and its status.
-use Rattle.std.specs.Prelude.{◌≡◌, ◌<◌, ◌≤◌, ℕ, ℤ, List, ◌++◌, ◌⊎◌, length, codes, decimal, Contains, Option, Some, IfSome, Result, Ok, Err}
+use Rattle.std.specs.Prelude.{◌≡◌, ◌≢◌, ◌<◌, ◌≤◌, ℕ, ℤ, List, ◌++◌, ◌⊎◌, length, codes, decimal, Contains, Option, Some, IfSome, Result, Ok, Err}
 use Rattle.std.specs.Str.Lines.{lines}
 use Rattle.lei_outside.specs.Count.{Rose}
 use Rattle.lei_outside.specs.Keeping.{KeptTables, Stays}
@@ -125,12 +125,13 @@ pub record TellsDamage {E : Type 0} (before after : Outside) (result : Result (U
   pub is : IfSome after.kept (λ tables. IsDamage standard tables damage)
   pub written : IsWritten before.written after.written (damage_text damage) result
 
--- Nothing was read, and the keeper has what it had. Status 5: a call of the keeper failed. Status 6: memory was wanted.
--- Status 7: what the keeper has is damaged, and that is told.
+-- Nothing was read, and the keeper has what it had. Status 5: a call of the keeper failed, and with no other status did one.
+-- Status 6: memory was wanted. Status 7: what the keeper has is damaged, and that is told.
 pub record FailsToOpen (before after : Outside) (status : ℕ) : Type 0 where
   pub unread : after.left ≡ before.left
   pub unasked : after.given ≡ before.given
   pub kept : Stays before.kept after.kept
+  pub faultless : status ≢ 5 → after.faults ≡ before.faults
   pub ends : ((status ≡ 5) × Rose before.faults after.faults × (after.written ≡ before.written))
       ⊎ ((status ≡ 6) × (after.written ≡ before.written))
       ⊎ ((status ≡ 6) × TellsDamage {E = Unit {0}} before after (Err (tt {0})))

@@ -147,6 +147,8 @@ impl<K: Keeper> Reader<K> {
             (asks_of (part ∷ [])) result
             (progress self.new.office.office (K.faults self.new.office.keeper) self.new.outbox
             (C.given clock.new) (W.written out.new)) }
+        ensures skips { self.new.skips ≡ self.old.skips }
+        ensures window { self.new.window ≡ self.old.window }
         ensures kept { ¬ (IsErrOf result SinkFault.Failed) → W.faults out.new ≡ W.faults out.old }
         ensures failed { IsErrOf result SinkFault.Failed → FailsLast W.written W.faults out.old out.new }
     {
