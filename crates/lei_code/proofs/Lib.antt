@@ -3,3 +3,4 @@ pub mod Places
 pub mod Remainders
 pub mod Faults
 pub mod Made
+pub mod Orders

@@ -10,7 +10,7 @@ use std::fmt;
 use std::marker::Model;
 
 /// A Legal Entity Identifier: 20 characters whose check digits are right.
-#[derive(Clone, Copy, Debug, PartialEq, Eq, Hash, PartialOrd, Ord)]
+#[derive(Clone, Copy, Debug, PartialEq, Eq, Hash)]
 pub struct Lei {
     text: [u8; 20],
 }

@@ -5,6 +5,7 @@ pub mod code;
 pub mod digits;
 pub mod fault;
 pub mod laws;
+mod order;
 mod remainder;
 
 pub use code::Lei;
