@@ -166,11 +166,21 @@ by_cell : (o : Option Cell) (P : Type 0) → ((cell : Cell) → o ≡ Some cell 
 by_cell (Some cell) P some none = some cell refl
 by_cell None P some none = none refl
 
+-- each of these cells is touched
+abbrev pub AreWithin : ℕ → ℕ → Held → Type 0
+AreWithin after upto found = (key : KeyTexts) (cell : Cell) → get found key ≡ Some cell → is_touched after upto cell ≡ true
+
 -- a cell that is found is put among those that were
 pub among_more : (held found : Held) (key : KeyTexts) (cell : Cell) → get held key ≡ Some cell → AreAmong held found → AreAmong held (insert found key cell)
 among_more held found key cell at among q other is =
     at_touch (eq_by_cmp key_cmp q key) 0 cell (get found q) other (λ c. get held q ≡ Some c)
     (sym (get-insert keys_total found key cell q) ∙ is) (λ same. ap (get held) (same_key q key same) ∙ at) (λ there. among q other there)
+
+pub within_more : (after upto : ℕ) (found : Held) (key : KeyTexts) (cell : Cell) → is_touched after upto cell ≡ true → AreWithin after upto found
+    → AreWithin after upto (insert found key cell)
+within_more after upto found key cell passes within q other is =
+    at_touch (eq_by_cmp key_cmp q key) 0 cell (get found q) other (λ c. is_touched after upto c ≡ true)
+    (sym (get-insert keys_total found key cell q) ∙ is) (λ _. passes) (λ there. within q other there)
 
 -- those that were found still are
 pub found_still : (held found : Held) (key : KeyTexts) (cell : Cell) → get held key ≡ Some cell → AreAmong held found → AreAmong (insert found key cell) found
@@ -200,21 +210,24 @@ all_found after upto held stamps place found end each key cell at passes has =
 pub record Asked (after upto : ℕ) (held : Held) (key : KeyTexts) (found more : Held) : Type 0 where
   pub still : AreAmong more found
   pub among : AreAmong held more
+  pub within : AreWithin after upto more
   pub here : (cell : Cell) → get held key ≡ Some cell → is_touched after upto cell ≡ true → get more key ≡ Some cell
 
-pub asked_in : (after upto : ℕ) (held : Held) (key : KeyTexts) (found more : Held) (cell : Cell) → get held key ≡ Some cell → more ≡ insert found key cell
-    → AreAmong held found → Asked after upto held key found more
-asked_in after upto held key found more cell at put among = record {
+pub asked_in : (after upto : ℕ) (held : Held) (key : KeyTexts) (found more : Held) (cell : Cell) → get held key ≡ Some cell → is_touched after upto cell ≡ true → more ≡ insert found key cell
+    → AreAmong held found → AreWithin after upto found → Asked after upto held key found more
+asked_in after upto held key found more cell at passes put among within = record {
   still = subst (λ m. AreAmong m found) (sym put) (found_still held found key cell at among);
   among = subst (AreAmong held) (sym put) (among_more held found key cell at among);
-  here = λ other is passes. ap (λ m. get m key) put ∙ (found_now found key cell ∙ (sym at ∙ is));
+  within = subst (AreWithin after upto) (sym put) (within_more after upto found key cell passes within);
+  here = λ other is _. ap (λ m. get m key) put ∙ (found_now found key cell ∙ (sym at ∙ is));
 }
 
-pub asked_out : (after upto : ℕ) (held : Held) (key : KeyTexts) (found more : Held) → more ≡ found → AreAmong held found
+pub asked_out : (after upto : ℕ) (held : Held) (key : KeyTexts) (found more : Held) → more ≡ found → AreAmong held found → AreWithin after upto found
     → ((cell : Cell) → get held key ≡ Some cell → is_touched after upto cell ≡ true → ⊥) → Asked after upto held key found more
-asked_out after upto held key found more same among none = record {
+asked_out after upto held key found more same among within none = record {
   still = λ q cell at. ap (λ m. get m q) same ∙ at;
   among = λ q cell at. among q cell (sym (ap (λ m. get m q) same) ∙ at);
+  within = λ q cell at. within q cell (sym (ap (λ m. get m q) same) ∙ at);
   here = λ cell at passes. absurd (none cell at passes);
 }
 
@@ -244,7 +257,7 @@ found_more after upto held stamps place stamp found more inside here asked each 
     some_apart cell (sym (ap (get more) (sym own.1) ∙ asked.here cell (ap (get held) own.1 ∙ at) passes) ∙ missing))
     (λ behind. none k d behind less is))))
 
--- ---- the same cells are touched
+-- ---- the cells that are touched
 
 first : (a b : Bool) → T (a && b) → T a
 first true b t = tt
@@ -309,30 +322,31 @@ module _ (p : Cell → Bool) where
             ]
       ] refl
 
-  none_passes : (o found : Option Cell) → found ≡ None → ((cell : Cell) → o ≡ Some cell → p cell ≡ true → found ≡ Some cell) → only p found ≡ only p o
-  none_passes None found none each = ap (only p) none
+  none_passes : (o found : Option Cell) → found ≡ None → ((cell : Cell) → o ≡ Some cell → p cell ≡ true → found ≡ Some cell) → found ≡ only p o
+  none_passes None found none each = none
   none_passes (Some cell) found none each =
-      elim (p cell) as (λ b. p cell ≡ b → only p found ≡ cond b (Some cell) None) [
-        | true ↦ λ passes. absurd (some_apart cell (sym (each cell refl passes) ∙ none))
-        | false ↦ λ fails. ap (only p) none
+      elim (p cell) as (λ b. p cell ≡ b → found ≡ cond b (Some cell) None) [
+        | true ↦ λ passes. each cell refl passes
+        | false ↦ λ fails. none
       ] refl
 
-  same_passing : (held found : Held) → AreAmong held found → ((key : KeyTexts) (cell : Cell) → get held key ≡ Some cell → p cell ≡ true → get found key ≡ Some cell)
-      → filter (λ e. p e.1) (entries found) ≡ filter (λ e. p e.1) (entries held)
-  same_passing held found among each =
-      same_entries key_cmp keys_total keys_antisymmetric (filter (λ e. p e.1) (entries found)) (filter (λ e. p e.1) (entries held))
-      (sorted_passing (entries found) (entries_sorted found)) (sorted_passing (entries held) (entries_sorted held))
-      (λ key. find_passing key (entries found) (entries_sorted found) ∙ (ap (only p) (sym (get-entries found key))
-      ∙ (by_cell (get found key) (only p (get found key) ≡ only p (get held key))
-      (λ cell is. ap (only p) (is ∙ sym (among key cell is)))
+  all_passing : (held found : Held) → AreAmong held found → ((key : KeyTexts) (cell : Cell) → get found key ≡ Some cell → p cell ≡ true)
+      → ((key : KeyTexts) (cell : Cell) → get held key ≡ Some cell → p cell ≡ true → get found key ≡ Some cell)
+      → entries found ≡ filter (λ e. p e.1) (entries held)
+  all_passing held found among within each =
+      same_entries key_cmp keys_total keys_antisymmetric (entries found) (filter (λ e. p e.1) (entries held))
+      (entries_sorted found) (sorted_passing (entries held) (entries_sorted held))
+      (λ key. sym (get-entries found key)
+      ∙ (by_cell (get found key) (get found key ≡ only p (get held key))
+      (λ cell is. is ∙ sym (ap (only p) (among key cell is) ∙ ap (λ b. cond b (Some cell) None) (within key cell is)))
       (λ missing. none_passes (get held key) (get found key) missing (λ cell at passes. each key cell at passes))
-      ∙ (ap (only p) (get-entries held key) ∙ sym (find_passing key (entries held) (entries_sorted held))))))
+      ∙ (ap (only p) (get-entries held key) ∙ sym (find_passing key (entries held) (entries_sorted held)))))
 
--- what is found of the cells has all of them that are touched
-pub same_touched : (after upto : ℕ) (held found : Held) → AreAmong held found
+-- cells that are held and touched, with none of these left out, are all that are
+pub all_touched : (after upto : ℕ) (held found : Held) → AreAmong held found → AreWithin after upto found
     → ((key : KeyTexts) (cell : Cell) → get held key ≡ Some cell → is_touched after upto cell ≡ true → get found key ≡ Some cell)
-    → touched after upto found ≡ touched after upto held
-same_touched after upto held found among each = same_passing (is_touched after upto) held found among each
+    → entries found ≡ touched after upto held
+all_touched after upto held found among within each = all_passing (is_touched after upto) held found among within each
 
 -- what was touched stands in the order of keys
 pub touched-sorted : (after upto : ℕ) (held : Held) → T (is_sorted key_cmp (touched after upto held))
@@ -345,8 +359,11 @@ touched-find after upto held key =
 
 -- ---- no stamps
 
+pub none_held : (held : Held) (key : KeyTexts) (cell : Cell) → held ≡ empty → get held key ≡ Some cell → ⊥
+none_held held key cell none at = some_apart cell (sym at ∙ (ap (λ h. get h key) none ∙ get-empty key_cmp key))
+
 pub none_stamped : (stamps : List Stamp) (held : Held) → held ≡ empty → AreStamped stamps held
-none_stamped stamps held none key cell at = absurd (some_apart cell (sym at ∙ (ap (λ h. get h key) none ∙ get-empty key_cmp key)))
+none_stamped stamps held none key cell at = absurd (none_held held key cell none at)
 
 pub none_in_order : (stamps : List Stamp) → stamps ≡ [] → AreInOrder stamps
 none_in_order stamps none = IsNonDecreasingBy-short (λ stamp. stamp.entry) stamps (subst (λ l. length l ≤ 1) (sym none) (omega arith))

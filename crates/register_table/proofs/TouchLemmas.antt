@@ -1,24 +1,25 @@
--- The cells that are told as touched.
-use Rattle.std.specs.Prelude.{◌≡◌, ℕ, Bool, true, false, ◌&&◌, cond, List, [], ◌∷◌, ◌++◌, map, filter}
-use Rattle.std.specs.FinMap.{entries, from_entries, from_sorted, entries-from_sorted, get-from_entries, get-from_sorted, same_map}
+-- The slots that are told as touched: their order, and how they are lent.
+use Rattle.std.specs.Prelude.{◌≡◌, Bool, true, false, ◌&&◌, List, [], ◌∷◌, map}
+use Rattle.std.specs.BTreeMap.{insert_entry}
+use Rattle.std.specs.Borrow.{Bor}
+use Rattle.std.specs.FinMap.{entries, from_entries, from_sorted, insert, entries-from_sorted, get-from_entries, get-from_sorted, same_map}
 use Rattle.std.specs.FinMap.Entries.{below_all, is_sorted}
 use Rattle.std.specs.List.{AllByRecursion}
 use Rattle.std.specs.List.Sorted.{IsStrictlySortedBy}
 use Rattle.std.specs.Map.{keys_of}
-use Rattle.std.specs.Ordering.{is_lt}
-use Rattle.std.specs.declared.cmp.Ordering.TheVariants.{Less}
-use Rattle.std.proofs.Common.{refl, sym, ap, subst, ◌∙◌, append_assoc, T}
-use Rattle.lei_records.specs.Tables.{KeyTexts, key_cmp}
+use Rattle.std.specs.Ordering.{is_lt, match_ordering}
+use Rattle.std.specs.declared.cmp.Ordering.TheVariants.{Less, Equal, Greater}
+use Rattle.std.proofs.Common.{refl, sym, ap, subst, ◌∙◌, T}
+use Rattle.std.proofs.lemmas.Map.Made.{keys_of-map_values}
+use Rattle.lei_records.specs.declared.view.RowKey.{RowKey}
+use Rattle.lei_records.specs.Tables.{key_cmp}
 use Rattle.authority_rules.proofs.HolderLemmas.{keys_total}
 use Rattle.authority_rules.proofs.KeyLemmas.{keys_antisymmetric}
 use Rattle.register_table.specs.declared.cells.Slot.{Slot}
 use Rattle.register_table.specs.declared.keys.TextKey.{TextKey}
-use Rattle.register_table.specs.declared.touched.Touched.{Touched}
-use Rattle.register_table.specs.Held.{Cell, Held, cell_key}
-use Rattle.register_table.specs.Cells.{held_in, under_texts}
-use Rattle.register_table.specs.Rising.{within}
-use Rattle.register_table.specs.Touched.{is_touched, shown, touched}
-use Rattle.register_table.proofs.CellLemmas.{text_cmp}
+use Rattle.register_table.specs.Held.{cell_key}
+use Rattle.register_table.specs.Cells.{AreOwnCells, IsOwnCell, cell_in, held_in, under_texts, unlent}
+use Rattle.register_table.proofs.CellLemmas.{held_in-insert, own-insert, text_cmp}
 
 both : (a b : Bool) → T a → T b → T (a && b)
 both true b p q = q
@@ -34,7 +35,7 @@ sorted_texts [] sorted = tt
 sorted_texts (e ∷ slots) sorted = both _ _ (below e.0 slots sorted.0) (sorted_texts slots sorted.1)
 
 -- slots that rise are the entries of their cells
-entries-held_in : (slots : List (TextKey × Slot)) → IsStrictlySortedBy text_cmp (keys_of slots) → entries (held_in slots) ≡ map under_texts slots
+pub entries-held_in : (slots : List (TextKey × Slot)) → IsStrictlySortedBy text_cmp (keys_of slots) → entries (held_in slots) ≡ map under_texts slots
 unfolding held_in
 entries-held_in slots sorted =
     let es = map under_texts slots in
@@ -43,27 +44,28 @@ entries-held_in slots sorted =
     (λ q. get-from_entries keys_total es q ∙ sym (get-from_sorted key_cmp es q rises)) in
     ap entries same ∙ entries-from_sorted key_cmp es rises
 
--- nothing is left
-pub all_told : (after upto : ℕ) (slots : List (TextKey × Slot)) (held : Held) (told : List (KeyTexts × Cell)) → IsStrictlySortedBy text_cmp (keys_of slots) → held_in slots ≡ held
-    → told ≡ within after upto slots → told ≡ touched after upto held
-all_told after upto slots held told sorted is whole =
-    whole ∙ (ap (filter (λ cell. is_touched after upto cell.1)) (sym (entries-held_in slots sorted)) ∙ ap (touched after upto) is)
+-- ---- slots that are lent
 
-told_push : (list : List Touched) (one : Touched) → map shown (list ++ one ∷ []) ≡ map shown list ++ shown one ∷ []
-told_push [] one = refl
-told_push (first ∷ list) one = ap (λ t. shown first ∷ t) (told_push list one)
+pub rising-unlent : (slots : List (TextKey × Bor Slot)) → IsStrictlySortedBy text_cmp (keys_of slots) → IsStrictlySortedBy text_cmp (keys_of (unlent slots))
+rising-unlent slots sorted = subst (IsStrictlySortedBy text_cmp) (sym (keys_of-map_values (λ slot. slot.now) slots)) sorted
 
--- a slot that is within was told
-pub one_more : (after upto : ℕ) (list more : List Touched) (one : Touched) (slot : TextKey × Slot) (rest : List (TextKey × Slot)) → more ≡ list ++ one ∷ []
-    → shown one ≡ under_texts slot → is_touched after upto (under_texts slot).1 ≡ true
-    → map shown more ++ within after upto rest ≡ map shown list ++ within after upto (slot ∷ rest)
-one_more after upto list more one slot rest pushed is passes =
-    ap (λ l. map shown l ++ within after upto rest) pushed
-    ∙ (ap (λ l. l ++ within after upto rest) (told_push list one ∙ ap (λ t. map shown list ++ t ∷ []) is)
-    ∙ (append_assoc (map shown list) (under_texts slot ∷ []) (within after upto rest)
-    ∙ ap (λ b. map shown list ++ cond b (under_texts slot ∷ within after upto rest) (within after upto rest)) (sym passes)))
+unlent-insert : (slots : List (TextKey × Bor Slot)) (k : TextKey) (slot : Bor Slot) → unlent (insert_entry text_cmp slots k slot) ≡ insert_entry text_cmp (unlent slots) k slot.now
+unlent-insert [] k slot = refl
+unlent-insert (e ∷ slots) k slot =
+    let first : TextKey × Slot = (e.0, e.1.now) in
+    elim (text_cmp k e.0) as (λ r. unlent (match_ordering r ((k, slot) ∷ e ∷ slots) ((e.0, slot) ∷ slots) (e ∷ insert_entry text_cmp slots k slot))
+    ≡ match_ordering r ((k, slot.now) ∷ first ∷ unlent slots) ((e.0, slot.now) ∷ unlent slots) (first ∷ insert_entry text_cmp (unlent slots) k slot.now)) [
+      | Less ↦ refl
+      | Equal ↦ refl
+      | Greater ↦ ap (λ rest. first ∷ rest) (unlent-insert slots k slot)
+    ]
 
--- and one that isn't is left out
-pub none_more : (after upto : ℕ) (told : List (KeyTexts × Cell)) (slot : TextKey × Slot) (rest : List (TextKey × Slot)) → is_touched after upto (under_texts slot).1 ≡ false
-    → told ++ within after upto rest ≡ told ++ within after upto (slot ∷ rest)
-none_more after upto told slot rest fails = ap (λ b. told ++ cond b (under_texts slot ∷ within after upto rest) (within after upto rest)) (sym fails)
+module _ (old new : List (TextKey × Bor Slot)) (key : RowKey) (slot : Bor Slot) (made : new ≡ insert_entry text_cmp old (record { key = key }) slot) where
+  unlent-put : unlent new ≡ insert_entry text_cmp (unlent old) (record { key = key }) slot.now
+  unlent-put = ap unlent made ∙ unlent-insert old (record { key = key }) slot
+
+  pub lent-cells : held_in (unlent new) ≡ insert (held_in (unlent old)) (cell_key key) (cell_in slot.now)
+  lent-cells = held_in-insert (held_in (unlent old)) (unlent old) (unlent new) key slot.now refl unlent-put
+
+  pub lent-own : IsOwnCell key slot.now → AreOwnCells (unlent old) → AreOwnCells (unlent new)
+  lent-own own all = subst AreOwnCells (sym unlent-put) (own-insert (record { key = key }) slot.now (unlent old) own all)

@@ -1,5 +1,6 @@
 -- Cells as they are kept: a list of slots under their keys.
 use Rattle.std.specs.Prelude.{◌≡◌, List, map, Option, Some, None, ⊤}
+use Rattle.std.specs.Borrow.{Bor}
 use Rattle.std.specs.FinMap.{from_entries}
 use Rattle.std.specs.List.{AllByRecursion}
 use Rattle.lei_records.specs.declared.item.Item.{Item}
@@ -39,3 +40,7 @@ under_texts e = (cell_key e.0.key, cell_in e.1)
 -- The cells that slots under keys are.
 unfoldable pub held_in : List (TextKey × Slot) → Held
 held_in slots = from_entries (map under_texts slots)
+
+-- Slots that are lent under keys, as the slots that they are.
+abbrev pub unlent : List (TextKey × Bor Slot) → List (TextKey × Slot)
+unlent = map (λ slot. (slot.0, slot.1.now))

@@ -1,6 +1,6 @@
 -- Indexes: who was noted under an authority key, and under a start and a type.
 use Rattle.std.specs.Prelude.{◌≡◌, Bool, Option, Some, None, is_some, option_and_then, option_map, true}
-use Rattle.std.specs.BTreeMap.{BTreeMap, get_by, get_by_text}
+use Rattle.std.specs.BTreeMap.{BTreeMap, IsEmpty, get_by, get_by_text}
 use Rattle.std.specs.Borrow.{Bor}
 use Rattle.std.specs.Cmp.Lexicographic.{slice_cmp}
 use Rattle.std.specs.Ordering.{nat_cmp, ordering_then}
@@ -44,6 +44,11 @@ abbrev pub dropped : Option (Option Lei) → Option (Option Lei)
 dropped None = None
 dropped (Some None) = None
 dropped (Some (Some lei)) = Some (Some lei)
+
+-- An authority has a place in the index, and no id stands there.
+abbrev pub IsBare : {Y X : Type 0} → Option (BTreeMap Y X) → Type 0
+IsBare None = ⊥
+IsBare (Some ids) = IsEmpty ids
 
 -- A record holds an authority key under which nobody was noted.
 pub record HoldsNewKey (row : Row) (holders : Holders) : Type 0 where

@@ -2,7 +2,6 @@ pub mod Held
 pub mod Undos
 pub mod Touched
 pub mod Stamps
-pub mod Rising
 pub mod Cells
 pub mod Counts
 pub mod Indexes

@@ -1,12 +1,11 @@
 // The cells of a table, in an ordered map.
 ghost use Rattle.std.specs.Prelude.{◌≡◌, true, Some, None, IfOk, OnOk, OnErr, IfSome, is_some, map, option_map};
-ghost use Rattle.std.specs.FinMap.{empty, get, insert, remove};
-ghost use Rattle.register_table.specs.Cells.{AreOwnCells, AreOwnItems, IsOwnCell, cell_in};
+ghost use Rattle.std.specs.FinMap.{empty, entries, get, insert, remove};
+ghost use Rattle.register_table.specs.Cells.{AreOwnCells, AreOwnItems, IsOwnCell, cell_in, held_in, unlent};
 ghost use Rattle.register_table.specs.Counts.{AreCounts};
 ghost use Rattle.lei_records.specs.Tables.{KeyTexts};
 ghost use Rattle.register_table.specs.Held.{Cell, cell_key, row_in, rows};
 ghost use Rattle.register_table.specs.Touched.{is_touched, shown, touched};
-ghost use Rattle.register_table.specs.Rising.{AreRising, within};
 ghost use Rattle.register_table.specs.Stamps.{HasStamp};
 
 use crate::counts::Counts;
@@ -19,24 +18,15 @@ use std::alloc::Global;
 use std::collections::BTreeMap;
 use std::marker::Model;
 
+// Slots that are lent, under their keys.
+type LentSlots<'a> = BTreeMap<TextKey, &'a Slot>;
+
 /// What is held under a key: the item, or none after a withdrawal, and the number of the entry that touched the key
 /// last.
 #[derive(Drop)]
 pub struct Slot {
     pub entry: u64,
     pub item: Option<Item>,
-}
-
-impl Slot {
-    /// The slot once more. Its item shares its texts.
-    pub fn share(&self) -> Result<Self, NoMemory>
-        ensures { IfOk result (λ slot. slot ≡ self.now) }
-    {
-        Ok(Slot {
-            entry: self.entry,
-            item: share(&self.item)?,
-        })
-    }
 }
 
 /// An item once more, which shares its texts, or none.
@@ -115,32 +105,32 @@ impl CellMap {
         ensures told { IfOk result (λ list. map shown list.items ≡ touched after upto self.now) }
         ensures own { IfOk result (λ list. AreOwnItems list.items) }
     {
-        let stamped = self.stamped(alloc, stamps, after, upto)?;
-        touched_in(alloc, &stamped.map, after, upto)
+        let slots = self.stamped(alloc, stamps, after, upto)?;
+        touched_in(alloc, &slots)
     }
 
-    // The cells whose keys are stamped and whose numbers are greater than `after` and at most `upto`.
+    // The slots whose numbers are greater than `after` and at most `upto`, found by the stamps of such numbers.
     fn stamped(
         &self,
         alloc: Global,
         stamps: &[Stamp],
         after: u64,
         upto: u64,
-    ) -> Result<CellMap, NoMemory>
-        ensures held { IfOk result (λ found. (key : KeyTexts) (cell : Cell) → get found key ≡ Some cell
-            → get self.now key ≡ Some cell) }
-        ensures all { IfOk result (λ found. (key : KeyTexts) (cell : Cell) → get self.now key ≡ Some cell
-            → is_touched after upto cell ≡ true → HasStamp stamps.now cell.entry key → get found key ≡ Some cell) }
+    ) -> Result<LentSlots<'_>, NoMemory>
+        requires { (key : KeyTexts) (cell : Cell) → get self.now key ≡ Some cell
+            → is_touched after upto cell ≡ true → HasStamp stamps.now cell.entry key }
+        ensures found { IfOk result (λ slots. entries (held_in (unlent slots.entries)) ≡ touched after upto self.now) }
+        ensures own { IfOk result (λ slots. AreOwnCells (unlent slots.entries)) }
     {
-        let mut found = CellMap::new(alloc);
+        let mut slots = BTreeMap::new(alloc);
         for stamp in stamps {
             if let Some(slot) = self.get(&stamp.key) {
                 if is_within(slot, after, upto) {
-                    drop(found.insert(&stamp.key, slot.share()?)?);
+                    lend(&mut slots, &stamp.key, slot)?;
                 }
             }
         }
-        Ok(found)
+        Ok(slots)
     }
 
     /// Puts a cell under a key, and hands out what was held there. At a key that has one it takes no memory.
@@ -187,25 +177,29 @@ fn has_item(slot: &Option<Slot>) -> bool
     }
 }
 
-// The slots whose numbers are greater than `after` and at most `upto`.
-fn touched_in(
-    alloc: Global,
-    slots: &BTreeMap<TextKey, Slot>,
-    after: u64,
-    upto: u64,
-) -> Result<Vec<Touched>, NoMemory>
-    requires { AreOwnCells slots.now.entries }
-    ensures told { IfOk result (λ list. map shown list.items ≡ within after upto slots.now.entries) }
-    ensures own { IfOk result (λ list. AreOwnItems list.items) }
-    ensures rise { AreRising slots.now.entries }
+// Puts a slot under its key.
+fn lend<'a>(slots: &mut LentSlots<'a>, key: &RowKey, slot: &'a Slot) -> Result<(), NoMemory>
+    requires own { IsOwnCell key.now slot.now }
+    requires all_own { AreOwnCells (unlent slots.old.entries) }
+    ensures cells { OnOk result (held_in (unlent slots.new.entries)
+        ≡ insert (held_in (unlent slots.old.entries)) (cell_key key.now) (cell_in slot.now)) }
+    ensures own { OnOk result (AreOwnCells (unlent slots.new.entries)) }
 {
-    // Its keys rise.
-    let _slots = slots.len();
-    let mut list = Vec::new(alloc);
+    match slots.insert(TextKey { key: *key }, slot) {
+        Ok(_) => Ok(()),
+        Err(_) => Err(NoMemory),
+    }
+}
+
+// The slots under their keys, in the order of these. Their items share their texts.
+fn touched_in(alloc: Global, slots: &LentSlots<'_>) -> Result<Vec<Touched>, NoMemory>
+    requires { AreOwnCells (unlent slots.now.entries) }
+    ensures told { IfOk result (λ list. map shown list.items ≡ entries (held_in (unlent slots.now.entries))) }
+    ensures own { IfOk result (λ list. AreOwnItems list.items) }
+{
+    let mut list = Vec::with_capacity(alloc, slots.len())?;
     for (key, slot) in slots {
-        if is_within(slot, after, upto) {
-            list.push(touched_of(&key.key, slot)?)?;
-        }
+        list.push(touched_of(&key.key, slot)?)?;
     }
     Ok(list)
 }

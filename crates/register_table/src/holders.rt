@@ -1,11 +1,11 @@
 // Which record has an authority key.
-ghost use Rattle.std.specs.Prelude.{◌≡◌, ◌&&◌, List, ℕ, true, Some, None, if◌then◌else◌, OnOk, OnErr, is_some, option_map, string_bytes};
+ghost use Rattle.std.specs.Prelude.{◌≡◌, ◌&&◌, ◌↔◌, IsTrue, List, ℕ, true, Some, None, if◌then◌else◌, OnOk, OnErr, is_some, option_map, string_bytes};
 ghost use Rattle.std.specs.BTreeMap.{get_by_text};
 ghost use Rattle.std.specs.Bool.{OnTrue};
 ghost use Rattle.std.specs.Str.{bytes_eq};
 ghost use Rattle.lei_records.specs.Cells;
 ghost use Rattle.lei_records.specs.Cells.{lei_in};
-ghost use Rattle.register_table.specs.Indexes.{HoldsNewKey, dropped, freed, holder_in, noted_holder};
+ghost use Rattle.register_table.specs.Indexes.{HoldsNewKey, IsBare, dropped, freed, holder_in, noted_holder};
 
 use authority_rules::{is_live, key_of};
 use lei_code::Lei;
@@ -99,6 +99,7 @@ impl Holders {
         ensures removed { (a i : List ℕ) → noted_holder self.new a i
             ≡ (if bytes_eq authority.now a && bytes_eq id.now i then None else noted_holder self.old a i) }
         ensures last { OnTrue result ((i : List ℕ) → noted_holder self.new authority.now i ≡ None) }
+        ensures bare { IsTrue result ↔ IsBare (get_by_text self.new.map authority.now) }
     {
         match self.map.get_mut(authority) {
             Some(ids) => {

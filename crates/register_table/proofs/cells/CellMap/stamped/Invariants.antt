@@ -1,9 +1,12 @@
-use Rattle.register_table.proofs.StampLemmas.{AreAmong, AreFound}
+use Rattle.register_table.specs.Cells.{AreOwnCells, held_in, unlent}
+use Rattle.register_table.proofs.StampLemmas.{AreAmong, AreFound, AreWithin}
 use Rattle.register_table.proofs.cells.CellMap.stamped.Given as goal
 
--- what was found is held, and all that the stamps so far lead to was found
+-- what was found is held and touched, and all that the stamps so far lead to was found; and each slot is of its own key
 abbrev pub invariant-loop-stamp : goal.invariant-loop-stamp
 invariant-loop-stamp l = record {
-  among : AreAmong l.self l.found;
-  all : AreFound l.after l.upto l.self l.stamps l.stamp-index l.found;
+  among : AreAmong l.self (held_in (unlent l.slots.entries));
+  within : AreWithin l.after l.upto (held_in (unlent l.slots.entries));
+  all : AreFound l.after l.upto l.self l.stamps l.stamp-index (held_in (unlent l.slots.entries));
+  own : AreOwnCells (unlent l.slots.entries);
 }
