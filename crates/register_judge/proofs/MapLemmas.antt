@@ -1,6 +1,6 @@
 -- Maps by LEIs and by texts after an insertion.
 use Rattle.std.specs.Prelude.{◌≡◌, ℕ, List, Bool, true, false, ◌&&◌, cond, Option, Some, None, option_and_then}
-use Rattle.std.specs.BTreeMap.{BTreeMap, Updates, UpdatesBy, get}
+use Rattle.std.specs.BTreeMap.{BTreeMap, IsEmpty, Updates, UpdatesBy, get}
 use Rattle.std.specs.Cmp.{tied_then}
 use Rattle.std.specs.Borrow.{Bor}
 use Rattle.std.specs.Cmp.Lexicographic.{slice_cmp}
@@ -8,7 +8,7 @@ use Rattle.std.specs.Option.{option_copied}
 use Rattle.std.specs.Ordering.{is_eq, nat_cmp, ordering_then}
 use Rattle.std.specs.declared.cmp.Ordering.{Ordering}
 use Rattle.std.specs.Str.{bytes_eq}
-use Rattle.std.proofs.Common.{refl, sym, ap, ◌∙◌}
+use Rattle.std.proofs.Common.{refl, rules, sym, ap, ◌∙◌}
 use Rattle.std.proofs.lemmas.Map.Text.{is_eq-slice_cmp, btree_map_updates_str}
 use Rattle.std.specs.Cmp.Lexicographic.{nat_list_eq_equiv}
 use Rattle.authority_rules.proofs.HolderLemmas.{bytes_same}
@@ -40,19 +40,22 @@ pub id_at-update : (old new : Ids) (id : List ℕ) (lei : Option (List ℕ))
     → (i : List ℕ) → id_at new i ≡ cond (bytes_eq id i) lei (id_at old i)
 id_at-update old new id lei updates i = btree_map_updates_str id old new lei updates i
 
--- a taker after one was noted under an authority whose ids were taken out
-pub taker_at-insert : (old removed new : Takers) (ids more : Ids) (authority id lei : List ℕ)
-    → ((i : List ℕ) → id_at ids i ≡ taker_at old authority i)
-    → ((a : List ℕ) → ids_at removed a ≡ cond (bytes_eq authority a) None (ids_at old a))
-    → ((i : List ℕ) → id_at more i ≡ cond (bytes_eq id i) (Some lei) (id_at ids i))
-    → ((a : List ℕ) → ids_at new a ≡ cond (bytes_eq authority a) (Some more) (ids_at removed a))
+pub id_at-empty : (ids : Ids) → IsEmpty ids → (i : List ℕ) → id_at ids i ≡ None
+id_at-empty ids none i = search (rules, none)
+
+-- a taker after one was noted under an authority, which had ids or none
+pub taker_at-insert : (old new : Takers) (was : Option Ids) (more : Ids) (authority id lei : List ℕ)
+    → ids_at old authority ≡ was
+    → ((i : List ℕ) → id_at more i ≡ cond (bytes_eq id i) (Some lei) (option_and_then (λ ids. id_at ids i) was))
+    → ((a : List ℕ) → ids_at new a ≡ cond (bytes_eq authority a) (Some more) (ids_at old a))
     → (a i : List ℕ) → taker_at new a i ≡ cond (bytes_eq authority a && bytes_eq id i) (Some lei) (taker_at old a i)
-taker_at-insert old removed new ids more authority id lei was without with_id with_ids a i =
-    ap (option_and_then (λ ids. id_at ids i)) (with_ids a ∙ ap (cond (bytes_eq authority a) (Some more)) (without a))
+taker_at-insert old new was more authority id lei is with_id with_ids a i =
+    ap (option_and_then (λ ids. id_at ids i)) (with_ids a)
     ∙ elim (bytes_eq authority a) as (λ b. bytes_eq authority a ≡ b
-    → option_and_then (λ ids. id_at ids i) (cond b (Some more) (cond b None (ids_at old a))) ≡ cond (b && bytes_eq id i) (Some lei) (taker_at old a i)) [
-      | true ↦ λ t. with_id i ∙ ap (cond (bytes_eq id i) (Some lei)) (was i ∙ ap (λ x. taker_at old x i) (bytes_same authority a t))
-      | false ↦ λ t. refl
+    → option_and_then (λ ids. id_at ids i) (cond b (Some more) (ids_at old a)) ≡ cond (b && bytes_eq id i) (Some lei) (taker_at old a i)) [
+      | true ↦ λ t. with_id i ∙ ap (cond (bytes_eq id i) (Some lei))
+          (ap (option_and_then (λ ids. id_at ids i)) (sym is) ∙ ap (λ x. taker_at old x i) (bytes_same authority a t))
+      | false ↦ λ _. refl
     ] refl
 
 -- ---- keys of several texts

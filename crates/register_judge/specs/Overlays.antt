@@ -1,5 +1,5 @@
 -- Cells with accepted items put over them.
-use Rattle.std.specs.Prelude.{List, Bool, false, not, ◌&&◌, Option, Some, None, if◌then◌else◌, is_some, option_and_then, ⊤}
+use Rattle.std.specs.Prelude.{Bool, false, not, ◌&&◌, Option, Some, None, if◌then◌else◌, is_some, option_and_then, ⊤}
 use Rattle.std.specs.BTreeMap.{BTreeMap, get_by}
 use Rattle.std.specs.Borrow.{Bor}
 use Rattle.std.specs.Cmp.Lexicographic.{slice_cmp}
@@ -17,7 +17,7 @@ use Rattle.lei_records.specs.declared.view.RowKey.{RowKey}
 use Rattle.lei_records.specs.declared.view.Seen.{Seen}
 use Rattle.lei_records.specs.Cells.{Cells, lei_in, rec_cell, holds}
 use Rattle.lei_records.specs.Exceptions.{exception_category_in, is_same_category, subject_in}
-use Rattle.lei_records.specs.Relations.{end_in, is_active, kind_in, rel_cell, start_in}
+use Rattle.lei_records.specs.Relations.{end_in, is_active, rel_cell}
 use Rattle.lei_records.specs.Rows.{Row}
 use Rattle.lei_records.specs.Tables.{seen_fact}
 use Rattle.authority_rules.specs.Taken.{unless_own}

@@ -61,7 +61,7 @@ fn judge_each<V: View>(
     let mut overlay = Overlay::new(alloc, view);
     let mut progress = Progress {
         verdicts: Vec::with_capacity(alloc, items.len())?,
-        writes: Vec::new(alloc),
+        writes: Vec::with_capacity(alloc, items.len())?,
         new_records: 0,
         room,
     };

@@ -244,30 +244,37 @@ fn insert<'a>(
     ensures { OnOk result ((a i : List ℕ) → Overlays.taker_at takers.new a i
         ≡ (if bytes_eq authority.now a && bytes_eq id.now i then Some lei else Overlays.taker_at takers.old a i)) }
 {
-    let mut ids = remove_ids(alloc, takers, authority);
-    match ids.insert(id, lei) {
-        Ok(_) => insert_ids(takers, authority, ids),
+    match takers.get_mut(authority) {
+        Some(ids) => insert_id(ids, id, lei),
+        None => insert_first(alloc, takers, authority, id, lei),
+    }
+}
+
+// Notes the first id of an authority.
+fn insert_first<'a>(
+    alloc: Global,
+    takers: &mut Takers<'a>,
+    authority: &'a str,
+    id: &'a str,
+    lei: Lei,
+) -> Result<(), NoMemory>
+    requires { Overlays.ids_at takers.old authority.now ≡ None }
+    ensures { OnOk result ((a i : List ℕ) → Overlays.taker_at takers.new a i
+        ≡ (if bytes_eq authority.now a && bytes_eq id.now i then Some lei else Overlays.taker_at takers.old a i)) }
+{
+    let mut ids = BTreeMap::new(alloc);
+    insert_id(&mut ids, id, lei)?;
+    match takers.insert(authority, ids) {
+        Ok(_) => Ok(()),
         Err(_) => Err(NoMemory),
     }
 }
 
-// Takes out what is noted of an authority.
-fn remove_ids<'a>(alloc: Global, takers: &mut Takers<'a>, authority: &str) -> Ids<'a>
-    ensures ids { (i : List ℕ) → Overlays.id_at result i ≡ Overlays.taker_at takers.old authority.now i }
-    ensures others { (a : List ℕ) → Overlays.ids_at takers.new a
-        ≡ (if bytes_eq authority.now a then None else Overlays.ids_at takers.old a) }
+fn insert_id<'a>(ids: &mut Ids<'a>, id: &'a str, lei: Lei) -> Result<(), NoMemory>
+    ensures { OnOk result ((i : List ℕ) → Overlays.id_at ids.new i
+        ≡ (if bytes_eq id.now i then Some lei else Overlays.id_at ids.old i)) }
 {
-    match takers.remove(authority) {
-        Some(ids) => ids,
-        None => BTreeMap::new(alloc),
-    }
-}
-
-fn insert_ids<'a>(takers: &mut Takers<'a>, authority: &'a str, ids: Ids<'a>) -> Result<(), NoMemory>
-    ensures { OnOk result ((a : List ℕ) → Overlays.ids_at takers.new a
-        ≡ (if bytes_eq authority.now a then Some ids.entry else Overlays.ids_at takers.old a)) }
-{
-    match takers.insert(authority, ids) {
+    match ids.insert(id, lei) {
         Ok(_) => Ok(()),
         Err(_) => Err(NoMemory),
     }

@@ -1,11 +1,17 @@
-use Rattle.std.specs.Prelude.{Some}
+use Rattle.std.proofs.Common.{◌≡◌, Some, rules}
 use Rattle.std.proofs.lemmas.Result.{on_ok_weaker}
-use Rattle.register_judge.proofs.MapLemmas.{taker_at-insert, id_at-update}
+use Rattle.register_judge.specs.Overlays.{ids_at}
+use Rattle.register_judge.proofs.MapLemmas.{ids_at-update, taker_at-insert}
 use Rattle.register_judge.proofs.overlay.insert.Goals as goal
 
-pub returns-in-Ok : goal.returns-in-Ok
-returns-in-Ok c = on_ok_weaker c.insert_ids.result
-    (taker_at-insert c.args.takers.now c.remove_ids-ids.new.takers c.insert_ids.new.takers c.remove_ids-ids.result c.insert.new.self c.args.authority.now c.args.id.now c.args.lei
-    c.remove_ids-ids.ensures.ids c.remove_ids-ids.ensures.others
-    (id_at-update c.remove_ids-ids.result c.insert.new.self c.args.id.now (Some c.args.lei) c.in-Ok.ensures.updates))
-    c.insert_ids.ensures
+pub returns-in-Some : goal.returns-in-Some
+returns-in-Some c =
+    let old = c.args.takers.now in
+    let authority = c.args.authority.now in
+    let was : ids_at old authority ≡ Some c.in-Some.ids.now = search rules in
+    let more = c.insert_id.new.ids in
+    let after = c.get_mut.follows.lender more in
+    on_ok_weaker c.insert_id.result
+    (λ with_id. taker_at-insert old after (Some c.in-Some.ids.now) more authority c.args.id.now c.args.lei was with_id
+    (ids_at-update old after authority (Some more) ((c.get_mut.follows.holds more).3 (search rules))))
+    c.insert_id.ensures
