@@ -42,15 +42,15 @@ pub record OpensAndServes {L : Type 0} (may : Option KeptTables → Type 0) (tel
   pub keeps : Keeps after.kept last
 
 -- How serving ends. Status 0: all lines were served, and none is to come. Status 9: the lines that came were served. With
--- the others the store wasn't opened, and the keeper has what it had: 5, a call of it failed; 6, memory was wanted; 7, what
--- it has isn't what a history leaves.
+-- the others the store wasn't opened, and the keeper has what it had: 5, a call of it failed, and with 6 and 7 none did; 6,
+-- memory was wanted; 7, what it has isn't what a history leaves.
 abbrev pub EndsServing : {L : Type 0} → (Option KeptTables → Type 0) → LineTells L → Outside L → Outside L → ℕ → Type 0
 EndsServing may tells before after status =
     ((status ≡ 0) × OpensAndServes may tells before after × IsNoneToCome after.to_come)
     ⊎ ((status ≡ 9) × OpensAndServes may tells before after)
     ⊎ ((status ≡ 5) × Stays before.kept after.kept × Rose before.faults after.faults)
-    ⊎ ((status ≡ 6) × Stays before.kept after.kept)
-    ⊎ ((status ≡ 7) × Stays before.kept after.kept
+    ⊎ ((status ≡ 6) × Stays before.kept after.kept × (after.faults ≡ before.faults))
+    ⊎ ((status ≡ 7) × Stays before.kept after.kept × (after.faults ≡ before.faults)
     × ((damage : Damage) × IfSome after.kept (λ tables. IsDamage standard tables damage)))
 
 -- With this status no line was served: the words mean nothing, or the store wasn't opened.

@@ -45,7 +45,7 @@ returns-in-Err-NoMemory-clause-serves g c what means old is =
       old,
       is,
       sole_has IsIn c.args.desks.items asked.0 old asked.1 is asked.2,
-      inr (inr (inr (inl (refl, stays_same (g.K.Keeper.tables c.args.keeper))))),
+      inr (inr (inr (inl (refl, stays_same (g.K.Keeper.tables c.args.keeper), refl)))),
       λ nine. absurd (omega (arith, nine)),
       λ _. refl,
     )
