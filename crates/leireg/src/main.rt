@@ -2,25 +2,27 @@
 #![tactic(auto)]
 
 mod help;
+mod one_of;
 mod progress;
 mod serving;
+mod store;
 mod watched;
 
 use help::{advice, cause};
-use keeper_sqlite::SqliteKeeper;
-use lei_outside::{Keeper, Source, SureKeeper};
-use leireg_devices::{FileSource, StdSink, StdSource, SystemClock};
+use leireg_devices::{FileSource, StdSink, SystemClock};
+use leireg_run::run;
 use leireg_run::status::{NO_MEMORY, OK, USAGE, status_text};
-use leireg_run::{no_file, run};
+use one_of::OneOf;
 use program_words::{Command, WantedRun, WordsFault, help_of, wanted};
 use progress::Counted;
 use serving::serve_wanted;
 use std::fs::File;
+use std::io::Stdin;
 use std::process::ExitCode;
 use std::sync::Wait;
 use std::thread::Threads;
 use std::{env, io};
-use watched::Watched;
+use store::{close, keeper_at};
 
 fn main(rt: HostRuntime) -> io::Result<ExitCode> {
     let status = match words(&rt) {
@@ -75,80 +77,54 @@ fn run_wanted<R: Threads + Wait + Sync>(
 ) -> u8 {
     match wanted.command {
         Command::Serve => serve_wanted(rt, host, words, wanted),
-        Command::Apply(_, _) => run_over_files(rt, host, words, wanted),
-        _ => match wanted.store {
-            Some(path) => run_over_store(rt, host, words, path),
-            None => run_alone(rt, host, words),
-        },
+        _ => run_command(rt, host, words, wanted),
     }
 }
 
-fn run_over_files<R: Threads + Sync>(
+// Runs a command between its inputs and the standard output, by the clock of the machine.
+fn run_command<R: Threads + Sync>(
     rt: &R,
     host: &HostRuntime,
     words: &[String],
     wanted: &WantedRun<'_>,
 ) -> u8 {
-    let mut copy = file_at(host, wanted.first);
-    let mut delta = file_at(host, wanted.second);
-    let keeper = SureKeeper::new(host.alloc());
-    let (status, _) = run_between(rt, host, words, &mut copy, &mut delta, keeper);
-    status
-}
-
-// The file at a path. One that can't be opened fails at each read.
-fn file_at(host: &HostRuntime, path: Option<&str>) -> FileSource<File> {
-    match path {
-        Some(path) => FileSource::new(File::open(host, path).ok()),
-        None => FileSource::new(None),
-    }
-}
-
-fn run_over_store<R: Threads + Sync>(
-    rt: &R,
-    host: &HostRuntime,
-    words: &[String],
-    path: &str,
-) -> u8 {
-    let keeper = Watched::new(host, SqliteKeeper::on_file(host, path));
-    let mut input = StdSource::new(host.stdin());
-    let mut second = no_file(host.alloc());
-    let (status, watched) = run_between(rt, host, words, &mut input, &mut second, keeper);
-    watched.keeper.close();
-    status
-}
-
-fn run_alone<R: Threads + Sync>(rt: &R, host: &HostRuntime, words: &[String]) -> u8 {
-    let keeper = SureKeeper::new(host.alloc());
-    let mut input = StdSource::new(host.stdin());
-    let mut second = no_file(host.alloc());
-    let (status, _) = run_between(rt, host, words, &mut input, &mut second, keeper);
-    status
-}
-
-// Runs a command between two inputs and the standard output, by the clock of the machine.
-fn run_between<R: Threads + Sync, S: Source, T: Source, K: Keeper>(
-    rt: &R,
-    host: &HostRuntime,
-    words: &[String],
-    input: &mut S,
-    second: &mut T,
-    keeper: K,
-) -> (u8, K) {
+    let mut input = FileSource::new(first_input(host, wanted));
+    let mut second = FileSource::new(file_at(host, wanted.second));
     let mut out = StdSink::new(host.stdout());
     let mut clock = SystemClock::new(host);
     let mut progress = Counted::new(host);
-    run(
+    let (status, keeper) = run(
         rt,
         host.alloc(),
         words,
-        input,
-        second,
+        &mut input,
+        &mut second,
         &mut out,
-        keeper,
+        keeper_at(host, wanted.store),
         &mut clock,
         &mut progress,
-    )
+    );
+    close(keeper);
+    status
+}
+
+// The input of a command: its first file, or the standard input.
+fn first_input(host: &HostRuntime, wanted: &WantedRun<'_>) -> Option<OneOf<Stdin, File>> {
+    match wanted.command {
+        Command::Apply(_, _) => file_at(host, wanted.first),
+        _ => Some(OneOf::First(host.stdin())),
+    }
+}
+
+// The file at a path, or none where it can't be opened, which fails at each read.
+fn file_at(host: &HostRuntime, path: Option<&str>) -> Option<OneOf<Stdin, File>> {
+    match path {
+        Some(path) => match File::open(host, path) {
+            Ok(file) => Some(OneOf::Second(file)),
+            Err(_) => None,
+        },
+        None => None,
+    }
 }
 
 // The words after the program's name. Otherwise the status to end with: a word that is no text is no command's.

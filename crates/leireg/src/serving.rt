@@ -1,7 +1,6 @@
 //! The register served over HTTP, by connections of the machine.
-use crate::watched::Watched;
-use keeper_sqlite::SqliteKeeper;
-use lei_outside::{Keeper, OpenGate, SureKeeper};
+use crate::store::{close, keeper_at};
+use lei_outside::OpenGate;
 use leireg_devices::SystemClock;
 use leireg_run::status::NO_MEMORY;
 use leireg_serve::{Desk, serve};
@@ -18,37 +17,18 @@ pub fn serve_wanted<R: Threads + Wait + Sync>(
     words: &[String],
     wanted: &WantedRun<'_>,
 ) -> u8 {
-    match wanted.store {
-        Some(path) => {
-            let keeper = Watched::new(host, SqliteKeeper::on_file(host, path));
-            let (status, watched) = serve_over(rt, host, words, wanted, keeper);
-            watched.keeper.close();
-            status
-        }
-        None => {
-            let keeper = SureKeeper::new(host.alloc());
-            let (status, _) = serve_over(rt, host, words, wanted, keeper);
-            status
-        }
-    }
-}
-
-fn serve_over<R: Threads + Wait + Sync, K: Keeper>(
-    rt: &R,
-    host: &HostRuntime,
-    words: &[String],
-    wanted: &WantedRun<'_>,
-    keeper: K,
-) -> (u8, K) {
+    let keeper = keeper_at(host, wanted.store);
     let listener = listen(host, wanted.port);
     let deadlines = Deadlines::standard();
     let door = TcpDoor::new(host, listener.as_ref(), deadlines, wanted.connections);
     let clock = SystemClock::new(host);
     let Ok(desks) = vec![in host.alloc(); Desk { door, clock }] else {
-        return (NO_MEMORY, keeper);
+        close(keeper);
+        return NO_MEMORY;
     };
     let (status, keeper, _) = serve(rt, host.alloc(), words, keeper, desks, &OpenGate);
-    (status, keeper)
+    close(keeper);
+    status
 }
 
 // Listens on a port of this machine alone, and tells which on the standard error as soon as it does.
