@@ -1,7 +1,7 @@
 #!/usr/bin/env python3
-"""Measures the gate from nothing: runs `rt ci` on a clean clone of this commit, and says how long it took by crate, in
-seconds of one processor: to prove the crate, to prove its tests, and to try its must-fail edits. It ends with the gate's
-status. Let nothing else run meanwhile.
+"""Measures the gate from nothing: runs `rt ci --anew` on a clean clone of this commit, and says how long it took by crate,
+in seconds of one processor: to prove the crate, to prove its tests, and to try its must-fail edits. It ends with the
+gate's status. Let nothing else run meanwhile.
 
 usage: bench/gate.py [LOG]    LOG gets what the gate prints, each line behind the seconds since its begin
 """
@@ -73,7 +73,7 @@ def main():
         watcher = threading.Thread(target=watch, args=(folder, ended, seconds))
         watcher.start()
         begin = time.monotonic()
-        gate = subprocess.Popen([f"{clone}/.ci/run"], stdout=subprocess.PIPE, stderr=subprocess.STDOUT, text=True)
+        gate = subprocess.Popen(["rt", "ci", "--anew"], cwd=clone, stdout=subprocess.PIPE, stderr=subprocess.STDOUT, text=True)
         log = open(sys.argv[1], "w") if sys.argv[1:] else None
         last = ""
         for line in gate.stdout:
