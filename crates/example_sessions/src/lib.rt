@@ -10,6 +10,7 @@ mod filling;
 mod numbers;
 mod run;
 mod session;
+mod telling;
 mod texts;
 
 pub use came::Came;
@@ -17,4 +18,5 @@ pub use document::{Document, LineFault};
 pub use fault::Fault;
 pub use run::{Change, Run};
 pub use session::Session;
+pub use telling::is_wanted;
 pub use texts::Named;

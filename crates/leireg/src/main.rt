@@ -6,7 +6,6 @@ mod one_of;
 mod progress;
 mod serving;
 mod store;
-mod watched;
 
 use help::{advice, cause};
 use leireg_devices::{FileSource, StdSink, SystemClock};

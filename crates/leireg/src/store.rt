@@ -1,8 +1,8 @@
 //! The keeper of a run: in memory, or over a file.
 use crate::one_of::OneOf;
-use crate::watched::Watched;
 use keeper_sqlite::SqliteKeeper;
 use lei_outside::SureKeeper;
+use leireg_devices::Watched;
 use sqlite::{File, FileStore};
 use std::mem::forget;
 

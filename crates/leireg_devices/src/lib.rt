@@ -1,4 +1,5 @@
-//! The standard streams, files and the clock of the machine, as the devices of a run.
+//! The standard streams, files and the clock of the machine, as the devices of a run, and a keeper that tells how far its
+//! opening is.
 #![tactic(auto)]
 
 mod clock;
@@ -6,7 +7,9 @@ mod clock;
 mod fakes;
 mod files;
 mod streams;
+mod watched;
 
 pub use clock::SystemClock;
 pub use files::FileSource;
 pub use streams::{StdSink, StdSource};
+pub use watched::Watched;

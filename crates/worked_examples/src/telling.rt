@@ -1,10 +1,10 @@
 //! What is told of sessions.
-ghost use Rattle.std.specs.Prelude.{◌≡◌, ◌≤◌, ◌↔◌, IfOk, IsTrue};
+ghost use Rattle.std.specs.Prelude.{◌≤◌};
 
 use crate::file::remove;
 use crate::stores::{Store, path_of};
-use crate::trial::{alike, came_in_memory, came_over_file};
-use example_sessions::{Came, Run, Session};
+use crate::trial::{came_in_memory, came_over_file};
+use example_sessions::{Came, Run, Session, is_wanted};
 use lei_outside::KeepFault;
 use program_words::help_of;
 use std::alloc::{AllocError, Global};
@@ -124,56 +124,4 @@ fn told(came: Result<Came, KeepFault>) -> io::Result<Came> {
         Err(KeepFault::NoMemory) => Err(io::ErrorKind::OutOfMemory.into()),
         Err(KeepFault::Failed) => Err(io::ErrorKind::InvalidData.into()),
     }
-}
-
-// Whether a run came out as wanted. Where it didn't, that is told.
-fn is_wanted<R: Print + AllocGlobal>(
-    rt: &R,
-    alloc: Global,
-    file: &str,
-    title: &str,
-    size: usize,
-    run: &Run,
-    came: &Came,
-) -> io::Result<bool>
-    ensures { IfOk result (λ wanted. IsTrue wanted
-        ↔ ((came.now.written ≡ run.now.expected) × (came.now.status ≡ run.now.status))) }
-{
-    if came.is(run) {
-        return Ok(true);
-    }
-    println!(rt; "{file}: {title}: FAILED by at most {size} bytes")?;
-    tell_difference(rt, alloc, run, came)?;
-    Ok(false)
-}
-
-fn tell_difference<R: Print + AllocGlobal>(
-    rt: &R,
-    alloc: Global,
-    run: &Run,
-    came: &Came,
-) -> io::Result<()> {
-    let (status, wanted) = (came.status, run.status());
-    if status != wanted {
-        println!(rt; "  status {status} came, and {wanted} was expected")?;
-    }
-    let (written, expected) = (came.written.as_slice(), run.expected());
-    if written != expected {
-        let same = alike(written, expected);
-        let before = &written[..same.min(written.len())];
-        let ended = before.iter().filter(|byte| **byte == b'\n').count();
-        println!(rt; "  behind {ended} lines that are alike:")?;
-        let came = around(alloc, written, same)?;
-        println!(rt; "  came:     {came}")?;
-        let wanted = around(alloc, expected, same)?;
-        println!(rt; "  expected: {wanted}")?;
-    }
-    Ok(())
-}
-
-// A text from some bytes before this one on to some behind it.
-fn around(alloc: Global, bytes: &[u8], at: usize) -> io::Result<String> {
-    let begin = at.saturating_sub(60).min(bytes.len());
-    let end = at.saturating_add(60).min(bytes.len());
-    Ok(String::from_utf8_lossy(alloc, &bytes[begin..end])?)
 }

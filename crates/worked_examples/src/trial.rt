@@ -99,13 +99,3 @@ pub fn came_over_file<R: Threads + Sync>(
     let status = file::status_over(rt, host, path, wanted, &mut devices)?;
     Ok(devices.came(alloc, status)?)
 }
-
-/// How many bytes two texts begin with alike.
-pub fn alike(one: &[u8], other: &[u8]) -> usize {
-    for count in 0..one.len() {
-        if one.get(count) != other.get(count) {
-            return count;
-        }
-    }
-    one.len()
-}

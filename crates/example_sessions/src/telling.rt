@@ -1,0 +1,70 @@
+//! What is told of a run that came out otherwise than it was wanted.
+ghost use Rattle.std.specs.Prelude.{◌≡◌, ◌↔◌, IfOk, IsTrue};
+
+use crate::came::Came;
+use crate::run::Run;
+use std::alloc::Global;
+use std::io;
+
+/// Whether a run came out as wanted, of a session with this title in this file, by reads and writes of at most so many
+/// bytes. Where it didn't, that is told.
+pub fn is_wanted<R: Print + AllocGlobal>(
+    rt: &R,
+    alloc: Global,
+    file: &str,
+    title: &str,
+    size: usize,
+    run: &Run,
+    came: &Came,
+) -> io::Result<bool>
+    ensures { IfOk result (λ wanted. IsTrue wanted
+        ↔ ((came.now.written ≡ run.now.expected) × (came.now.status ≡ run.now.status))) }
+{
+    if came.is(run) {
+        return Ok(true);
+    }
+    println!(rt; "{file}: {title}: FAILED by at most {size} bytes")?;
+    tell_difference(rt, alloc, run, came)?;
+    Ok(false)
+}
+
+fn tell_difference<R: Print + AllocGlobal>(
+    rt: &R,
+    alloc: Global,
+    run: &Run,
+    came: &Came,
+) -> io::Result<()> {
+    let (status, wanted) = (came.status, run.status());
+    if status != wanted {
+        println!(rt; "  status {status} came, and {wanted} was expected")?;
+    }
+    let (written, expected) = (came.written.as_slice(), run.expected());
+    if written != expected {
+        let same = alike(written, expected);
+        let before = &written[..same.min(written.len())];
+        let ended = before.iter().filter(|byte| **byte == b'\n').count();
+        println!(rt; "  behind {ended} lines that are alike:")?;
+        let came = around(alloc, written, same)?;
+        println!(rt; "  came:     {came}")?;
+        let wanted = around(alloc, expected, same)?;
+        println!(rt; "  expected: {wanted}")?;
+    }
+    Ok(())
+}
+
+// A text from some bytes before this one on to some behind it.
+fn around(alloc: Global, bytes: &[u8], at: usize) -> io::Result<String> {
+    let begin = at.saturating_sub(60).min(bytes.len());
+    let end = at.saturating_add(60).min(bytes.len());
+    Ok(String::from_utf8_lossy(alloc, &bytes[begin..end])?)
+}
+
+// How many bytes two texts begin with alike.
+fn alike(one: &[u8], other: &[u8]) -> usize {
+    for count in 0..one.len() {
+        if one.get(count) != other.get(count) {
+            return count;
+        }
+    }
+    one.len()
+}
