@@ -3,7 +3,8 @@
 in seconds of one processor: to prove the crate, to prove its tests, and to try its must-fail edits. It ends with the
 gate's status. Let nothing else run meanwhile.
 
-usage: bench/gate.py [LOG]    LOG gets what the gate prints, each line behind the seconds since its begin
+usage: bench/gate.py [LOG]    LOG gets what the gate prints, each line behind the seconds since its begin, and then the
+                              seconds of each edit and of what those of a crate stand on, the dearest first
 """
 import collections
 import os
@@ -21,14 +22,17 @@ STEPS = ("proofs", "tests", "edits")
 EDITED = f"{tempfile.gettempdir()}/rt-edit-"
 
 
-def step_of(words):
-    """Which crate a process of the prover works on, and whether at its proofs, its tests or its edits."""
+def step_of(words, folder):
+    """Which crate a process of the prover works on in this folder, whether at its proofs, its tests or its edits, and of these
+    the number of the edit among those of the crate, or `seed` for what they stand on."""
     if "--crate-name" not in words:
         return None
     crate = words[words.index("--crate-name") + 1]
-    if words[1] == "check" and "--incremental" in words:
-        return crate, "edits"
-    return crate, "tests" if "--test" in words else "proofs"
+    if "--incremental" in words:
+        return crate, "edits", pathlib.Path(words[words.index("--incremental") + 1]).name
+    if folder.startswith(EDITED):
+        return crate, "edits", "0"
+    return crate, "tests" if "--test" in words else "proofs", ""
 
 
 def processes(clone):
@@ -39,8 +43,8 @@ def processes(clone):
         try:
             words = pathlib.Path(entry.path, "cmdline").read_bytes().decode(errors="replace").split("\0")
             numbers = pathlib.Path(entry.path, "stat").read_text().rpartition(")")[2].split()
-            step = step_of(words)
             folder = os.readlink(f"{entry.path}/cwd")
+            step = step_of(words, folder)
             is_ours = step and (folder.startswith((clone, EDITED)) or any(clone in word for word in words))
         except OSError:
             continue
@@ -57,12 +61,22 @@ def watch(clone, ended, seconds):
 
 def table(seconds):
     sums = collections.defaultdict(lambda: dict.fromkeys(STEPS, 0.0))
-    for (crate, step), took in seconds.values():
+    for (crate, step, _), took in seconds.values():
         sums[crate][step] += took
     lines = [f"{'crate':18}" + "".join(f"{step:>8}" for step in STEPS) + f"{'sum':>8}"]
     for crate, row in [*sums.items(), ("all", {step: sum(row[step] for row in sums.values()) for step in STEPS})]:
         lines.append(f"{crate:18}" + "".join(f"{row[step]:8.0f}" for step in STEPS) + f"{sum(row.values()):8.0f}")
     return "\n".join(lines)
+
+
+def edits(clone, seconds):
+    """The lines of the edits, the dearest first. One that is tried twice has the sum."""
+    sums = collections.Counter()
+    for (crate, step, number), took in seconds.values():
+        if step == "edits":
+            names = sorted(path.name for path in pathlib.Path(clone, "crates", crate, "must-fail").glob("*.edit"))
+            sums[f"{crate}/{names[int(number)] if number.isdigit() else number}"] += took
+    return "\n".join(f"{took:7.0f} {name}" for name, took in sums.most_common())
 
 
 def main():
@@ -84,6 +98,8 @@ def main():
         took = time.monotonic() - begin
         ended.set()
         watcher.join()
+        if log:
+            print(edits(clone, seconds), file=log, flush=True)
     print(table(seconds))
     commit = subprocess.run(["git", "-C", str(ROOT), "rev-parse", "--short", "HEAD"], capture_output=True, text=True).stdout.strip()
     print(f"{commit}: {last}, in {took / 60:.1f} minutes on {os.cpu_count()} processors")
