@@ -1,7 +1,7 @@
 //! The keeper of a run: in memory, or over a file.
-use crate::one_of::OneOf;
 use keeper_sqlite::SqliteKeeper;
 use lei_outside::SureKeeper;
+use leireg_commands::OneOf;
 use leireg_devices::Watched;
 use sqlite::{File, FileStore};
 use std::mem::forget;

@@ -1,5 +1,5 @@
 //! One of two keepers, and one of two readers, so that the commands of the program are compiled once for them.
-ghost use Rattle.leireg.specs.OneOf.{either, left_of_either};
+ghost use Rattle.leireg_commands.specs.OneOf.{either, left_of_either};
 
 use lei_outside::{Batch, KeepFault, Keeper, KeptCell, KeptEntry, List};
 use std::io::{self, Read};

@@ -1,8 +1,7 @@
-//! What is told to a person where a run ends with another status than `OK`.
+//! What is told to a person where a command ends with another status than `OK`.
 use leireg_run::status::{
     INPUT_TOO_LONG, KEEPER_FAULT, NO_MEMORY, READ_FAULT, REFUSED, STORE_DAMAGED, USAGE, WRITE_FAULT,
 };
-use leireg_serve::DOOR_FAULT;
 
 /// What happened, in one line.
 pub fn cause(status: u8) -> &'static str {
@@ -17,7 +16,6 @@ pub fn cause(status: u8) -> &'static str {
         NO_MEMORY => "there was too little memory; what was written may end inside a reply",
         STORE_DAMAGED => "the store is not what its entries come to",
         INPUT_TOO_LONG => "an input is too long",
-        DOOR_FAULT => "no connection could be taken",
         _ => "the program ended early",
     }
 }
@@ -35,8 +33,6 @@ pub fn advice(status: u8) -> &'static str {
             "put back a copy of it from before; with lines the standard output tells the first difference",
         INPUT_TOO_LONG =>
             "part it: lines may have 4294967295 bytes in all, and a file of apply 1073741823",
-        DOOR_FAULT =>
-            "see that the port is free, or take port 0, for which the machine chooses one",
         _ => "run it again",
     }
 }

@@ -1,0 +1,20 @@
+//! The words that the program is called with.
+ghost use Rattle.std.specs.Prelude.{◌≡◌, ◌⊎◌, IfErr};
+
+use leireg_run::status::{NO_MEMORY, USAGE};
+use std::{env, io};
+
+/// The words after the program's name. Otherwise the status to end with: a word that is no text is no command's.
+pub fn words(rt: &HostRuntime) -> Result<Vec<String>, u8>
+    ensures { IfErr result (λ status. (status ≡ 1) ⊎ (status ≡ 6)) }
+{
+    let words = match env::args(rt) {
+        Ok(args) => args.skip(1).collect(rt.alloc()),
+        Err(fault) if fault.kind() == io::ErrorKind::InvalidData => return Err(USAGE),
+        Err(_) => return Err(NO_MEMORY),
+    };
+    match words {
+        Ok(words) => Ok(words),
+        Err(_) => Err(NO_MEMORY),
+    }
+}

@@ -1,0 +1,14 @@
+//! The commands over the devices of the machine, and what a person is told of how they ended.
+#![tactic(auto)]
+
+mod arguments;
+mod help;
+mod one_of;
+mod progress;
+mod running;
+mod telling;
+
+pub use arguments::words;
+pub use one_of::OneOf;
+pub use running::run_command;
+pub use telling::{tell, tell_as};
