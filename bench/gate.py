@@ -81,6 +81,7 @@ def edits(clone, seconds):
 
 def main():
     seconds, ended = {}, threading.Event()
+    commit = subprocess.run(["git", "-C", str(ROOT), "rev-parse", "--short", "HEAD"], capture_output=True, text=True).stdout.strip()
     with tempfile.TemporaryDirectory(prefix="leireg-gate-") as folder:
         clone = f"{folder}/leireg"
         subprocess.run(["git", "clone", "-q", str(ROOT), clone], check=True)
@@ -101,7 +102,6 @@ def main():
         if log:
             print(edits(clone, seconds), file=log, flush=True)
     print(table(seconds))
-    commit = subprocess.run(["git", "-C", str(ROOT), "rev-parse", "--short", "HEAD"], capture_output=True, text=True).stdout.strip()
     print(f"{commit}: {last}, in {took / 60:.1f} minutes on {os.cpu_count()} processors")
     return status
 
