@@ -15,7 +15,7 @@ use Rattle.lei_records.specs.Rows.{text_at}
 use Rattle.std.proofs.lemmas.Bool.{false≢true}
 use Rattle.lei_code.specs.Texts.{Text}
 use Rattle.copy_csv.specs.declared.rows.Change.{Change}
-use Rattle.copy_csv.specs.declared.sheets.Sheet.{Sheet}
+use Rattle.register_words.specs.declared.sheets.Sheet.{Sheet}
 use Rattle.copy_csv.specs.Csv.{change_line, csv_copy, csv_delta, doubled, line, quoted, row_line, separator}
 use Rattle.copy_csv.specs.CsvReading.{line_from, separator_of}
 use Rattle.copy_csv.specs.Rows.{AreChanges, AreRows, IsChangeOf, IsRowOf, changed_key}

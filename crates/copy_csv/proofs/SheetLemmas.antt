@@ -9,7 +9,7 @@ use Rattle.lei_records.specs.declared.fields.Content.{Content}
 use Rattle.lei_records.specs.declared.fields.Need.{Need}
 use Rattle.lei_records.specs.Fields.{Field, exception_fields, fields, fields_of, names_of, relation_fields, row_len}
 use Rattle.lei_records.specs.Rows.{text_at}
-use Rattle.copy_csv.specs.declared.sheets.Sheet.{Sheet}
+use Rattle.register_words.specs.declared.sheets.Sheet.{Sheet}
 use Rattle.copy_csv.specs.Sheets.{kind_of, names, width}
 
 pub text-at : (texts : List Text) (place : ℕ) → 1 ≤ place → text_at texts place ≡ get_or texts (place - 1) (codes "")

@@ -6,7 +6,7 @@ use Rattle.lei_code.specs.Texts.{Text}
 use Rattle.lei_records.specs.declared.fields.Kind.{Kind}
 use Rattle.lei_records.specs.Fields.{row_fields}
 use Rattle.lei_records.specs.Tables.{KeyTexts}
-use Rattle.copy_csv.specs.declared.sheets.Sheet.{Sheet}
+use Rattle.register_words.specs.declared.sheets.Sheet.{Sheet}
 
 -- The kind of items whose rows stand in a sheet: records in `lei`, relationships in `rr`, exceptions in `repex`.
 abbrev pub kind_of : Sheet → Kind

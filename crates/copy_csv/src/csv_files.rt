@@ -11,8 +11,8 @@ use crate::csv_rows::{read_changes, read_rows};
 use crate::csv_text::{put_field, put_names, put_row};
 use crate::faults::FormFault;
 use crate::rows::{Change, Row, RowTexts, TextChange};
-use crate::sheets::Sheet;
 use lei_outside::{Bytes, List, NoMemory};
+use register_words::Sheet;
 use std::alloc::Global;
 use std::str;
 

@@ -12,8 +12,9 @@ ghost use Rattle.copy_csv.specs.Taking.{AreRead, Reads, drop_bytes, is_behind, p
 use crate::csv_read::Reader;
 use crate::faults::FormFault;
 use crate::rows::{Change, Row};
-use crate::sheets::Sheet;
+use crate::sheets::width;
 use lei_outside::{List, NoMemory};
+use register_words::Sheet;
 use std::alloc::Global;
 
 /// The row of the next line.
@@ -26,7 +27,7 @@ pub fn read_row(
     ensures read { IfOk result (λ row. Reads row_line (IsRowOf sheet) reader.old row reader.new) }
     ensures utf8 { IfOk result (λ row. IsSome row → IsUtf8 reader.new) }
 {
-    match reader.line(alloc, sheet.width())? {
+    match reader.line(alloc, width(sheet))? {
         Some(texts) => Ok(Some(Row::of(sheet, texts))),
         None => Ok(None),
     }

@@ -6,9 +6,10 @@ ghost use Rattle.copy_csv.specs.Taking.{HasNoQuote, closing_of};
 
 use crate::csv_read::{Reader, separator};
 use crate::rows::Row;
-use crate::sheets::Sheet;
+use crate::sheets::{name_at, width};
 use lei_outside::{Bytes, NoMemory};
 use memchr::memchr;
+use register_words::Sheet;
 use std::alloc::Global;
 
 // Puts a text whose quotes are doubled behind the others.
@@ -71,14 +72,14 @@ pub fn line_text(alloc: Global, row: &Row) -> Result<Bytes, NoMemory>
 
 // About how many bytes its line takes: its texts, and for each two quotes and what follows.
 fn line_room(row: &Row) -> usize {
-    row.joined().len().saturating_add(3 * row.sheet().width())
+    row.joined().len().saturating_add(3 * width(row.sheet()))
 }
 
 /// Puts the line of a row behind the others.
 pub fn put_row(out: &mut Vec<u8>, row: &Row) -> Result<(), NoMemory>
     ensures { OnOk result (out.new.items ≡ out.old.items ++ row_line row.now) }
 {
-    let count = row.sheet().width();
+    let count = width(row.sheet());
     // Most rows have no quote: one search tells.
     let quotes = has_quote(row.joined());
     out.push(b'"')?;
@@ -93,10 +94,10 @@ pub fn put_row(out: &mut Vec<u8>, row: &Row) -> Result<(), NoMemory>
 pub fn put_names(out: &mut Vec<u8>, sheet: Sheet) -> Result<(), NoMemory>
     ensures { OnOk result (out.new.items ≡ out.old.items ++ line (names sheet)) }
 {
-    let count = sheet.width();
+    let count = width(sheet);
     for index in 0..count {
         let byte = separator(count - index - 1);
-        put_field(out, sheet.name_at(index + 1).as_bytes(), byte)?;
+        put_field(out, name_at(sheet, index + 1).as_bytes(), byte)?;
     }
     Ok(())
 }

@@ -9,7 +9,7 @@ mod ends;
 mod faults;
 mod heads;
 mod rows;
-mod sheets;
+pub mod sheets;
 mod texts;
 
 pub use csv_files::{
@@ -21,6 +21,6 @@ pub use csv_text::{line_text, put_row};
 pub use ends::Ends;
 pub use faults::FormFault;
 pub use heads::{CopyRead, DeltaRead, Head};
+pub use register_words::{Form, Sheet};
 pub use rows::{Change, Row, RowTexts, TextChange};
-pub use sheets::{Form, Sheet};
 pub use texts::Texts;

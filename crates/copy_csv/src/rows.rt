@@ -4,9 +4,10 @@ ghost use Rattle.lei_records.specs.Rows.{text_at};
 ghost use Rattle.std.specs.List.{concat};
 ghost use Rattle.copy_csv.specs.Sheets as spec;
 
-use crate::sheets::Sheet;
+use crate::sheets::{key_len, width};
 use crate::texts::Texts;
 use lei_outside::Bytes;
+use register_words::Sheet;
 use std::cmp::Ordering;
 use std::marker::Model;
 
@@ -35,7 +36,7 @@ impl Row {
         ensures value { result ≡ spec.row_of sheet texts }
         ensures row { spec.IsRow result }
     {
-        let full = texts.len() == sheet.width();
+        let full = texts.len() == width(sheet);
         prove!(full);
         Row { sheet, texts }
     }
@@ -87,7 +88,7 @@ impl Row {
     {
         let alike = self.sheet() == other.sheet();
         prove!(alike);
-        for index in 0..self.sheet().key_len() {
+        for index in 0..key_len(self.sheet()) {
             let (text, other_text) = (self.text_bytes(index + 1), other.text_bytes(index + 1));
             match text.cmp(&other_text) {
                 Ordering::Less => return Ordering::Less,
@@ -110,7 +111,7 @@ impl Row {
     pub fn is_key_alone(&self) -> bool
         ensures { result ≡ spec.is_key_alone self.now }
     {
-        for index in self.sheet().key_len()..self.sheet().width() {
+        for index in key_len(self.sheet())..width(self.sheet()) {
             if !self.text_bytes(index + 1).is_empty() {
                 return false;
             }

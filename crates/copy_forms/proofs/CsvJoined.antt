@@ -7,7 +7,7 @@ use Rattle.std.proofs.lemmas.List.Folds.{flat_map-map}
 use Rattle.copy_csv.specs.declared.rows.Change.{Change}
 use Rattle.copy_csv.specs.declared.rows.RowTexts.{RowTexts}
 use Rattle.copy_csv.specs.declared.rows.TextChange.{TextChange}
-use Rattle.copy_csv.specs.declared.sheets.Sheet.{Sheet}
+use Rattle.register_words.specs.declared.sheets.Sheet.{Sheet}
 use Rattle.copy_csv.specs.Csv.{change_line, csv_copy, csv_delta, line, rendered_in, rendered_line, row_line, text_change_line}
 use Rattle.copy_csv.specs.Rows.{IsChangeOf}
 use Rattle.copy_csv.specs.Sheets.{SheetRow, names}

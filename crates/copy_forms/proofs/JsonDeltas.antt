@@ -8,7 +8,7 @@ use Rattle.json.specs.Print.{escape_byte, quoted}
 use Rattle.serde_json.specs.Written.{comma_if, compact_text, items_text}
 use Rattle.lei_code.specs.Texts.{Text}
 use Rattle.lei_shapes.specs.Clock.{moment_text}
-use Rattle.copy_csv.specs.declared.sheets.Sheet.{Sheet}
+use Rattle.register_words.specs.declared.sheets.Sheet.{Sheet}
 use Rattle.copy_csv.specs.declared.heads.Head.{Head}
 use Rattle.copy_csv.specs.declared.rows.Change.{Change}
 use Rattle.copy_csv.specs.Rows.{IsChangeOf, IsDeltaHead, IsDropOfKey, IsRowOf, changed_row}

@@ -11,7 +11,7 @@ use Rattle.json.specs.Token.{Token, begin_object, end_object, key, string}
 use Rattle.serde_json.specs.Written.{comma_if, members_text}
 use Rattle.lei_records.specs.Fields.{fields}
 use Rattle.lei_records.specs.Spelled.{is_absent}
-use Rattle.copy_csv.specs.declared.sheets.Sheet.{Sheet}
+use Rattle.register_words.specs.declared.sheets.Sheet.{Sheet}
 use Rattle.copy_csv.specs.Sheets.{SheetRow, width}
 use Rattle.copy_forms.specs.Json as form
 use Rattle.copy_forms.specs.Json.{field_at, json_fields, json_places, json_record, members_of}

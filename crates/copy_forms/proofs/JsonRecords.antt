@@ -7,7 +7,7 @@ use Rattle.std.proofs.lemmas.List.{get_or_at, length-map}
 use Rattle.lei_code.specs.Texts.{Text}
 use Rattle.lei_records.specs.Fields.{exception_fields, fields, relation_fields}
 use Rattle.lei_records.specs.Rows.{text_at}
-use Rattle.copy_csv.specs.declared.sheets.Sheet.{Sheet}
+use Rattle.register_words.specs.declared.sheets.Sheet.{Sheet}
 use Rattle.copy_csv.specs.Sheets.{IsRow, SheetRow, names, row_of, width}
 use Rattle.copy_forms.specs.Json.{json_fields, json_names, json_places, json_record}
 use Rattle.copy_forms.specs.JsonTexts.{fields_text}

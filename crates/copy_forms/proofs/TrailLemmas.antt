@@ -16,8 +16,8 @@ use Rattle.std.proofs.lemmas.Str.{IsUtf8-nil, is_utf8-from_IsUtf8}
 use Rattle.lei_shapes.specs.Moment.{IsMoment}
 use Rattle.lei_records.specs.Tables.{KeyTexts, key_cmp}
 use Rattle.copy_csv.specs.declared.rows.Change.{Change}
-use Rattle.copy_csv.specs.declared.sheets.Form.{Form}
-use Rattle.copy_csv.specs.declared.sheets.Sheet.{Sheet}
+use Rattle.register_words.specs.declared.sheets.Form.{Form}
+use Rattle.register_words.specs.declared.sheets.Sheet.{Sheet}
 use Rattle.copy_forms.specs.Files.{copy}
 use Rattle.copy_forms.specs.Patching.{IsPatched, Keyed, all_changed, changed, keyed, patched}
 use Rattle.copy_csv.specs.Rows.{AreChanges, AreRising, AreRows, IsChangeOf, IsRowOf, changed_key}

@@ -1,7 +1,7 @@
 -- Items of the register, as the records of their rows.
 use Rattle.lei_code.specs.Texts.{Text}
 use Rattle.lei_records.specs.declared.item.Item.{Item}
-use Rattle.copy_csv.specs.declared.sheets.Sheet.{Sheet}
+use Rattle.register_words.specs.declared.sheets.Sheet.{Sheet}
 use Rattle.copy_forms.specs.Json.{json_record}
 use Rattle.copy_csv.specs.Sheets.{SheetRow, row_of}
 

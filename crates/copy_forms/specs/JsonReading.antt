@@ -13,7 +13,7 @@ use Rattle.lei_code.specs.Texts.{Text}
 use Rattle.lei_records.specs.Rows.{text_at}
 use Rattle.lei_records.specs.Spelled.{is_absent}
 use Rattle.serde_json.specs.Written.{comma_if}
-use Rattle.copy_csv.specs.declared.sheets.Sheet.{Sheet}
+use Rattle.register_words.specs.declared.sheets.Sheet.{Sheet}
 use Rattle.copy_csv.specs.Sheets.{SheetRow, is_key_alone, row_of}
 use Rattle.copy_forms.specs.Json.{json_copy, json_delta, json_names}
 use Rattle.copy_csv.specs.declared.heads.Head.{Head}

@@ -5,8 +5,8 @@ use Rattle.lei_code.specs.Texts.{Text}
 use Rattle.lei_records.specs.Tables.{key_cmp}
 use Rattle.copy_csv.specs.declared.heads.Head.{Head}
 use Rattle.copy_csv.specs.declared.rows.Change.{Change}
-use Rattle.copy_csv.specs.declared.sheets.Form.{Form}
-use Rattle.copy_csv.specs.declared.sheets.Sheet.{Sheet}
+use Rattle.register_words.specs.declared.sheets.Form.{Form}
+use Rattle.register_words.specs.declared.sheets.Sheet.{Sheet}
 use Rattle.copy_forms.specs.Files.{IsCopy, IsDelta, copy}
 use Rattle.copy_csv.specs.Sheets.{SheetRow, key}
 

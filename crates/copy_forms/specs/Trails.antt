@@ -9,8 +9,8 @@ use Rattle.lei_shapes.specs.Moment.{IsMoment}
 use Rattle.lei_records.specs.Tables.{KeyTexts, key_cmp}
 use Rattle.copy_csv.specs.declared.heads.Head.{Head}
 use Rattle.copy_csv.specs.declared.rows.Change.{Change}
-use Rattle.copy_csv.specs.declared.sheets.Form.{Form}
-use Rattle.copy_csv.specs.declared.sheets.Sheet.{Sheet}
+use Rattle.register_words.specs.declared.sheets.Form.{Form}
+use Rattle.register_words.specs.declared.sheets.Sheet.{Sheet}
 use Rattle.copy_forms.specs.Files.{copy, delta}
 use Rattle.copy_forms.specs.Patching.{IsPatched, keyed}
 use Rattle.copy_csv.specs.Rows.{AreRows}

@@ -2,7 +2,7 @@
 ghost use Rattle.std.specs.Prelude.{◌≡◌, List as Items, map, IfOk, IsErrOf};
 ghost use Rattle.copy_csv.specs.declared.faults.FormFault.{FormFault};
 ghost use Rattle.copy_csv.specs.declared.heads.Head.{Head as DeclaredHead};
-ghost use Rattle.copy_csv.specs.declared.sheets.Form.{Form};
+ghost use Rattle.register_words.specs.declared.sheets.Form.{Form};
 ghost use Rattle.copy_csv.specs.declared.rows.Change.{Change};
 ghost use Rattle.std.specs.List.{All};
 ghost use Rattle.copy_csv.specs.Csv.{csv_copy, csv_delta, rendered_in};

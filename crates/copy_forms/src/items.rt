@@ -8,6 +8,7 @@ ghost use Rattle.copy_csv.specs.Sheets.{row_of};
 
 use crate::json_text::places;
 use copy_csv::Sheet;
+use copy_csv::sheets::{name_at, width};
 use json::Writer;
 use lei_outside::{Bytes, NoMemory};
 use lei_records::{FieldTexts, Item};
@@ -45,11 +46,11 @@ fn record_room(sheet: Sheet, texts: &FieldTexts) -> usize
     requires { length texts.now ≡ Sheets.width sheet }
 {
     let mut room = 2_usize;
-    for index in 0..sheet.width() {
+    for index in 0..width(sheet) {
         let text = texts.text(index);
         if !text.is_empty() {
             room = room.saturating_add(text.len());
-            room = room.saturating_add(sheet.name_at(index + 1).len() + 6);
+            room = room.saturating_add(name_at(sheet, index + 1).len() + 6);
         }
     }
     room
@@ -68,7 +69,7 @@ fn put_field(
     ensures before { out.new.before ≡ out.old.before }
     ensures tokens { OnOk result (out.new.tokens ≡ out.old.tokens ++ spec.field_tokens (field_at (row_of sheet texts.now) place)) }
 {
-    let name = sheet.name_at(place);
+    let name = name_at(sheet, place);
     let text = texts.text(place - 1);
     if text.is_empty() {
         return Ok(());

@@ -8,6 +8,7 @@ ghost use Rattle.copy_csv.specs.Sheets;
 
 use crate::json_strings::{after, escaped_from, plain_len};
 use crate::json_text::places;
+use copy_csv::sheets::name_at;
 use copy_csv::{FormFault, Row, Sheet, Texts};
 use json::Writer;
 use lei_outside::{Bytes, NoMemory};
@@ -40,7 +41,7 @@ pub fn leads(alloc: Global, sheet: Sheet) -> Result<Vec<Bytes>, NoMemory>
 {
     let mut leads = Vec::new(alloc);
     for place in places(sheet) {
-        leads.push(lead(alloc, sheet.name_at(usize::from(*place)))?)?;
+        leads.push(lead(alloc, name_at(sheet, usize::from(*place)))?)?;
     }
     Ok(leads)
 }

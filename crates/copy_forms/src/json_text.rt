@@ -6,6 +6,7 @@ ghost use Rattle.copy_forms.specs.Json.{field_at, json_places, json_record};
 ghost use Rattle.copy_forms.specs.JsonTexts as spec;
 ghost use Rattle.copy_csv.specs.Sheets;
 
+use copy_csv::sheets::{name_at, width};
 use copy_csv::{Row, Sheet};
 use json::Writer;
 use lei_outside::{Bytes, NoMemory};
@@ -49,9 +50,9 @@ pub fn record_text(alloc: Global, row: &Row) -> Result<Bytes, NoMemory>
 fn record_room(row: &Row) -> usize {
     let sheet = row.sheet();
     let mut room = row.joined().len().saturating_add(2);
-    for index in 0..sheet.width() {
+    for index in 0..width(sheet) {
         if !row.text_bytes(index + 1).is_empty() {
-            room = room.saturating_add(sheet.name_at(index + 1).len() + 6);
+            room = room.saturating_add(name_at(sheet, index + 1).len() + 6);
         }
     }
     room
@@ -64,7 +65,7 @@ fn put_field(out: &mut Writer, row: &Row, place: usize) -> Result<(), NoMemory>
     ensures before { out.new.before ≡ out.old.before }
     ensures tokens { OnOk result (out.new.tokens ≡ out.old.tokens ++ spec.field_tokens (field_at row.now place)) }
 {
-    let name = row.sheet().name_at(place);
+    let name = name_at(row.sheet(), place);
     let text = row.text(place);
     if text.is_empty() {
         return Ok(());

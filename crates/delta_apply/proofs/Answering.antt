@@ -7,8 +7,8 @@ use Rattle.copy_csv.specs.declared.heads.CopyRead.{CopyRead}
 use Rattle.copy_csv.specs.declared.heads.DeltaRead.{DeltaRead}
 use Rattle.copy_csv.specs.declared.heads.Head.{Head}
 use Rattle.copy_csv.specs.declared.rows.Change.{Change}
-use Rattle.copy_csv.specs.declared.sheets.Form.{Form}
-use Rattle.copy_csv.specs.declared.sheets.Sheet.{Sheet}
+use Rattle.register_words.specs.declared.sheets.Form.{Form}
+use Rattle.register_words.specs.declared.sheets.Sheet.{Sheet}
 use Rattle.copy_csv.specs.Csv.{csv_copy}
 use Rattle.copy_csv.specs.Rows.{AreChanges, AreRows, IsCopyHead, IsDeltaHead}
 use Rattle.copy_csv.specs.Sheets.{SheetRow}

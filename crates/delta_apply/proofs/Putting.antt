@@ -6,7 +6,7 @@ use Rattle.std.specs.Str.{IsUtf8}
 use Rattle.std.proofs.lemmas.List.{append-nil, drop_all, drop_at, length-drop, length_push, nil_from_length, take_all, take_at}
 use Rattle.std.proofs.lemmas.List.Elements.{All-head, All-nil, All-push, All-tail}
 use Rattle.copy_csv.specs.declared.rows.Change.{Change}
-use Rattle.copy_csv.specs.declared.sheets.Sheet.{Sheet}
+use Rattle.register_words.specs.declared.sheets.Sheet.{Sheet}
 use Rattle.copy_csv.specs.Csv.{line, row_line}
 use Rattle.copy_csv.specs.Rows.{AreChanges, AreRising, IsRowOf, changed_key}
 use Rattle.copy_csv.specs.Sheets.{SheetRow, key, names}

@@ -3,8 +3,8 @@ use Rattle.std.specs.Prelude.{◌≡◌, ◌≢◌, ◌≤◌, ℕ, List, length
 use Rattle.lei_code.specs.Texts.{Text}
 use Rattle.copy_csv.specs.declared.heads.Head.{Head}
 use Rattle.copy_csv.specs.declared.rows.Change.{Change}
-use Rattle.copy_csv.specs.declared.sheets.Form.{Form}
-use Rattle.copy_csv.specs.declared.sheets.Sheet.{Sheet}
+use Rattle.register_words.specs.declared.sheets.Form.{Form}
+use Rattle.register_words.specs.declared.sheets.Sheet.{Sheet}
 use Rattle.copy_csv.specs.Sheets.{SheetRow}
 use Rattle.copy_forms.specs.Files.{IsCopy, IsDelta}
 use Rattle.copy_forms.specs.Patching.{IsPatched}

@@ -1,7 +1,7 @@
 //! A delta, applied to a copy.
 ghost use Rattle.std.specs.Prelude.{◌≡◌, Result as Results};
 ghost use Rattle.lei_code.specs.Texts.{Text};
-ghost use Rattle.copy_csv.specs.declared.sheets.Form.{Form};
+ghost use Rattle.register_words.specs.declared.sheets.Form.{Form};
 ghost use Rattle.copy_csv.specs.Rows.{AreChanges, AreRows};
 ghost use Rattle.delta_apply.specs.declared.fault.ApplyFault.{ApplyFault as Fault};
 ghost use Rattle.delta_apply.specs.Applying.{IsAnswer, IsNoDelta, LeadsOn, UnlessNoMemory};

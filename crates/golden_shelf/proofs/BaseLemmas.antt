@@ -5,7 +5,7 @@ use Rattle.std.specs.List.{slice_get, slice_index_or}
 use Rattle.std.proofs.lemmas.List.{length-map, length-take-le, take_more}
 use Rattle.std.proofs.lemmas.Bool.{false≢true, leb-true}
 use Rattle.copy_forms.specs.Trails.{Trail}
-use Rattle.golden_shelf.specs.declared.base.Base.{Base}
+use Rattle.register_words.specs.declared.base.Base.{Base}
 use Rattle.golden_shelf.specs.declared.issue.Issue.{Issue}
 use Rattle.golden_shelf.specs.declared.fault.ShelfFault.{ShelfFault}
 use Rattle.golden_shelf.specs.Bases.{aged, base_in, counted, last_moment, last_until, moments_in, moments_of, named, numbered}

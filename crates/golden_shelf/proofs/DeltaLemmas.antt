@@ -16,7 +16,7 @@ use Rattle.std.proofs.lemmas.List.Filters.{All-dedup, dedup_is}
 use Rattle.std.proofs.lemmas.List.Kept.{IsStrictlySortedBy-dedup}
 use Rattle.std.proofs.lemmas.List.Sorted.{All-permutation, list_any-IsPermutation}
 use Rattle.lei_records.specs.Tables.{KeyTexts, key_cmp}
-use Rattle.copy_csv.specs.declared.sheets.Sheet.{Sheet}
+use Rattle.register_words.specs.declared.sheets.Sheet.{Sheet}
 use Rattle.copy_csv.specs.Csv.{Rendered, rendered_in}
 use Rattle.copy_csv.specs.declared.rows.TextChange.{TextChange}
 use Rattle.golden_shelf.specs.declared.sides.Sides.{Sides}
@@ -30,7 +30,7 @@ use Rattle.lei_records.specs.declared.view.RowKey.{RowKey}
 use Rattle.golden_shelf.specs.Keys.{is_of, key_texts}
 use Rattle.copy_csv.proofs.RowLemmas.{key_total}
 use Rattle.copy_forms.specs.Files.{delta, rendered, rendered_change}
-use Rattle.copy_csv.specs.declared.sheets.Form.{Form}
+use Rattle.register_words.specs.declared.sheets.Form.{Form}
 use Rattle.copy_forms.specs.Trails.{FollowOn, IsKeyOf, IsSound, Publication, Trail, change_of, change_to, changes_between, delta_between, dropped_row, in_order, is_among, no_rows, row_under, touched_in}
 use Rattle.copy_forms.proofs.TrailLemmas.{are_changes}
 use Rattle.golden_shelf.specs.declared.issue.Issue.{Issue}

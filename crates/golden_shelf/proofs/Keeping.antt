@@ -15,7 +15,7 @@ use Rattle.lei_shapes.specs.Moment.{IsMoment}
 use Rattle.lei_records.specs.declared.view.RowKey.{RowKey}
 use Rattle.lei_records.specs.Tables.{KeyTexts, key_cmp}
 use Rattle.copy_csv.specs.declared.rows.Change.{Change}
-use Rattle.copy_csv.specs.declared.sheets.Sheet.{Sheet}
+use Rattle.register_words.specs.declared.sheets.Sheet.{Sheet}
 use Rattle.copy_csv.specs.Rows.{AreRising, AreRows, IsRowOf}
 use Rattle.copy_csv.specs.Sheets.{SheetRow, key, key_len}
 use Rattle.copy_csv.proofs.RowLemmas.{key_total}

@@ -13,10 +13,10 @@ use Rattle.lei_shapes.specs.Moment.{IsMoment}
 use Rattle.lei_records.specs.declared.view.RowKey.{RowKey}
 use Rattle.lei_records.specs.Tables.{KeyTexts, key_cmp}
 use Rattle.copy_csv.specs.declared.rows.RowTexts.{RowTexts}
-use Rattle.copy_csv.specs.declared.sheets.Sheet.{Sheet}
+use Rattle.register_words.specs.declared.sheets.Sheet.{Sheet}
 use Rattle.copy_csv.specs.Rows.{AreRising, AreRows, IsRowOf}
 use Rattle.copy_csv.specs.Sheets.{SheetRow}
-use Rattle.copy_csv.specs.declared.sheets.Form.{Form}
+use Rattle.register_words.specs.declared.sheets.Form.{Form}
 use Rattle.lei_code.specs.Texts.{Text}
 use Rattle.copy_forms.specs.Files.{copy, rendered}
 use Rattle.copy_forms.specs.Trails.{FollowOn, IsNext, IsSound, Publication, Trail, copy_of, no_rows}

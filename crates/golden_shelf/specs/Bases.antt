@@ -1,7 +1,7 @@
 -- Bases: the publication that a delta goes from. This is a profile of this project.
 use Rattle.std.specs.Prelude.{ℕ, ◌+◌, ℤ, pos, ◌-ℤ◌, int_le, List, [], ◌∷◌, length, map, Bool, true, false, ◌&&◌, nat_le, if◌then◌else◌, Option, Some, None, Result, Ok, Err}
 use Rattle.copy_forms.specs.Trails.{Trail}
-use Rattle.golden_shelf.specs.declared.base.Base.{Base}
+use Rattle.register_words.specs.declared.base.Base.{Base}
 use Rattle.golden_shelf.specs.declared.fault.ShelfFault.{ShelfFault}
 use Rattle.golden_shelf.specs.declared.issue.Issue.{Issue}
 

@@ -5,7 +5,7 @@ use Rattle.std.specs.List.{filter}
 use Rattle.lei_records.specs.Tables.{KeyTexts, key_cmp}
 use Rattle.copy_csv.specs.Csv.{Rendered}
 use Rattle.copy_csv.specs.declared.rows.RowTexts.{RowTexts}
-use Rattle.copy_csv.specs.declared.sheets.Sheet.{Sheet}
+use Rattle.register_words.specs.declared.sheets.Sheet.{Sheet}
 use Rattle.copy_forms.specs.Trails.{dropped_row}
 use Rattle.golden_shelf.specs.declared.issue.Issue.{Issue}
 use Rattle.golden_shelf.specs.declared.order.TextKey.{TextKey}

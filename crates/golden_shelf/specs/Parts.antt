@@ -1,6 +1,6 @@
 -- Parts: what is kept, by sheet, and what was kept before.
 use Rattle.std.specs.Prelude.{◌-◌, List, length, take}
-use Rattle.copy_csv.specs.declared.sheets.Sheet.{Sheet}
+use Rattle.register_words.specs.declared.sheets.Sheet.{Sheet}
 use Rattle.golden_shelf.specs.declared.issue.Issue.{Issue}
 use Rattle.golden_shelf.specs.declared.sides.Sides.{Sides}
 use Rattle.golden_shelf.specs.Lines.{with_lines}

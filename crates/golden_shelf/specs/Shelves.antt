@@ -1,7 +1,7 @@
 -- Shelves: what is kept of a trail of publications.
 use Rattle.std.specs.Prelude.{◌≡◌, List, [], ◌∷◌, Option, Some, None, map, ⊤}
 use Rattle.std.specs.List.{filter}
-use Rattle.copy_csv.specs.declared.sheets.Sheet.{Sheet}
+use Rattle.register_words.specs.declared.sheets.Sheet.{Sheet}
 use Rattle.copy_csv.specs.Sheets.{SheetRow}
 use Rattle.copy_forms.specs.Trails.{IsSound, Publication, Trail, no_rows}
 use Rattle.golden_shelf.specs.declared.issue.Issue.{Issue}

@@ -3,7 +3,7 @@ ghost use Rattle.std.specs.Prelude.{◌≡◌, ◌≤◌, ◌-ℤ◌, int_le, le
 ghost use Rattle.golden_shelf.specs.Bases as spec;
 ghost use Rattle.golden_shelf.specs.Bases.{base_in, moments_in};
 
-use crate::base::Base;
+use register_words::Base;
 use crate::fault::ShelfFault;
 use crate::issue::Issue;
 use lei_shapes::Moment;

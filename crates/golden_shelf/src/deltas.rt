@@ -9,6 +9,7 @@ ghost use Rattle.golden_shelf.specs.Keys.{is_of, key_texts};
 
 use crate::order::TextKey;
 use crate::side::Side;
+use copy_csv::sheets::width;
 use copy_csv::{Row, Sheet, TextChange, Texts};
 use lei_outside::NoMemory;
 use lei_records::RowKey;
@@ -54,7 +55,7 @@ fn dropped(alloc: Global, sheet: Sheet, key: &RowKey) -> Result<Row, NoMemory>
     ensures { IfOk result (λ row. row ≡ dropped_row sheet (key_texts key.now)) }
 {
     let mut texts = texts_of(alloc, key)?;
-    while texts.len() < sheet.width() {
+    while texts.len() < width(sheet) {
         texts.push("")?;
     }
     Ok(Row::of(sheet, texts))

@@ -1,7 +1,6 @@
 //! The shelf: golden copies of a trail of publications, joined of texts that are kept.
 #![tactic(auto)]
 
-mod base;
 mod bases;
 mod deltas;
 mod fault;
@@ -18,7 +17,7 @@ mod sides;
 mod touched;
 mod weaving;
 
-pub use base::Base;
 pub use fault::ShelfFault;
 pub use issue::Issue;
+pub use register_words::Base;
 pub use shelf::Shelf;

@@ -1,7 +1,7 @@
 // The changes of a publication, rendered and parted by sheet.
 ghost use Rattle.std.specs.Prelude.{◌≡◌, ◌+◌, ◌++◌, ◌∷◌, [], IfOk, OnOk, length, map};
 ghost use Rattle.std.specs.List.{AllZip, filter};
-ghost use Rattle.copy_csv.specs.declared.sheets.Sheet.{Sheet as DeclaredSheet};
+ghost use Rattle.register_words.specs.declared.sheets.Sheet.{Sheet as DeclaredSheet};
 ghost use Rattle.golden_shelf.specs.Keys.{is_of};
 ghost use Rattle.golden_shelf.specs.Sides.{IsNoteOf};
 

@@ -1,7 +1,7 @@
 //! The shelf.
 ghost use Rattle.std.specs.Prelude.{◌≡◌, ◌+◌, ◌<◌, ◌≤◌, ◌++◌, ◌∷◌, ◌↔◌, ◌⊎◌, [], ℕ, None, Some, Ok, Err, List as Items, MatchResult, drop, map, IfErr, IfOk, IsErrOf, IsSome, OnErr, OnOk, length, option_map};
 ghost use Rattle.std.specs.List.{All};
-ghost use Rattle.copy_csv.specs.declared.sheets.Sheet.{Sheet as DeclaredSheet};
+ghost use Rattle.register_words.specs.declared.sheets.Sheet.{Sheet as DeclaredSheet};
 ghost use Rattle.copy_csv.specs.declared.rows.Change.{Change};
 ghost use Rattle.copy_csv.specs.Rows.{IsChangeOf};
 ghost use Rattle.copy_forms.specs.Files.{delta, rendered_change};
@@ -12,7 +12,7 @@ ghost use Rattle.golden_shelf.specs.Changes.{AreOwnChanges, IsIssued};
 ghost use Rattle.golden_shelf.specs.Deltas.{changed_in, shown_in};
 ghost use Rattle.golden_shelf.specs.Shelves.{Keeps, latest, latest_rows, lines_of, nothing_kept};
 
-use crate::base::Base;
+use register_words::Base;
 use crate::bases::base_number;
 use crate::deltas::changes_of;
 use crate::fault::ShelfFault;

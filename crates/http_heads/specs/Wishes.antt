@@ -2,7 +2,7 @@
 -- connection open. This project's profile.
 use Rattle.std.specs.Prelude.{◌≡◌, ◌⊎◌, ℕ, Bool, false, true, List, length, take, if◌then◌else◌, nat_lt, Option, None, Some, option_map, option_and_then, Result, Ok, Err}
 use Rattle.httparse.specs.Grammar.{HasNoRequest, MayBecomeRequest, NeverHasRequest, ReadsRequest, RequestHead, print_request}
-use Rattle.request_words.specs.Words.{base_of, code_of, form_of, number_of, sheet_of}
+use Rattle.register_words.specs.Words.{base_of, code_of, form_of, number_of, sheet_of}
 use Rattle.http_heads.specs.Headers.{told_by}
 use Rattle.http_heads.specs.Heads.{fault_of, headers_of, is_last, verb_of}
 use Rattle.http_heads.specs.Routes.{action_at, part_of, path_of, place_of}

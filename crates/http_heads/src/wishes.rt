@@ -14,7 +14,7 @@ use copy_csv::{Form, Sheet};
 use golden_shelf::Base;
 use lei_code::Lei;
 use matchit::Router;
-use request_words::{base_of, code_of, form_of, number_of, sheet_of};
+use register_words::{base_of, code_of, form_of, number_of, sheet_of};
 
 /// What a head asks: a request without the bytes of its body, or a refusal.
 #[derive(Clone, Copy, Debug, PartialEq, Eq)]

@@ -3,11 +3,11 @@ use Rattle.std.proofs.Common.{◌≡◌, ℕ, ◌+◌, ◌≤◌, zero, suc, Boo
 use Rattle.std.specs.List.{filter}
 use Rattle.std.proofs.lemmas.List.Elements.{filter-append}
 use Rattle.lei_outside.specs.Count.{Rose}
-use Rattle.lei_office.specs.declared.reply.Refusal.{Refusal}
-use Rattle.lei_office.specs.declared.reply.Refusal.TheVariants as refusals
-use Rattle.lei_office.specs.declared.reply.Refusal.TheVariants.{KeeperFault}
-use Rattle.lei_office.specs.declared.reply.Reply.{Reply}
-use Rattle.lei_office.specs.declared.reply.Reply.TheVariants.{Text, Words}
+use Rattle.register_words.specs.declared.reply.Refusal.{Refusal}
+use Rattle.register_words.specs.declared.reply.Refusal.TheVariants as refusals
+use Rattle.register_words.specs.declared.reply.Refusal.TheVariants.{KeeperFault}
+use Rattle.register_words.specs.declared.reply.Reply.{Reply}
+use Rattle.register_words.specs.declared.reply.Reply.TheVariants.{Text, Words}
 use Rattle.issuer_http.specs.Faults.{RoseBy, is_keeper_fault, keeper_faults}
 
 pub keeper_faults-append : (xs ys : List Reply) → keeper_faults (xs ++ ys) ≡ keeper_faults xs + keeper_faults ys

@@ -1,8 +1,8 @@
 -- The numbers of requests that are read, and the refusals of the reader.
 use Rattle.std.proofs.Common.{◌≡◌, ℕ, List, [], ◌∷◌, Option, Some, None, inr, refl, sym, subst}
 use Rattle.std.specs.Option.{option_and_then}
-use Rattle.request_words.proofs.Numbers.{number_within-range}
-use Rattle.request_words.specs.Words.{base_of, code_of, form_of, number_of, sheet_of}
+use Rattle.register_words.proofs.Numbers.{number_within-range}
+use Rattle.register_words.specs.Words.{base_of, code_of, form_of, number_of, sheet_of}
 use Rattle.http_heads.specs.Requests.{IsRead, body_in}
 use Rattle.http_heads.specs.Routes.{part_of}
 use Rattle.http_heads.specs.Wishes.{or_path, wish_at, wish_of}
@@ -13,14 +13,15 @@ use Rattle.http_heads.specs.declared.wishes.Ask.{Ask}
 use Rattle.http_heads.specs.declared.wishes.Wish.{Wish}
 use Rattle.http_heads.specs.declared.wishes.WishRead.{WishRead}
 use Rattle.std.specs.Prelude.{Result, Ok, Err}
-use Rattle.lei_office.specs.Legal.{AskStep, IsNumbered}
-use Rattle.lei_office.specs.State.{OfficeState}
-use Rattle.lei_office.specs.declared.reply.Refusal.{Refusal}
-use Rattle.lei_office.specs.declared.reply.Refusal.TheVariants.{NoMemory}
-use Rattle.lei_office.specs.declared.reply.Reply.TheVariants.{Words}
-use Rattle.lei_office.specs.declared.request.Asked.{Asked}
-use Rattle.lei_office.specs.declared.request.Asked.TheVariants.{Ask as Asks, Refuse}
-use Rattle.lei_office.specs.declared.request.Request.{Request}
+use Rattle.register_history.specs.Legal.{AskStep}
+use Rattle.register_words.specs.Requests.{IsNumbered}
+use Rattle.register_history.specs.State.{OfficeState}
+use Rattle.register_words.specs.declared.reply.Refusal.{Refusal}
+use Rattle.register_words.specs.declared.reply.Refusal.TheVariants.{NoMemory}
+use Rattle.register_words.specs.declared.reply.Reply.TheVariants.{Words}
+use Rattle.register_words.specs.declared.request.Asked.{Asked}
+use Rattle.register_words.specs.declared.request.Asked.TheVariants.{Ask as Asks, Refuse}
+use Rattle.register_words.specs.declared.request.Request.{Request}
 use Rattle.issuer_http.specs.Faults.{keeper_faults}
 use Rattle.issuer_http.specs.Requests.{MayWantMemory, asked_in, asked_of, refusal_of}
 use Rattle.issuer_http.proofs.Reading.{each_read, whole_of}

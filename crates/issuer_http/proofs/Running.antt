@@ -4,13 +4,13 @@ use Rattle.std.proofs.lemmas.List.{append-nil, map-append}
 use Rattle.lei_outside.specs.Count.{Rose}
 use Rattle.lei_outside.specs.Told.{Grows, WritesFront}
 use Rattle.lei_outside.proofs.Told.{Grows-none, Grows-join}
-use Rattle.lei_office.specs.Legal.{AskStep, Session, replies_to}
-use Rattle.lei_office.specs.State.{OfficeState}
-use Rattle.lei_office.proofs.Sessions.{exact}
-use Rattle.lei_office.specs.declared.reply.Refusal.TheVariants.{NoMemory}
-use Rattle.lei_office.specs.declared.reply.Reply.{Reply}
-use Rattle.lei_office.specs.declared.reply.Reply.TheVariants.{Words}
-use Rattle.lei_office.specs.declared.request.Asked.{Asked}
+use Rattle.register_history.specs.Legal.{AskStep, Session, replies_to}
+use Rattle.register_history.specs.State.{OfficeState}
+use Rattle.register_history.proofs.Sessions.{exact}
+use Rattle.register_words.specs.declared.reply.Refusal.TheVariants.{NoMemory}
+use Rattle.register_words.specs.declared.reply.Reply.{Reply}
+use Rattle.register_words.specs.declared.reply.Reply.TheVariants.{Words}
+use Rattle.register_words.specs.declared.request.Asked.{Asked}
 use Rattle.issuer_http.specs.Faults.{RoseBy, keeper_faults}
 use Rattle.issuer_http.specs.Requests.{Want}
 use Rattle.issuer_http.specs.Responses.{response_text, response_texts}

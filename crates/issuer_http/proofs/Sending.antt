@@ -4,11 +4,11 @@ use Rattle.std.specs.Prelude.{is_err}
 use Rattle.std.proofs.Math.Seq.{take-append-add}
 use Rattle.lei_outside.specs.Told.{Grows}
 use Rattle.lei_outside.proofs.Told.{Grows-join}
-use Rattle.lei_office.specs.Words.{refusal_status_code, refusal_words}
-use Rattle.lei_office.specs.declared.reply.Kind.{Kind}
-use Rattle.lei_office.specs.declared.reply.Refusal.{Refusal}
-use Rattle.lei_office.specs.declared.reply.Reply.{Reply}
-use Rattle.lei_office.specs.declared.reply.Reply.TheVariants.{Text, Words}
+use Rattle.register_words.specs.Refusals.{refusal_status_code, refusal_words}
+use Rattle.register_words.specs.declared.reply.Kind.{Kind}
+use Rattle.register_words.specs.declared.reply.Refusal.{Refusal}
+use Rattle.register_words.specs.declared.reply.Reply.{Reply}
+use Rattle.register_words.specs.declared.reply.Reply.TheVariants.{Text, Words}
 use Rattle.http_heads.specs.Responses.{response_head}
 use Rattle.http_heads.specs.declared.responses.Content.{Content}
 use Rattle.http_heads.specs.declared.routes.Allowed.{Allowed}

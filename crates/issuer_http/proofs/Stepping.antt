@@ -5,9 +5,9 @@ use Rattle.std.proofs.lemmas.List.{drop-drop}
 use Rattle.std.proofs.lemmas.List.Elements.{All-append, All-cons, All-nil}
 use Rattle.lei_outside.specs.Told.{Grows, WritesFront}
 use Rattle.lei_outside.specs.declared.faults.SinkFault.{SinkFault}
-use Rattle.lei_office.specs.Legal.{AskStep}
-use Rattle.lei_office.specs.declared.reply.Refusal.{Refusal}
-use Rattle.lei_office.specs.declared.reply.Reply.TheVariants.{Words}
+use Rattle.register_history.specs.Legal.{AskStep}
+use Rattle.register_words.specs.declared.reply.Refusal.{Refusal}
+use Rattle.register_words.specs.declared.reply.Reply.TheVariants.{Words}
 use Rattle.http_heads.specs.Requests.{IsRead, size_of}
 use Rattle.http_heads.specs.Wishes.{IsWishRead}
 use Rattle.http_heads.specs.declared.head.HeadFault.{HeadFault}

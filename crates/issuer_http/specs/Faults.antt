@@ -1,8 +1,8 @@
 -- Replies that tell a fault of the keeper.
 use Rattle.std.specs.Prelude.{ℕ, ◌+◌, ◌-◌, ◌^◌, ◌≤◌, ◌==◌, Bool, false, List, length, filter, min}
-use Rattle.lei_office.specs.Words.{refusal_status_code}
-use Rattle.lei_office.specs.declared.reply.Reply.{Reply}
-use Rattle.lei_office.specs.declared.reply.Reply.TheVariants.{Text, Words}
+use Rattle.register_words.specs.Refusals.{refusal_status_code}
+use Rattle.register_words.specs.declared.reply.Reply.{Reply}
+use Rattle.register_words.specs.declared.reply.Reply.TheVariants.{Text, Words}
 
 -- The reply is 503 KEEPER_FAULT. No other refusal has this status code.
 abbrev pub is_keeper_fault : Reply → Bool

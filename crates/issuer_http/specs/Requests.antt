@@ -6,11 +6,11 @@ use Rattle.http_heads.specs.declared.routes.Allowed.{Allowed as KnownMethods}
 use Rattle.http_heads.specs.declared.wishes.Ask.{Ask}
 use Rattle.http_heads.specs.declared.wishes.Wish.{Wish}
 use Rattle.http_heads.specs.declared.wishes.WishRead.{WishRead}
-use Rattle.lei_office.specs.Legal.{TakesMemoryToRead}
-use Rattle.lei_office.specs.declared.reply.Allowed.{Allowed}
-use Rattle.lei_office.specs.declared.reply.Refusal.{Refusal}
-use Rattle.lei_office.specs.declared.request.Asked.{Asked}
-use Rattle.lei_office.specs.declared.request.Request.{Request}
+use Rattle.register_words.specs.Requests.{TakesMemoryToRead}
+use Rattle.register_words.specs.declared.reply.Allowed.{Allowed}
+use Rattle.register_words.specs.declared.reply.Refusal.{Refusal}
+use Rattle.register_words.specs.declared.request.Asked.{Asked}
+use Rattle.register_words.specs.declared.request.Request.{Request}
 use Rattle.issuer_http.specs.declared.requests.HttpRead.{HttpRead}
 
 -- How it is told why a head is refused.

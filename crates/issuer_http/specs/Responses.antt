@@ -4,13 +4,13 @@ use Rattle.http_heads.specs.Responses.{response_head}
 use Rattle.http_heads.specs.declared.responses.Content.{Content}
 use Rattle.http_heads.specs.declared.responses.Response.{Response}
 use Rattle.http_heads.specs.declared.routes.Allowed.{Allowed as KnownMethods}
-use Rattle.lei_office.specs.Words.{reply_status_code, reply_words}
-use Rattle.lei_office.specs.declared.reply.Allowed.{Allowed}
-use Rattle.lei_office.specs.declared.reply.Kind.{Kind}
-use Rattle.lei_office.specs.declared.reply.Refusal.{Refusal}
-use Rattle.lei_office.specs.declared.reply.Refusal.TheVariants as refusals
-use Rattle.lei_office.specs.declared.reply.Reply.{Reply}
-use Rattle.lei_office.specs.declared.reply.Reply.TheVariants as replies
+use Rattle.register_words.specs.Refusals.{reply_status_code, reply_words}
+use Rattle.register_words.specs.declared.reply.Allowed.{Allowed}
+use Rattle.register_words.specs.declared.reply.Kind.{Kind}
+use Rattle.register_words.specs.declared.reply.Refusal.{Refusal}
+use Rattle.register_words.specs.declared.reply.Refusal.TheVariants as refusals
+use Rattle.register_words.specs.declared.reply.Reply.{Reply}
+use Rattle.register_words.specs.declared.reply.Reply.TheVariants as replies
 use Rattle.lei_outside.specs.Told.{Grows, WritesFront}
 use Rattle.issuer_http.specs.Requests.{Want}
 

@@ -8,13 +8,13 @@ use Rattle.http_heads.specs.declared.wishes.WishRead.{WishRead}
 use Rattle.lei_outside.specs.Count.{Rose}
 use Rattle.lei_outside.specs.Told.{Grows, IsAtEnd, Loses, WritesFront}
 use Rattle.lei_outside.specs.declared.faults.SinkFault.{SinkFault}
-use Rattle.lei_office.specs.Legal.{AskStep, Session, replies_to}
-use Rattle.lei_office.specs.State.{OfficeState}
-use Rattle.lei_office.specs.declared.reply.Refusal.{Refusal}
-use Rattle.lei_office.specs.declared.reply.Refusal.TheVariants.{NoMemory}
-use Rattle.lei_office.specs.declared.reply.Reply.{Reply}
-use Rattle.lei_office.specs.declared.reply.Reply.TheVariants.{Words}
-use Rattle.lei_office.specs.declared.request.Asked.{Asked}
+use Rattle.register_history.specs.Legal.{AskStep, Session, replies_to}
+use Rattle.register_history.specs.State.{OfficeState}
+use Rattle.register_words.specs.declared.reply.Refusal.{Refusal}
+use Rattle.register_words.specs.declared.reply.Refusal.TheVariants.{NoMemory}
+use Rattle.register_words.specs.declared.reply.Reply.{Reply}
+use Rattle.register_words.specs.declared.reply.Reply.TheVariants.{Words}
+use Rattle.register_words.specs.declared.request.Asked.{Asked}
 use Rattle.issuer_http.specs.Faults.{RoseBy, keeper_faults}
 use Rattle.issuer_http.specs.Moments.{Gives}
 use Rattle.issuer_http.specs.Requests.{AreNext, Want, Wants, refused, want_of}

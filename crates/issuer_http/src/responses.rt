@@ -2,7 +2,7 @@
 ghost use Rattle.std.specs.Prelude.{◌≡◌, ◌++◌, [], length, OnOk, IsErrOf};
 ghost use Rattle.http_heads.specs.Responses.{response_head};
 ghost use Rattle.lei_outside.specs.Count.{Rose};
-ghost use Rattle.lei_office.specs.Words.{refusal_words};
+ghost use Rattle.register_words.specs.Refusals.{refusal_words};
 ghost use Rattle.issuer_http.specs.Responses.{IsSent, content_of, methods_in, methods_of, response_bytes};
 
 use http_heads::{Content, Response, put_head};

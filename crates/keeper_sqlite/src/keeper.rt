@@ -40,10 +40,6 @@ impl SqliteKeeper<FileStore<File>> {
         };
         SqliteKeeper { store, faults: 0 }
     }
-
-    /// Lets the file go, which another keeper may open then. So does letting go of the keeper; a crate that closes it needs
-    /// no proof of how that is done.
-    pub fn close(self) {}
 }
 
 impl<S: Alter> SqliteKeeper<S> {

@@ -5,11 +5,12 @@ use Rattle.std.specs.Prelude.{IfSome}
 use Rattle.lei_outside.specs.Keeping.{AreKept, KeptTables, LeavesNoMore, Stays, cells_between}
 use Rattle.lei_outside.specs.declared.keeper.KeptCell.{KeptCell}
 use Rattle.register_table.specs.Held.{Held}
-use Rattle.lei_office.specs.declared.damage.Damage.{Damage}
-use Rattle.lei_office.specs.Damage.{IsCellDamage, kept_page, made_page, page_bounds}
-use Rattle.lei_office.specs.Kept.{AreCellsOf}
-use Rattle.lei_office.specs.Opening.{AllStand, Compares}
-use Rattle.lei_office.proofs.Pages.{PagesAgree, pages-cells}
+use Rattle.register_history.specs.declared.damage.Damage.{Damage}
+use Rattle.register_history.specs.Damage.{IsCellDamage, kept_page, made_page, page_bounds}
+use Rattle.register_history.specs.Kept.{AreCellsOf}
+use Rattle.lei_office.specs.Opening.{Compares}
+use Rattle.register_history.specs.Standing.{AllStand}
+use Rattle.register_history.proofs.Pages.{PagesAgree, pages-cells}
 
 compares_so : (kept kept' made made' : List KeptCell) (found : Option Damage) → kept ≡ kept' → made ≡ made' → Compares kept made found → Compares kept' made' found
 compares_so kept kept' made made' found of_kept of_made is = subst (λ l. Compares l made' found) of_kept (subst (λ l. Compares kept l found) of_made is)

@@ -1,8 +1,8 @@
 -- The first place at which two lists of cells differ.
 use Rattle.std.proofs.Common.{◌≡◌, ℕ, zero, suc, ◌≤◌, List, [], ◌∷◌, ◌++◌, length, take, Some, None, refl, sym, ap, ◌∙◌, arith, slice_get, ◌+◌, add-one}
 use Rattle.lei_outside.specs.declared.keeper.KeptCell.{KeptCell}
-use Rattle.lei_office.specs.declared.damage.Damage.{Damage}
-use Rattle.lei_office.specs.Damage.{DifferFirst, not_kept, not_made}
+use Rattle.register_history.specs.declared.damage.Damage.{Damage}
+use Rattle.register_history.specs.Damage.{DifferFirst, not_kept, not_made}
 
 head_same : (c d : KeptCell) (a b : List KeptCell) → c ∷ a ≡ d ∷ b → c ≡ d
 head_same c d a b is = cc

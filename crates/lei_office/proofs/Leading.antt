@@ -6,14 +6,14 @@ use Rattle.std.proofs.lemmas.Bool.Decides.{nat_tests}
 use Rattle.lei_outside.specs.Keeping.{AreKept, KeptTables, RiseFrom, entries_between, last_number, number_of}
 use Rattle.lei_outside.specs.declared.entry.KeptEntry.{KeptEntry}
 use Rattle.upload_ledger.specs.History.{History, last_entry}
-use Rattle.lei_office.specs.declared.damage.Damage.{Damage}
-use Rattle.lei_office.specs.declared.limits.Limits.{Limits}
-use Rattle.lei_office.specs.Damage.{EntryDiffers, IsEntryDamage, missing}
-use Rattle.lei_office.specs.Legal.{Legal, LegalAfter}
+use Rattle.register_history.specs.declared.damage.Damage.{Damage}
+use Rattle.register_words.specs.declared.limits.Limits.{Limits}
+use Rattle.register_history.specs.Damage.{EntryDiffers, IsEntryDamage, missing}
+use Rattle.register_history.specs.Legal.{Legal, LegalAfter}
 use Rattle.lei_office.specs.Opening.{IsPageDamage, NextDiffers}
-use Rattle.lei_office.specs.State.{office_of}
-use Rattle.lei_office.proofs.AskedFor.{next-seq}
-use Rattle.lei_office.proofs.Histories.{last_entry-push}
+use Rattle.register_history.specs.State.{office_of}
+use Rattle.register_history.proofs.AskedFor.{next-seq}
+use Rattle.register_history.proofs.Histories.{last_entry-push}
 
 -- ---- entries of a range of numbers
 

@@ -2,7 +2,7 @@
 use Rattle.std.proofs.Common.{◌≡◌, ℕ, List, [], ◌∷◌, ◌++◌, flat_map, map, ap}
 use Rattle.std.proofs.lemmas.List.{append-nil}
 use Rattle.std.specs.Borrow.{Bor}
-use Rattle.lei_office.specs.Kept.{joined}
+use Rattle.register_history.specs.Kept.{joined}
 
 pub joined_behind : (first : List ℕ) (others : List (Bor (List ℕ))) → first ++ flat_map (λ word. 32 ∷ word.now) others ≡ joined (first ∷ map (λ word. word.now) others)
 joined_behind first [] = append-nil first

@@ -4,9 +4,9 @@ use Rattle.std.specs.Prelude.{IfSome}
 use Rattle.std.proofs.lemmas.Bool.Decides.{nat_tests}
 use Rattle.lei_outside.specs.Keeping.{AreKept, KeptTables, RiseFrom, entries_between, last_number}
 use Rattle.upload_ledger.specs.History.{History}
-use Rattle.lei_office.specs.declared.damage.Damage.{Damage}
-use Rattle.lei_office.specs.declared.limits.Limits.{Limits}
-use Rattle.lei_office.specs.Damage.{IsEntryDamage}
+use Rattle.register_history.specs.declared.damage.Damage.{Damage}
+use Rattle.register_words.specs.declared.limits.Limits.{Limits}
+use Rattle.register_history.specs.Damage.{IsEntryDamage}
 use Rattle.lei_office.specs.Opening.{IsPageDamage}
 use Rattle.lei_office.proofs.ComparedPages.{both-told}
 use Rattle.lei_office.proofs.Leading.{all-entries, page-behind, page-damage}

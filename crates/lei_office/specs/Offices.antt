@@ -2,11 +2,11 @@
 use Rattle.std.specs.Prelude.{◌≡◌, ℕ, Option, IfSome, ⊤}
 use Rattle.lei_outside.specs.Count.{Rose}
 use Rattle.lei_outside.specs.Keeping.{KeptTables}
-use Rattle.lei_office.specs.declared.limits.Limits.{Limits}
+use Rattle.register_words.specs.declared.limits.Limits.{Limits}
 use Rattle.lei_office.specs.declared.opening.OpenFault.{OpenFault}
 use Rattle.lei_office.specs.declared.opening.OpenFault.TheVariants.{KeeperFault, NoMemory, StoreDamaged}
-use Rattle.lei_office.specs.Damage.{IsDamage}
-use Rattle.lei_office.specs.State.{OfficeState}
+use Rattle.register_history.specs.Damage.{IsDamage}
+use Rattle.register_history.specs.State.{OfficeState}
 
 -- its limits with its history, and beside them the keeper
 pub record KeptOffice (K : Type 0) : Type 0 where

@@ -10,16 +10,16 @@ use Rattle.lei_records.specs.declared.view.RowKey.{RowKey}
 use Rattle.golden_shelf.specs.Shelves.{Kept}
 use Rattle.register_table.specs.Held.{Cell, Held, TableState, cell_key}
 use Rattle.upload_ledger.specs.History.{History}
-use Rattle.lei_office.specs.declared.damage.Damage.{Damage}
-use Rattle.lei_office.specs.declared.limits.Limits.{Limits}
+use Rattle.register_history.specs.declared.damage.Damage.{Damage}
+use Rattle.register_words.specs.declared.limits.Limits.{Limits}
 use Rattle.lei_office.specs.declared.opening.Found.{Found}
 use Rattle.lei_office.specs.declared.opening.Found.TheVariants.{Damaged, Sound}
-use Rattle.lei_office.specs.Damage.{DifferFirst, EntryDiffers, IsCellDamage, IsDamage, IsEntryDamage, missing, replayed}
-use Rattle.lei_office.specs.Kept.{AreCellsOf, IsKey, Keeps}
-use Rattle.lei_office.specs.Legal.{IsNext, Legal}
-use Rattle.lei_office.specs.Register.{IsKeptAfter}
-use Rattle.lei_office.specs.Shelving.{IsShelved}
-use Rattle.lei_office.specs.State.{OfficeState, office_of}
+use Rattle.register_history.specs.Damage.{DifferFirst, EntryDiffers, IsCellDamage, IsDamage, IsEntryDamage, missing, replayed}
+use Rattle.register_history.specs.Kept.{AreCellsOf, IsKey, Keeps}
+use Rattle.register_history.specs.Legal.{IsNext, Legal}
+use Rattle.register_history.specs.Register.{IsKeptAfter}
+use Rattle.register_state.specs.Shelving.{IsShelved}
+use Rattle.register_history.specs.State.{OfficeState, office_of}
 
 -- A stored entry was replayed: where it is what the replay makes, it stands behind the others, and the table is the one
 -- after it; else this is what the replay makes in its place.
@@ -56,18 +56,6 @@ abbrev pub AllReplay : Limits → Option KeptTables → History → TableState �
 AllReplay limits told after table None =
     IfSome told (λ tables. tables.entries ≡ after) × Legal (office_of limits after) × IsKeptAfter limits after table
 AllReplay limits told after table (Some damage) = IfSome told (λ tables. IsEntryDamage limits tables.entries damage)
-
--- A cell stands under the key of a row, and was touched by an entry up to this one.
-pub record Stands (last : ℕ) (key : KeyTexts) (cell : Cell) : Type 0 where
-  pub row_key : RowKey
-  pub is_key : IsKey row_key
-  pub under : key ≡ cell_key row_key
-  pub some : 1 ≤ cell.entry
-  pub most : cell.entry ≤ last
-
--- Each cell that is held stands so.
-abbrev pub AllStand : ℕ → Held → Type 0
-AllStand last held = (key : KeyTexts) (cell : Cell) → get held key ≡ Some cell → Stands last key cell
 
 -- Two lists of cells are the same, or this is the first difference.
 abbrev pub Compares : List KeptCell → List KeptCell → Option Damage → Type 0

@@ -2,15 +2,19 @@
 ghost use Rattle.std.specs.Prelude.{◌≡◌, ◌≤◌, IfOk, IfSome, IsErrOf, IsTrue, Some, option_map, slice_get};
 ghost use Rattle.lei_outside.specs.Count.{Rose};
 ghost use Rattle.lei_outside.specs.Keeping.{AreKept, LeavesNoMore, Stays};
-ghost use Rattle.lei_office.specs.Damage.{cell_or_none, kept_page, made_page, not_kept, not_made, page_bounds};
-ghost use Rattle.lei_office.specs.Opening.{AllCompare, AllStand, Compares};
+ghost use Rattle.register_history.specs.Damage.{cell_or_none, kept_page, made_page, not_kept, not_made, page_bounds};
+ghost use Rattle.lei_office.specs.Opening.{AllCompare, Compares};
+ghost use Rattle.register_history.specs.Standing.{AllStand};
 
-use crate::damage::{Damage, cell_line};
-use crate::keeping::touched_cells;
-use crate::opening::PAGE;
+use crate::damage::cell_line;
 use lei_outside::{Bytes, KeepFault, Keeper, KeptCell, NoMemory};
+use register_history::Damage;
+use register_state::touched_cells;
 use register_table::Table;
 use std::alloc::Global;
+
+/// So many entries are read at once, and the cells of so many are compared at once.
+pub const PAGE: u64 = 16;
 
 /// Compares all cells with those of a register after this many entries. Says the first that differs.
 pub fn compare_cells<K: Keeper>(

@@ -1,26 +1,15 @@
 //! How the first difference between what a keeper has and what its entries come to is told.
 ghost use Rattle.std.specs.Prelude.{◌≡◌, ◌++◌, ◌∷◌, IfOk, OnOk, flat_map, map};
-ghost use Rattle.lei_office.specs.Damage.{cell_line, entry_line, kind_word, moment_word, or_dash, row_word};
-ghost use Rattle.lei_office.specs.Kept.{joined};
+ghost use Rattle.register_history.specs.Damage.{cell_line, entry_line, kind_word, moment_word, or_dash, row_word};
+ghost use Rattle.register_history.specs.Kept.{joined};
 
 use lei_outside::{Bytes, KeptCell, KeptEntry, NoMemory, Shared};
 use lei_shapes::Moment;
 use std::alloc::Global;
 use upload_ledger::{ACCREDIT, PUBLISH, UPLOAD};
 
-/// The first difference between what a keeper has and what its entries come to when they are replayed.
-#[derive(Debug, PartialEq, Eq, Drop)]
-pub struct Damage {
-    /// The number of the entry that differs, or of the entry that touched the cell last.
-    pub entry: u64,
-    /// What is kept, in one line, or `none`.
-    pub kept: Bytes,
-    /// What the replay makes in its place: a line, the text of a reply, `none` or `NOT_AN_ENTRY`.
-    pub replayed: Bytes,
-}
-
 // An entry in one line.
-#[tactic(auto, unfolding(crate::specs::Damage::entry_line))]
+#[tactic(auto, unfolding(register_history::specs::Damage::entry_line))]
 pub fn entry_line(alloc: Global, entry: &KeptEntry) -> Result<Bytes, NoMemory>
     ensures { IfOk result (λ line. line ≡ entry_line entry.now) }
 {
@@ -40,7 +29,7 @@ pub fn entry_line(alloc: Global, entry: &KeptEntry) -> Result<Bytes, NoMemory>
 }
 
 // A cell in one line.
-#[tactic(auto, unfolding(crate::specs::Damage::cell_line))]
+#[tactic(auto, unfolding(register_history::specs::Damage::cell_line))]
 pub fn cell_line(alloc: Global, cell: &KeptCell) -> Result<Bytes, NoMemory>
     ensures { IfOk result (λ line. line ≡ cell_line cell.now) }
 {

@@ -7,30 +7,27 @@ ghost use Rattle.lei_records.specs.Tables.{IsSound};
 ghost use Rattle.successor_rules.specs.Successors.{HasChains};
 ghost use Rattle.relation_rules.specs.Parents.{AreApart, HasParents};
 ghost use Rattle.upload_ledger.specs.History.{last_entry};
-ghost use Rattle.lei_office.specs.declared.reply.Refusal.TheVariants.{KeeperFault};
-ghost use Rattle.lei_office.specs.declared.reply.Reply.TheVariants.{Words};
-ghost use Rattle.lei_office.specs.Kept.{Keeps};
-ghost use Rattle.lei_office.specs.Legal.{IsNumbered, IsRequest, Legal, MomentsNeverFall, UploadsAreNumbered};
-ghost use Rattle.lei_office.specs.Limits.{AreLimits};
-ghost use Rattle.lei_office.specs.Parties.{ChangesArePermitted};
-ghost use Rattle.lei_office.specs.Deciding.{reply_or};
+ghost use Rattle.register_words.specs.declared.reply.Refusal.TheVariants.{KeeperFault};
+ghost use Rattle.register_words.specs.declared.reply.Reply.TheVariants.{Words};
+ghost use Rattle.register_history.specs.Kept.{Keeps};
+ghost use Rattle.register_history.specs.Legal.{Legal, MomentsNeverFall, UploadsAreNumbered};
+ghost use Rattle.register_words.specs.Requests.{IsNumbered, IsRequest};
+ghost use Rattle.register_words.specs.Limits.{AreLimits};
+ghost use Rattle.register_history.specs.Parties.{ChangesArePermitted};
+ghost use Rattle.register_state.specs.Deciding.{reply_or};
 ghost use Rattle.lei_office.specs.Offices.{FaultRose, IsRefused, keeper_back};
-ghost use Rattle.lei_office.specs.Register.{IsKeptAfter, after};
-ghost use Rattle.lei_office.specs.Replies.{Step, StepOf, outcome_at};
-ghost use Rattle.lei_office.specs.Shelving.{IsShelved, back_to};
-ghost use Rattle.lei_office.specs.State.{office_of};
+ghost use Rattle.register_history.specs.Register.{IsKeptAfter, after};
+ghost use Rattle.register_history.specs.Replies.{Step, StepOf, outcome_at};
+ghost use Rattle.register_state.specs.Shelving.{IsShelved, back_to};
+ghost use Rattle.register_history.specs.State.{office_of};
 
-use crate::deciding::{Decision, decide};
-use crate::entries::stamp;
-use crate::keeping::add;
-use crate::limits::Limits;
 use crate::opening::{Found, OpenFault, read_store};
-use crate::reply::{Refusal, Reply};
-use crate::request::Request;
 use golden_shelf::Shelf;
 use lei_outside::{KeepFault, Keeper, KeptEntry, NoMemory};
 use lei_shapes::Moment;
+use register_state::{Decision, add, decide, stamp};
 use register_table::Table;
+use register_words::{Limits, Refusal, Reply, Request};
 use std::alloc::Global;
 use std::marker::Model;
 use std::thread::Threads;
@@ -51,13 +48,13 @@ pub struct Office<K: Keeper> {
 }
 
 impl<K: Keeper> Model for Office<K> {
-    ghost use Rattle.lei_office.specs.Kept.{Keeps};
-    ghost use Rattle.lei_office.specs.Legal.{Legal};
-    ghost use Rattle.lei_office.specs.Limits.{AreLimits};
+    ghost use Rattle.register_history.specs.Kept.{Keeps};
+    ghost use Rattle.register_history.specs.Legal.{Legal};
+    ghost use Rattle.register_words.specs.Limits.{AreLimits};
     ghost use Rattle.lei_office.specs.Offices.{KeptOffice};
-    ghost use Rattle.lei_office.specs.Register.{IsKeptAfter};
-    ghost use Rattle.lei_office.specs.Shelving.{IsShelved};
-    ghost use Rattle.lei_office.specs.State.{office_of};
+    ghost use Rattle.register_history.specs.Register.{IsKeptAfter};
+    ghost use Rattle.register_state.specs.Shelving.{IsShelved};
+    ghost use Rattle.register_history.specs.State.{office_of};
 
     ghost Value = { KeptOffice K };
 

@@ -6,27 +6,24 @@ ghost use Rattle.lei_outside.specs.Keeping.{AreKept, LeavesNoMore, Stays, last_n
 ghost use Rattle.golden_shelf.specs.Shelves.{Keeps as KeepsTrail};
 ghost use Rattle.register_table.specs.Held.{no_rows, rows};
 ghost use Rattle.register_table.specs.Undos.{IsLater};
-ghost use Rattle.lei_office.specs.Legal.{Legal};
-ghost use Rattle.lei_office.specs.Limits.{AreLimits};
+ghost use Rattle.register_history.specs.Legal.{Legal};
+ghost use Rattle.register_words.specs.Limits.{AreLimits};
 ghost use Rattle.lei_office.specs.Opening.{AllReplay, IsFound, IsRead};
-ghost use Rattle.lei_office.specs.Register.{IsKeptAfter};
-ghost use Rattle.lei_office.specs.Shelving.{IsShelved, ShelvesUnless};
-ghost use Rattle.lei_office.specs.State.{office_of};
+ghost use Rattle.register_history.specs.Register.{IsKeptAfter};
+ghost use Rattle.register_state.specs.Shelving.{IsShelved, ShelvesUnless};
+ghost use Rattle.register_history.specs.State.{office_of};
 
-use crate::comparing::compare_cells;
-use crate::damage::Damage;
-use crate::limits::Limits;
+use crate::comparing::{PAGE, compare_cells};
 use crate::replaying::replay_page;
 use golden_shelf::Shelf;
 use lei_outside::{KeepFault, Keeper, NoMemory};
+use register_history::Damage;
 use register_table::Table;
+use register_words::Limits;
 use std::alloc::Global;
 use std::thread::Threads;
 use upload_format::Reader;
 use upload_ledger::Ledger;
-
-/// So many entries are read at once, and the cells of so many are compared at once.
-pub const PAGE: u64 = 16;
 
 /// Why an office can't be opened. The keeper comes back with its tables as they were.
 #[derive(Drop)]

@@ -6,27 +6,26 @@ ghost use Rattle.register_table.specs.Held.{rows};
 ghost use Rattle.register_table.specs.Undos.{IsLater, MayApply, touch_all};
 ghost use Rattle.upload_ledger.specs.History.{stamp};
 ghost use Rattle.upload_ledger.specs.Limits.{AreFew};
-ghost use Rattle.lei_office.specs.Damage.{accreditation_in, asked_by, missing, publication_in, request_in, upload_in};
-ghost use Rattle.lei_office.specs.Legal.{IsNumbered, Legal};
-ghost use Rattle.lei_office.specs.Limits.{AreLimits};
+ghost use Rattle.register_history.specs.Damage.{accreditation_in, asked_by, missing, publication_in, request_in, upload_in};
+ghost use Rattle.register_history.specs.Legal.{Legal};
+ghost use Rattle.register_words.specs.Requests.{IsNumbered};
+ghost use Rattle.register_words.specs.Limits.{AreLimits};
 ghost use Rattle.lei_office.specs.Opening.{PageReplays, Replays};
-ghost use Rattle.lei_office.specs.Register.{IsKeptAfter};
-ghost use Rattle.lei_office.specs.Shelving.{IsShelved, ShelvesUnless};
-ghost use Rattle.lei_office.specs.State.{office_of};
-ghost use Rattle.lei_office.specs.Words.{reply_words};
+ghost use Rattle.register_history.specs.Register.{IsKeptAfter};
+ghost use Rattle.register_state.specs.Shelving.{IsShelved, ShelvesUnless};
+ghost use Rattle.register_history.specs.State.{office_of};
+ghost use Rattle.register_words.specs.Refusals.{reply_words};
 
-use crate::damage::{Damage, entry_line};
-use crate::deciding::{Decision, decide};
-use crate::entries::stamp;
-use crate::limits::Limits;
-use crate::reply::Reply;
-use crate::request::{Call, Request, is_upload_number};
+use crate::damage::entry_line;
 use golden_shelf::Shelf;
 use lei_code::Lei;
 use lei_outside::{Bytes, KeptEntry, NoMemory};
 use lei_records::Writes;
 use lei_shapes::Moment;
+use register_history::Damage;
+use register_state::{Decision, decide, stamp};
 use register_table::Table;
+use register_words::{Call, Limits, Reply, Request, is_upload_number};
 use std::alloc::Global;
 use std::thread::Threads;
 use upload_format::Reader;
@@ -198,7 +197,7 @@ fn reply_words(alloc: Global, reply: Reply) -> Result<Bytes, NoMemory>
 
 // The request that a stored entry was taken for, with its moment. None where its values are those of no request, or its
 // moment isn't one.
-#[tactic(auto, unfolding(crate::specs::Damage::asked_by))]
+#[tactic(auto, unfolding(register_history::specs::Damage::asked_by))]
 fn asked_by(alloc: Global, stored: &KeptEntry) -> Result<Option<(Request, Moment)>, NoMemory>
     ensures request { IfOk result (λ asked. option_map (λ one. one.0) asked ≡ asked_by stored.now) }
     ensures moment { IfOk result (λ asked. IfSome asked (λ one. one.1 ≡ stored.now.moment)) }

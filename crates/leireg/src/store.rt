@@ -21,6 +21,6 @@ pub fn keeper_at<'a>(host: &'a HostRuntime, path: Option<&str>) -> StoreKeeper<'
 pub fn close(keeper: StoreKeeper<'_>) {
     match keeper {
         OneOf::First(keeper) => forget(keeper),
-        OneOf::Second(watched) => watched.keeper.close(),
+        OneOf::Second(keeper) => drop(keeper),
     }
 }

@@ -49,6 +49,3 @@ fn machine_moment<R: MachineClock>(rt: &R) -> Option<i64>
         None
     }
 }
-
-#[cfg(test)]
-mod tests;

@@ -3,8 +3,6 @@
 #![tactic(auto)]
 
 mod clock;
-#[cfg(test)]
-mod fakes;
 mod files;
 mod streams;
 mod watched;

@@ -144,6 +144,3 @@ fn write_once<W: Write>(writer: &mut W, piece: &[u8]) -> Result<usize, Failed>
     }
     Err(Failed)
 }
-
-#[cfg(test)]
-mod tests;

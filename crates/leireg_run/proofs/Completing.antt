@@ -6,11 +6,11 @@ use Rattle.lei_code.specs.Fault.{fault_of}
 use Rattle.lei_code.specs.declared.fault.LeiFault.{LeiFault}
 use Rattle.lei_outside.specs.Count.{Rose}
 use Rattle.lei_outside.specs.Told.{Grows, Loses, IsAtEnd}
-use Rattle.lei_office.specs.declared.reply.Refusal.TheVariants.{NoMemory}
-use Rattle.lei_office.specs.declared.reply.Reply.TheVariants.{Words}
-use Rattle.lei_office.specs.Legal.{Session, replies_to}
-use Rattle.lei_office.specs.State.{OfficeState}
-use Rattle.lei_office.proofs.Sessions.{exact}
+use Rattle.register_words.specs.declared.reply.Refusal.TheVariants.{NoMemory}
+use Rattle.register_words.specs.declared.reply.Reply.TheVariants.{Words}
+use Rattle.register_history.specs.Legal.{Session, replies_to}
+use Rattle.register_history.specs.State.{OfficeState}
+use Rattle.register_history.proofs.Sessions.{exact}
 use Rattle.leireg_run.specs.Codes.{check_line, digits_fault, digits_line, told_status, TellsLine}
 use Rattle.lei_outside.specs.Keeping.{KeptTables}
 use Rattle.leireg_run.specs.Ends.{AnswersLines, Completes, Does, EndsWith, FailsToOpen, IsComplete, Opens, TellsDamage, TellsSummary}
@@ -18,15 +18,15 @@ use Rattle.leireg_run.specs.Applying.{files}
 use Rattle.register_demo.specs.Session.{IsSummary}
 use Rattle.lei_code.specs.Texts.{Text}
 use Rattle.leireg_run.proofs.Applied.{completes_files}
-use Rattle.leireg_run.specs.Faults.{RoseBy, keeper_faults}
-use Rattle.leireg_run.specs.Limits.{input_limit}
+use Rattle.line_reading.specs.Faults.{RoseBy, keeper_faults}
+use Rattle.line_reading.specs.Limits.{input_limit}
 use Rattle.leireg_run.specs.Outside.{Course, Leads, Outside}
-use Rattle.leireg_run.specs.Runs.{asks_of}
+use Rattle.line_reading.specs.Runs.{asks_of}
 use Rattle.program_words.specs.Words.{Deed, to_answer_lines, to_check, to_make_digits, to_make_up, to_patch, to_serve}
 use Rattle.leireg_run.specs.Status.{end_status, stop_status}
 use Rattle.leireg_run.specs.declared.status.Stop.{Stop}
 use Rattle.leireg_run.specs.declared.status.Stop.TheVariants as stops
-use Rattle.leireg_run.proofs.Counting.{none_told}
+use Rattle.line_reading.proofs.Counting.{none_told}
 
 -- what was read of told bytes, to their end
 told_read : (bytes read : List ℕ) (left : Option (List ℕ)) → Loses (Some bytes) left read → IsAtEnd left → read ≡ bytes

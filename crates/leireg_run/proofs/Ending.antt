@@ -7,20 +7,20 @@ use Rattle.lei_outside.specs.Told.{Grows, Loses, IsAtEnd, WritesFront}
 use Rattle.lei_outside.specs.declared.faults.SinkFault.{SinkFault}
 use Rattle.lei_outside.proofs.Told.{Loses-none, Loses-join}
 use Rattle.lei_outside.specs.Keeping.{KeptTables}
-use Rattle.lei_office.specs.declared.request.Asked.{Asked}
-use Rattle.lei_office.specs.Kept.{Keeps}
-use Rattle.lei_office.specs.State.{OfficeState}
+use Rattle.register_words.specs.declared.request.Asked.{Asked}
+use Rattle.register_history.specs.Kept.{Keeps}
+use Rattle.register_history.specs.State.{OfficeState}
 use Rattle.leireg_run.specs.Ends.{AnswersLines, AnswersSome, EndsWith, RunsFrom, StopsWriting}
-use Rattle.leireg_run.specs.Limits.{input_limit, line_limit, read_limit}
-use Rattle.leireg_run.specs.Lines.{HasNoEnd, IsClosed, Line, whole_part, last_part}
+use Rattle.line_reading.specs.Limits.{input_limit, line_limit, read_limit}
+use Rattle.line_reading.specs.Lines.{HasNoEnd, IsClosed, Line, whole_part, last_part}
 use Rattle.leireg_run.specs.Outside.{Course, Leads, Outside, outside}
-use Rattle.leireg_run.specs.Reading.{Holds, TakesIn}
-use Rattle.leireg_run.specs.Requests.{asked}
-use Rattle.leireg_run.specs.Runs.{asks_of, Answers, AnswersInPart, ComesTo, GoesOn, Progress, Ran, Stopped, progress}
-use Rattle.leireg_run.specs.Window.{Fills, StaysUnread}
-use Rattle.leireg_run.proofs.Going.{Ran-nothing, all_answers, all_written, now_so, ran_flushed, ran_stops}
-use Rattle.leireg_run.proofs.Joining.{asks_of-append, lines_for}
-use Rattle.leireg_run.proofs.LineLemmas.{IsClosed-append, IsClosed-whole_part, HasNoEnd-last_part, HasNoEnd-nil, parts_of, whole_part-is, lines-end, lines-closed}
+use Rattle.line_reading.specs.Reading.{Holds, TakesIn}
+use Rattle.line_reading.specs.Requests.{asked}
+use Rattle.line_reading.specs.Runs.{asks_of, Answers, AnswersInPart, ComesTo, GoesOn, Progress, Ran, Stopped, progress}
+use Rattle.line_reading.specs.Window.{Fills, StaysUnread}
+use Rattle.line_reading.proofs.Going.{Ran-nothing, all_answers, all_written, now_so, ran_flushed, ran_stops}
+use Rattle.line_reading.proofs.Joining.{asks_of-append, lines_for}
+use Rattle.line_reading.proofs.LineLemmas.{IsClosed-append, IsClosed-whole_part, HasNoEnd-last_part, HasNoEnd-nil, parts_of, whole_part-is, lines-end, lines-closed}
 
 -- ---- what a reader holds
 

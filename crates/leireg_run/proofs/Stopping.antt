@@ -34,12 +34,3 @@ pub sink_failed : (fault : SinkFault) (result : Result (Unit {0}) Stop) → IsEr
 sink_failed Failed result of is = refl
 sink_failed NoMemory (Ok done) of is = absurd of
 sink_failed NoMemory (Err e) of is = cc
-
--- a fault that is handed on is the same one
-pub handed_on : {S T : Type 0} (fault : SinkFault) (result : Result T SinkFault) → IsErrAnd result (λ e. e ≡ fault)
-    → IsErrOf result Failed → IsErrOf {T = S} {E = SinkFault} (Err fault) Failed
-handed_on fault (Ok done) are is = absurd are
-handed_on {S} fault (Err e) are is =
-    let same : fault ≡ Failed = cc in
-    let as_result : SinkFault → Result S SinkFault = λ f. Err f in
-    ap as_result same

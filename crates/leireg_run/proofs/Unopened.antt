@@ -4,12 +4,13 @@ use Rattle.std.specs.Prelude.{IfSome}
 use Rattle.lei_outside.specs.Count.{Rose}
 use Rattle.lei_outside.specs.Keeping.{KeptTables, Stays}
 use Rattle.lei_outside.specs.Told.{Grows}
-use Rattle.lei_office.specs.declared.damage.Damage.{Damage}
-use Rattle.lei_office.specs.Damage.{IsDamage}
-use Rattle.lei_office.specs.Limits.{standard}
-use Rattle.lei_office.specs.State.{OfficeState}
-use Rattle.leireg_run.specs.Ends.{EndsWith, IsDamageTold, IsOpened, IsUnopened, MayTell, RunsFrom, RunsLines, TellsDamage, damage_text}
-use Rattle.leireg_run.specs.Faults.{RoseBy, keeper_faults}
+use Rattle.register_history.specs.declared.damage.Damage.{Damage}
+use Rattle.register_history.specs.Damage.{IsDamage}
+use Rattle.register_words.specs.Limits.{standard}
+use Rattle.register_history.specs.State.{OfficeState}
+use Rattle.leireg_run.specs.Ends.{EndsWith, IsDamageTold, IsUnopened, MayTell, RunsFrom, RunsLines, TellsDamage, damage_text}
+use Rattle.line_reading.specs.Opened.{IsOpened}
+use Rattle.line_reading.specs.Faults.{RoseBy, keeper_faults}
 use Rattle.leireg_run.specs.Outside.{Course, Outside, outside}
 use Rattle.leireg_run.specs.Status.{stop_status}
 use Rattle.leireg_run.specs.declared.status.Stop.{Stop}

@@ -31,11 +31,6 @@ digits_fault text = if length text == 18 then character_fault text else Some Len
 abbrev pub digits_line : Text → Text
 digits_line text = line_or (digits text) (digits_fault text)
 
--- A text was written whole; or the output refused, and took a front of it and not all.
-abbrev pub IsWritten : {E : Type 0} → Option (List ℕ) → Option (List ℕ) → Text → Result (Unit {0}) E → Type 0
-IsWritten before after text result =
-    MatchResult result (λ _. Grows before after text) (λ _. WritesFront before after text)
-
 -- The status where a line is written: 0, or 2 where it tells a fault.
 abbrev pub told_status : Option LeiFault → ℕ
 told_status None = 0

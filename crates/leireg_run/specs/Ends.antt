@@ -6,22 +6,23 @@ use Rattle.lei_outside.specs.Keeping.{KeptTables, Stays}
 use Rattle.lei_outside.specs.Told.{Grows, IsAtEnd, WritesFront}
 use Rattle.lei_code.specs.Fault.{fault_of}
 use Rattle.lei_code.specs.Texts.{Text}
-use Rattle.lei_office.specs.declared.reply.Refusal.TheVariants.{NoMemory}
-use Rattle.lei_office.specs.declared.reply.Reply.{Reply}
-use Rattle.lei_office.specs.declared.reply.Reply.TheVariants.{Words}
-use Rattle.lei_office.specs.declared.damage.Damage.{Damage}
-use Rattle.lei_office.specs.Damage.{IsDamage}
-use Rattle.lei_office.specs.Kept.{Keeps}
-use Rattle.lei_office.specs.State.{OfficeState}
-use Rattle.lei_office.specs.Legal.{Legal, Session, replies_to}
-use Rattle.lei_office.specs.Limits.{standard}
-use Rattle.leireg_run.specs.Codes.{check_line, digits_fault, digits_line, told_status, IsWritten, TellsLine}
-use Rattle.leireg_run.specs.Limits.{input_limit, read_limit}
-use Rattle.leireg_run.specs.Lines.{Line, whole_part}
-use Rattle.leireg_run.specs.Moments.{Gives}
+use Rattle.register_words.specs.declared.reply.Refusal.TheVariants.{NoMemory}
+use Rattle.register_words.specs.declared.reply.Reply.{Reply}
+use Rattle.register_words.specs.declared.reply.Reply.TheVariants.{Words}
+use Rattle.register_history.specs.declared.damage.Damage.{Damage}
+use Rattle.register_history.specs.Damage.{IsDamage}
+use Rattle.register_history.specs.Kept.{Keeps}
+use Rattle.register_history.specs.State.{OfficeState}
+use Rattle.register_history.specs.Legal.{Legal, Session, replies_to}
+use Rattle.register_words.specs.Limits.{standard}
+use Rattle.leireg_run.specs.Codes.{check_line, digits_fault, digits_line, told_status, TellsLine}
+use Rattle.line_reading.specs.Outbox.{IsWritten}
+use Rattle.line_reading.specs.Limits.{input_limit, read_limit}
+use Rattle.line_reading.specs.Lines.{Line, whole_part}
+use Rattle.line_reading.specs.Moments.{Gives}
 use Rattle.leireg_run.specs.Outside.{Course, Leads, Outside}
-use Rattle.leireg_run.specs.Replies.{reply_texts}
-use Rattle.leireg_run.specs.Runs.{asks_of, Answers, AnswersInPart}
+use Rattle.line_reading.specs.Replies.{reply_texts}
+use Rattle.line_reading.specs.Runs.{asks_of, Answers, AnswersInPart}
 use Rattle.leireg_run.specs.declared.status.Stop.{Stop}
 use Rattle.leireg_run.specs.declared.status.Stop.TheVariants as stops
 use Rattle.register_demo.specs.Session.{IsSummary}
@@ -87,13 +88,6 @@ pub record RunsFrom (from : OfficeState) (before after : Outside) (status : ℕ)
   pub ends : EndsWith status course after
 
 -- ---- the office that a run begins with
-
--- The office of what a keeper tells: it has the standard limits and a legal history, and where the keeper tells its tables,
--- they are those of this office.
-pub record IsOpened (told : Option KeptTables) (office : OfficeState) : Type 0 where
-  pub limits : office.limits ≡ standard
-  pub legal : Legal office
-  pub keeps : Keeps told office
 
 -- A keeper of this kind may tell this.
 abbrev pub MayTell : {K : Type 0} → (K → Option KeptTables) → Option KeptTables → Type 0

@@ -2,11 +2,11 @@
 use Rattle.std.specs.Prelude.{ℕ, ℤ, List, Option}
 use Rattle.lei_outside.specs.Keeping.{KeptTables}
 use Rattle.lei_outside.specs.Told.{Grows, Loses}
-use Rattle.lei_office.specs.declared.reply.Reply.{Reply}
-use Rattle.lei_office.specs.Kept.{Keeps}
-use Rattle.lei_office.specs.State.{OfficeState}
-use Rattle.leireg_run.specs.Faults.{RoseBy, keeper_faults}
-use Rattle.leireg_run.specs.Moments.{Gives}
+use Rattle.register_words.specs.declared.reply.Reply.{Reply}
+use Rattle.register_history.specs.Kept.{Keeps}
+use Rattle.register_history.specs.State.{OfficeState}
+use Rattle.line_reading.specs.Faults.{RoseBy, keeper_faults}
+use Rattle.line_reading.specs.Moments.{Gives}
 
 -- What the devices of a run tell at one time: the bytes that the input has left, the moments that the clock has
 -- given, the bytes that were written to the output, what the keeper has kept, and how many calls of the keeper have

@@ -3,10 +3,9 @@ ghost use Rattle.std.specs.Prelude.{◌≡◌, ◌++◌, [], vec_len, IfErr, IfO
 ghost use Rattle.lei_outside.specs.Faults.{FailsLast};
 ghost use Rattle.leireg_run.specs.Files.{IsFileStop, IsReadWhole};
 
-use crate::outbox::BLOCK;
 use crate::status::Stop;
-use crate::window::read_behind;
 use lei_outside::{Bytes, NoMemory, Source, SureSource};
+use line_reading::{BLOCK, read_behind};
 use std::alloc::Global;
 
 /// The bytes of a file at which its reading ends. This project's profile.

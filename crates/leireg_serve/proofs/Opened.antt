@@ -1,10 +1,10 @@
 -- Serving over a store that was opened.
 use Rattle.std.proofs.Common.{◌≡◌, ℕ, ℤ, List, Option, None, Some, inl, inr, refl, sym, ap, subst}
 use Rattle.lei_outside.specs.Keeping.{KeptTables, Stays}
-use Rattle.lei_office.specs.Kept.{Keeps}
-use Rattle.lei_office.specs.Legal.{Legal}
-use Rattle.lei_office.specs.Limits.{standard}
-use Rattle.lei_office.specs.State.{OfficeState}
+use Rattle.register_history.specs.Kept.{Keeps}
+use Rattle.register_history.specs.Legal.{Legal}
+use Rattle.register_words.specs.Limits.{standard}
+use Rattle.register_history.specs.State.{OfficeState}
 use Rattle.leireg_run.specs.Ends.{MayTell}
 use Rattle.leireg_serve.specs.Desks.{IsNoneToCome, LineTells, ServesDesk, stage}
 use Rattle.leireg_serve.specs.Ends.{EndsServing, OpensAndServes, Outside, desk_status, outside}

@@ -1,7 +1,7 @@
 -- What serving the lines of a door does.
 use Rattle.std.specs.Prelude.{◌≡◌, ℕ, ℤ, List, [], ◌∷◌, ◌++◌, map, Option, None, Some, IfSome}
 use Rattle.lei_outside.specs.Count.{Rose}
-use Rattle.lei_office.specs.State.{OfficeState}
+use Rattle.register_history.specs.State.{OfficeState}
 use Rattle.issuer_http.specs.Serving.{Serves, progress}
 use Rattle.issuer_http.specs.declared.ended.Ended.{Ended}
 

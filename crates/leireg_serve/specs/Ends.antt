@@ -2,11 +2,11 @@
 use Rattle.std.specs.Prelude.{◌≡◌, ◌⊎◌, ℕ, ℤ, List, Option, IfSome}
 use Rattle.lei_outside.specs.Count.{Rose}
 use Rattle.lei_outside.specs.Keeping.{KeptTables, Stays}
-use Rattle.lei_office.specs.Damage.{IsDamage}
-use Rattle.lei_office.specs.Kept.{Keeps}
-use Rattle.lei_office.specs.Limits.{standard}
-use Rattle.lei_office.specs.State.{OfficeState}
-use Rattle.lei_office.specs.declared.damage.Damage.{Damage}
+use Rattle.register_history.specs.Damage.{IsDamage}
+use Rattle.register_history.specs.Kept.{Keeps}
+use Rattle.register_words.specs.Limits.{standard}
+use Rattle.register_history.specs.State.{OfficeState}
+use Rattle.register_history.specs.declared.damage.Damage.{Damage}
 use Rattle.leireg_run.specs.Ends.{Opens}
 use Rattle.leireg_serve.specs.Desks.{IsNoneToCome, LineTells, ServesDesk, stage}
 use Rattle.leireg_serve.specs.declared.desk.DeskEnd.{DeskEnd}

@@ -150,6 +150,3 @@ fn prepare(stream: &TcpStream, deadlines: &Deadlines) -> io::Result<()> {
     stream.set_nodelay(true)?;
     deadlines.apply(stream)
 }
-
-#[cfg(test)]
-mod tests;

@@ -1,10 +1,10 @@
 -- Words: what the words behind the program's name ask for. This project's profile.
 use Rattle.std.specs.Prelude.{◌≤◌, ℕ, List, [], ◌∷◌, codes, if◌then◌else◌, Option, Some, None, option_map, option_and_then}
 use Rattle.std.specs.Str.{bytes_eq}
-use Rattle.copy_csv.specs.declared.sheets.Form.{Form}
-use Rattle.copy_csv.specs.declared.sheets.Sheet.{Sheet}
+use Rattle.register_words.specs.declared.sheets.Form.{Form}
+use Rattle.register_words.specs.declared.sheets.Sheet.{Sheet}
 use Rattle.lei_code.specs.Texts.{Text}
-use Rattle.request_words.specs.Words.{form_of, number_within, sheet_of}
+use Rattle.register_words.specs.Words.{form_of, number_within, sheet_of}
 use Rattle.clap.specs.Walk.{Row, first_of}
 use Rattle.program_words.specs.Commands.{apply_app, check_app, demo_app, digits_app, lines_app, read_by, serve_app}
 use Rattle.program_words.specs.declared.runs.Command.{Command}

@@ -12,7 +12,7 @@ use crate::commands::{
 use crate::fault::WordsFault;
 use clap::ArgMatches;
 use copy_csv::{Form, Sheet};
-use request_words::{form_of, number_within, sheet_of};
+use register_words::{form_of, number_within, sheet_of};
 use std::alloc::Global;
 
 /// How many connections a worker takes where it isn't said, and at most. This project's profile.

@@ -1,15 +1,15 @@
 -- What the parts of a session come to.
 use Rattle.std.proofs.Common.{◌≡◌, ℕ, cond, zero-add, suc, ◌+◌, ◌*◌, ◌-◌, ◌≤◌, ◌<◌, List, [], ◌∷◌, ◌++◌, length, refl, sym, ap, subst, ◌∙◌, arith, append_assoc, length-append}
 use Rattle.std.specs.Prelude.{count_by, Err, Ok, Result}
-use Rattle.copy_csv.specs.declared.sheets.Form.TheVariants.{Csv}
-use Rattle.copy_csv.specs.declared.sheets.Sheet.TheVariants.{Rr}
+use Rattle.register_words.specs.declared.sheets.Form.TheVariants.{Csv}
+use Rattle.register_words.specs.declared.sheets.Sheet.TheVariants.{Rr}
 use Rattle.delta_apply.specs.declared.fault.ApplyFault.{ApplyFault}
 use Rattle.delta_apply.specs.declared.fault.ApplyFault.TheVariants as faults
 use Rattle.delta_apply.specs.Applying.{IsAnswer, UnlessNoMemory}
-use Rattle.lei_office.specs.declared.reply.Reply.{Reply}
-use Rattle.lei_office.specs.declared.request.Request.{Request}
-use Rattle.lei_office.specs.Legal.{Legal}
-use Rattle.lei_office.specs.State.{OfficeState}
+use Rattle.register_words.specs.declared.reply.Reply.{Reply}
+use Rattle.register_words.specs.declared.request.Request.{Request}
+use Rattle.register_history.specs.Legal.{Legal}
+use Rattle.register_history.specs.State.{OfficeState}
 use Rattle.register_demo.specs.Marks.{rows_in}
 use Rattle.register_demo.specs.Plan.{block_count}
 use Rattle.register_demo.specs.Requests.{Answers, accreditations, deltas, demo_requests, first_publication, office_from, replies_from, second_publication, uploads_of}

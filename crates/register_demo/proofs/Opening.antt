@@ -4,19 +4,19 @@ use Rattle.std.specs.Prelude.{slice_get, count_by, ◌-◌}
 use Rattle.lei_outside.specs.Keeping.{KeptTables, Stays, last_number, nothing_kept, number_of}
 use Rattle.lei_outside.specs.Memory.{SureKeeperState, tables_of}
 use Rattle.lei_outside.specs.declared.entry.KeptEntry.{KeptEntry}
-use Rattle.lei_office.specs.Damage.{IsDamage}
-use Rattle.lei_office.specs.Kept.{Keeps}
-use Rattle.lei_office.specs.Legal.{Legal}
-use Rattle.lei_office.specs.Limits.{standard}
+use Rattle.register_history.specs.Damage.{IsDamage}
+use Rattle.register_history.specs.Kept.{Keeps}
+use Rattle.register_history.specs.Legal.{Legal}
+use Rattle.register_words.specs.Limits.{standard}
 use Rattle.lei_office.specs.Offices.{IsRefused, keeper_back}
-use Rattle.lei_office.specs.State.{OfficeState, office_of, opened}
-use Rattle.lei_office.specs.declared.damage.Damage.{Damage}
-use Rattle.lei_office.specs.declared.limits.Limits.{Limits}
+use Rattle.register_history.specs.State.{OfficeState, office_of, opened}
+use Rattle.register_history.specs.declared.damage.Damage.{Damage}
+use Rattle.register_words.specs.declared.limits.Limits.{Limits}
 use Rattle.lei_office.specs.declared.opening.OpenFault.{OpenFault}
 use Rattle.lei_office.specs.declared.opening.OpenFault.TheVariants.{StoreDamaged}
-use Rattle.lei_office.proofs.Excluding.{damage-excludes}
+use Rattle.register_history.proofs.Excluding.{damage-excludes}
 use Rattle.lei_office.proofs.Leading.{legal-last}
-use Rattle.lei_office.proofs.TableLemmas.{keeps-none}
+use Rattle.register_history.proofs.TableLemmas.{keeps-none}
 use Rattle.register_demo.specs.Marks.{rows_in}
 use Rattle.register_demo.specs.Requests.{demo_requests, office_from}
 use Rattle.register_demo.specs.Session.{IsSummary, IsTold, is_made, is_told, text_of, texts_of, told_text}

@@ -5,12 +5,12 @@ use Rattle.std.specs.List.{range_with_len}
 use Rattle.std.proofs.lemmas.List.Sums.{sum_by-cons}
 use Rattle.std.specs.Int.{from_bool}
 use Rattle.std.proofs.lemmas.List.FromFn.{length-map-range_with_len}
-use Rattle.lei_office.specs.declared.reply.Reply.{Reply}
-use Rattle.lei_office.specs.declared.reply.Reply.TheVariants.{Words}
-use Rattle.lei_office.specs.declared.reply.Refusal.TheVariants.{KeeperFault, NoMemory}
-use Rattle.lei_office.specs.declared.request.Request.{Request}
-use Rattle.lei_office.specs.Replies.{next, reply, Step}
-use Rattle.lei_office.specs.State.{OfficeState}
+use Rattle.register_words.specs.declared.reply.Reply.{Reply}
+use Rattle.register_words.specs.declared.reply.Reply.TheVariants.{Words}
+use Rattle.register_words.specs.declared.reply.Refusal.TheVariants.{KeeperFault, NoMemory}
+use Rattle.register_words.specs.declared.request.Request.{Request}
+use Rattle.register_history.specs.Replies.{next, reply, Step}
+use Rattle.register_history.specs.State.{OfficeState}
 use Rattle.register_demo.specs.Plan.{block_count}
 use Rattle.register_demo.specs.Requests.{Answers, moment_behind, office_from, replies_from, upload_of, uploads_from, uploads_of}
 use Rattle.register_demo.specs.Session.{is_told, text_of, texts_of}

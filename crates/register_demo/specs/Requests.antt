@@ -1,16 +1,16 @@
 -- The requests that make a register, and the moments at which they come: this project's profile.
 use Rattle.std.specs.Prelude.{◌≡◌, ℕ, ◌+◌, ◌*◌, ℤ, pos, List, [], ◌∷◌, ◌++◌, length, map}
 use Rattle.std.specs.List.{range_with_len}
-use Rattle.copy_csv.specs.declared.sheets.Form.TheVariants.{Csv}
-use Rattle.copy_csv.specs.declared.sheets.Sheet.TheVariants.{Lei, Rr}
-use Rattle.golden_shelf.specs.declared.base.Base.TheVariants.{Number}
-use Rattle.lei_office.specs.declared.request.Asked.TheVariants.{Ask}
-use Rattle.lei_office.specs.declared.request.Request.{Request}
-use Rattle.lei_office.specs.declared.request.Request.TheVariants.{Accredit, Copy, Delta, Publish, Upload}
-use Rattle.lei_office.specs.declared.reply.Reply.{Reply}
-use Rattle.lei_office.specs.Legal.{replies_to}
-use Rattle.lei_office.specs.Replies.{next}
-use Rattle.lei_office.specs.State.{OfficeState}
+use Rattle.register_words.specs.declared.sheets.Form.TheVariants.{Csv}
+use Rattle.register_words.specs.declared.sheets.Sheet.TheVariants.{Lei, Rr}
+use Rattle.register_words.specs.declared.base.Base.TheVariants.{Number}
+use Rattle.register_words.specs.declared.request.Asked.TheVariants.{Ask}
+use Rattle.register_words.specs.declared.request.Request.{Request}
+use Rattle.register_words.specs.declared.request.Request.TheVariants.{Accredit, Copy, Delta, Publish, Upload}
+use Rattle.register_words.specs.declared.reply.Reply.{Reply}
+use Rattle.register_history.specs.Legal.{replies_to}
+use Rattle.register_history.specs.Replies.{next}
+use Rattle.register_history.specs.State.{OfficeState}
 use Rattle.register_demo.specs.Bodies.{block_body}
 use Rattle.register_demo.specs.Codes.{first_issuer, manager, second_issuer}
 use Rattle.register_demo.specs.Plan.{block_count, upload_number}

@@ -1,16 +1,16 @@
 -- What is answered to the requests that make a register, and what is told of that.
 use Rattle.std.specs.Prelude.{◌≡◌, ℕ, ◌+◌, ◌*◌, Bool, ◌==◌, List, [], ◌∷◌, ◌++◌, count_by, flat_map, length, Result, Ok, Err}
-use Rattle.copy_csv.specs.declared.sheets.Form.TheVariants.{Csv}
-use Rattle.copy_csv.specs.declared.sheets.Sheet.TheVariants.{Rr}
+use Rattle.register_words.specs.declared.sheets.Form.TheVariants.{Csv}
+use Rattle.register_words.specs.declared.sheets.Sheet.TheVariants.{Rr}
 use Rattle.delta_apply.specs.declared.fault.ApplyFault.{ApplyFault}
 use Rattle.delta_apply.specs.Applying.{IsAnswer}
 use Rattle.lei_code.specs.Texts.{Text}
-use Rattle.lei_office.specs.declared.reply.Reply.{Reply}
-use Rattle.lei_office.specs.declared.reply.Reply.TheVariants as replies
-use Rattle.lei_office.specs.Legal.{Legal}
-use Rattle.lei_office.specs.Limits.{standard}
-use Rattle.lei_office.specs.State.{OfficeState, opened}
-use Rattle.lei_office.specs.Words.{reply_status_code}
+use Rattle.register_words.specs.declared.reply.Reply.{Reply}
+use Rattle.register_words.specs.declared.reply.Reply.TheVariants as replies
+use Rattle.register_history.specs.Legal.{Legal}
+use Rattle.register_words.specs.Limits.{standard}
+use Rattle.register_history.specs.State.{OfficeState, opened}
+use Rattle.register_words.specs.Refusals.{reply_status_code}
 use Rattle.register_demo.specs.Marks.{rows_in}
 use Rattle.register_demo.specs.Plan.{block_count}
 use Rattle.register_demo.specs.Requests.{Answers, accreditations, deltas, demo_requests, first_publication, office_from, replies_from, second_publication, uploads_of}

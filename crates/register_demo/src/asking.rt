@@ -1,7 +1,8 @@
 // Requests, put to an office one after the other.
 ghost use Rattle.std.specs.Prelude.{◌≡◌, ◌↔◌, ◌≤◌, ◌+◌, ◌++◌, count_by, IfOk, IsTrue, OnOk};
-ghost use Rattle.lei_office.specs.Legal.{IsNumbered, Legal};
-ghost use Rattle.lei_office.specs.Replies.{next, reply};
+ghost use Rattle.register_history.specs.Legal.{Legal};
+ghost use Rattle.register_words.specs.Requests.{IsNumbered};
+ghost use Rattle.register_history.specs.Replies.{next, reply};
 ghost use Rattle.register_demo.specs.Plan.{block_count};
 ghost use Rattle.register_demo.specs.Requests.{moment_behind, office_from, replies_from, upload_of, uploads_of};
 ghost use Rattle.register_demo.specs.Session.{is_told, text_of, texts_of};

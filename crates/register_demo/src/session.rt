@@ -1,7 +1,7 @@
 // The requests of a session, and what is told of the replies.
 ghost use Rattle.std.specs.Prelude.{◌≡◌, ◌≤◌, ◌+◌, ◌*◌, ◌∷◌, [], cond, IfOk, OnOk};
-ghost use Rattle.lei_office.specs.Legal.{Legal};
-ghost use Rattle.lei_office.specs.declared.reply.Reply.{Reply as Answer};
+ghost use Rattle.register_history.specs.Legal.{Legal};
+ghost use Rattle.register_words.specs.declared.reply.Reply.{Reply as Answer};
 ghost use Rattle.register_demo.specs.Plan.{block_count};
 ghost use Rattle.register_demo.specs.Requests.{Answers, accreditations, deltas, first_publication};
 ghost use Rattle.register_demo.specs.Session.{IsPatchedSize, IsTold, MakesRecords, MakesRelationships, Repeats, is_made, text_of};

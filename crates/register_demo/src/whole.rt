@@ -2,8 +2,8 @@
 ghost use Rattle.std.specs.Prelude.{◌≡◌, ◌≤◌, IfOk};
 ghost use Rattle.lei_outside.specs.Keeping.{last_number};
 ghost use Rattle.lei_outside.specs.Memory.{tables_of};
-ghost use Rattle.lei_office.specs.Limits.{standard};
-ghost use Rattle.lei_office.specs.State.{opened};
+ghost use Rattle.register_words.specs.Limits.{standard};
+ghost use Rattle.register_history.specs.State.{opened};
 ghost use Rattle.register_demo.specs.Requests.{request_count};
 ghost use Rattle.register_demo.specs.Session.{IsSummary, told_text};
 ghost use Rattle.register_demo.specs.declared.summary.Told.{Told as Found};

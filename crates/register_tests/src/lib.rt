@@ -1,10 +1,14 @@
 //! Tests of the register's crates from outside, of what no clause says and no worked example shows. A crate with tests is
-//! proved twice, with them and without, so the large crates have none of their own.
+//! proved twice, with them and without, so no other crate has any.
 #![tactic(auto)]
 
 pub mod batches;
 #[cfg(test)]
 mod copies;
+#[cfg(test)]
+mod devices;
+#[cfg(test)]
+mod fakes;
 #[cfg(test)]
 mod http;
 #[cfg(test)]
@@ -15,6 +19,10 @@ mod moments;
 mod patches;
 #[cfg(test)]
 mod runs;
+#[cfg(test)]
+mod sessions;
+#[cfg(test)]
+mod sockets;
 #[cfg(test)]
 mod sqlite_keeper;
 #[cfg(test)]

@@ -1,5 +1,5 @@
 // What an office answers, where no session of the program shows it: under other limits than the standard ones.
-ghost use Rattle.lei_office.specs.Limits.{AreLimits};
+ghost use Rattle.register_words.specs.Limits.{AreLimits};
 
 use lei_code::Lei;
 use lei_office::{Call, Limits, Office, Reply, Request, is_upload_number};

@@ -175,12 +175,10 @@ fn run<S: Alter>(keeper: &mut SqliteKeeper<S>, alloc: Global, session: Session) 
     }
 }
 
-// Opens the file for one session, and closes it behind that.
+// Opens the file for one session. The keeper lets it go at the end.
 fn open(rt: &HostRuntime, path: &str, session: Session) -> bool {
     let mut keeper = SqliteKeeper::on_file(rt, path);
-    let went = run(&mut keeper, rt.alloc(), session);
-    keeper.close();
-    went
+    run(&mut keeper, rt.alloc(), session)
 }
 
 #[test]

@@ -2,3 +2,4 @@ pub mod Loops
 pub mod Members
 pub mod Values
 pub mod OrderedLemmas
+pub mod JsonTexts

@@ -4,7 +4,7 @@ use Rattle.std.specs.Str.{IsUtf8, is_utf8}
 use Rattle.std.proofs.lemmas.Str.{is_utf8-from_IsUtf8, IsUtf8-from_is_utf8}
 use Rattle.serde_json.specs.Data.{Data}
 use Rattle.serde_json.specs.Read.{read}
-use Rattle.upload_format.specs.declared.fault.Malformed.TheVariants.{NotJson}
+use Rattle.register_words.specs.declared.malformed.Malformed.TheVariants.{NotJson}
 use Rattle.upload_format.specs.Bodies.{value_of, parsed}
 
 pub value_of-read : (body : List ℕ) (value : Data) → IsUtf8 body → read body ≡ Some value → parsed (value_of body) ≡ Ok value

@@ -6,8 +6,8 @@ use Rattle.serde_json.specs.Data.{Data, Items, no_items, item, Members, no_membe
 use Rattle.serde_json.specs.Find.{get_member, as_str, as_array, as_object}
 use Rattle.serde_json.specs.Read.{read}
 use Rattle.lei_code.specs.Texts.{Body, Text}
-use Rattle.upload_format.specs.declared.fault.Malformed.{Malformed}
-use Rattle.upload_format.specs.declared.fault.Malformed.TheVariants.{NotJson, NotAnUpload, NoItems, TooManyItems}
+use Rattle.register_words.specs.declared.malformed.Malformed.{Malformed}
+use Rattle.register_words.specs.declared.malformed.Malformed.TheVariants.{NotJson, NotAnUpload, NoItems, TooManyItems}
 use Rattle.upload_format.specs.declared.fault.UploadFault.{UploadFault}
 use Rattle.upload_format.specs.declared.fault.UploadFault.TheVariants as faults
 use Rattle.lei_records.specs.declared.fields.Kind.{Kind}

@@ -6,5 +6,6 @@ mod fault;
 mod ordered;
 mod reading;
 
-pub use fault::{Malformed, UploadFault};
+pub use fault::UploadFault;
 pub use reading::{MAX_ITEMS, Reader, read_upload};
+pub use register_words::Malformed;

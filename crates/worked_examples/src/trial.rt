@@ -1,7 +1,6 @@
 //! Runs of the program, and what comes of them.
 ghost use Rattle.std.specs.Prelude.{◌≤◌};
 
-use crate::file;
 use crate::stores::{Store, keeper_of, path_of};
 use example_sessions::{Came, Run};
 use lei_outside::{Bytes, KeepFault, Keeper, ListClock, NoMemory, Sink, SureSink, SureSource};
@@ -9,9 +8,9 @@ use leireg_run::{Untold, run};
 use std::alloc::Global;
 use std::thread::Threads;
 
-/// What a run is made with, beside its keeper.
+// What a run is made with, beside its keeper.
 #[derive(Drop)]
-pub struct Devices {
+struct Devices {
     source: SureSource,
     second: SureSource,
     sink: SureSink,
@@ -19,7 +18,7 @@ pub struct Devices {
 }
 
 impl Devices {
-    /// Those of a run, with at most so many bytes a read and a write.
+    // Those of a run, with at most so many bytes a read and a write.
     fn of(alloc: Global, wanted: &Run, most: usize) -> Result<Self, NoMemory>
         requires { 1 ≤ most }
     {
@@ -34,8 +33,8 @@ impl Devices {
         })
     }
 
-    /// Makes the run over a keeper. Says its status, and gives the keeper back.
-    pub fn run<R: Threads + Sync, K: Keeper>(
+    // Makes the run over a keeper. Says its status, and gives the keeper back.
+    fn run<R: Threads + Sync, K: Keeper>(
         &mut self,
         rt: &R,
         alloc: Global,
@@ -79,23 +78,5 @@ pub fn came_in_memory<R: Threads + Sync>(
     if let Some(path) = path_of(alloc, wanted) {
         stores.push(Store::of(alloc, path, &mut keeper)?)?;
     }
-    Ok(devices.came(alloc, status)?)
-}
-
-/// Makes a run over a file. Its store is the file at its path, and where it has none it is over a keeper in memory.
-pub fn came_over_file<R: Threads + Sync>(
-    rt: &R,
-    host: &HostRuntime,
-    wanted: &Run,
-    most: usize,
-) -> Result<Came, KeepFault>
-    requires { 1 ≤ most }
-{
-    let alloc = host.alloc();
-    let Some(path) = path_of(alloc, wanted) else {
-        return came_in_memory(rt, alloc, wanted, most, &mut Vec::new(alloc));
-    };
-    let mut devices = Devices::of(alloc, wanted, most)?;
-    let status = file::status_over(rt, host, path, wanted, &mut devices)?;
     Ok(devices.came(alloc, status)?)
 }

@@ -1,7 +1,7 @@
 use Rattle.std.proofs.Common.{◌<◌, ◌^◌, List, length, map, sym, subst, ◌∙◌, rules, refl}
 use Rattle.std.specs.List.{All}
 use Rattle.std.proofs.lemmas.Bool.{false≢true}
-use Rattle.copy_csv.specs.declared.sheets.Form.{Form}
+use Rattle.register_words.specs.declared.sheets.Form.{Form}
 use Rattle.copy_forms.specs.Files.{IsDelta}
 use Rattle.copy_csv.specs.declared.rows.Change.{Change}
 use Rattle.copy_csv.specs.Rows.{AreRising, IsChangeOf, changed_key}

@@ -1,5 +1,5 @@
 use Rattle.std.proofs.Common.{◌<◌, ◌^◌, length, sym, subst, rules}
-use Rattle.copy_csv.specs.declared.sheets.Form.{Form}
+use Rattle.register_words.specs.declared.sheets.Form.{Form}
 use Rattle.delta_apply.specs.Applying.{IsAnswer, UnlessNoMemory}
 use Rattle.delta_apply.proofs.Answering.{answer_leads_on, answers_alone}
 use Rattle.delta_apply.proofs.applying.apply.Goals as goal

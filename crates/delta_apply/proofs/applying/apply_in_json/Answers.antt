@@ -1,6 +1,6 @@
 use Rattle.std.proofs.Common.{List, sym, subst}
 use Rattle.copy_csv.specs.declared.rows.Change.{Change}
-use Rattle.copy_csv.specs.declared.sheets.Form.{Form}
+use Rattle.register_words.specs.declared.sheets.Form.{Form}
 use Rattle.copy_csv.specs.Sheets.{SheetRow}
 use Rattle.copy_forms.specs.Files.{IsCopy, IsDelta}
 use Rattle.delta_apply.proofs.Answering.{json-answer, json-copy, json-delta}

@@ -1,7 +1,7 @@
 use Rattle.std.proofs.Common.{◌≡◌, ◌∙◌, sym, ap, refl, subst}
-use Rattle.lei_office.specs.declared.reply.Refusal.TheVariants.{NoMemory}
-use Rattle.lei_office.specs.declared.request.Asked.{Asked}
-use Rattle.lei_office.specs.declared.request.Asked.TheVariants.{Refuse}
+use Rattle.register_words.specs.declared.reply.Refusal.TheVariants.{NoMemory}
+use Rattle.register_words.specs.declared.request.Asked.{Asked}
+use Rattle.register_words.specs.declared.request.Asked.TheVariants.{Refuse}
 use Rattle.issuer_http.specs.Requests.{MayWantMemory, asked_in, asked_of, want_of}
 use Rattle.issuer_http.specs.Serving.{progress}
 use Rattle.issuer_http.proofs.Ranging.{is_numbered, step_refused, step_wanting, tells_no_fault}

@@ -1,5 +1,5 @@
 use Rattle.std.proofs.Common.{sym, subst}
-use Rattle.lei_office.specs.declared.reply.Reply.{Reply}
+use Rattle.register_words.specs.declared.reply.Reply.{Reply}
 use Rattle.issuer_http.specs.Responses.{IsSent, response_bytes}
 use Rattle.issuer_http.proofs.Sending.{text_sent}
 use Rattle.issuer_http.proofs.responses.send_response.Goals as goal

@@ -1,9 +1,9 @@
 use Rattle.std.proofs.Common.{◌≡◌, ◌≤◌, ◌+◌, ◌-◌, ◌*◌, ◌/◌, arith, subst, ◌∙◌}
 use Rattle.std.specs.Prelude.{IfSome}
-use Rattle.lei_office.specs.Damage.{kept_page, made_page, page_bounds}
+use Rattle.register_history.specs.Damage.{kept_page, made_page, page_bounds}
 use Rattle.lei_office.specs.Opening.{Compares}
 use Rattle.lei_office.proofs.ComparedPages.{all-agree, leaves-join, page-agrees, page-differs, stays-join, stays-told}
-use Rattle.lei_office.proofs.Pages.{PagesAgree}
+use Rattle.register_history.proofs.Pages.{PagesAgree}
 use Rattle.lei_outside.specs.Keeping.{AreKept}
 use Rattle.lei_office.proofs.comparing.compare_cells.Goals as goal
 

@@ -1,7 +1,7 @@
 use Rattle.std.proofs.Common.{◌≡◌}
 use Rattle.std.specs.Prelude.{IfSome}
 use Rattle.lei_outside.specs.Keeping.{LeavesNoMore, Stays}
-use Rattle.lei_office.proofs.Pages.{PagesAgree}
+use Rattle.register_history.proofs.Pages.{PagesAgree}
 use Rattle.lei_office.proofs.comparing.compare_cells.Given as goal
 
 abbrev pub invariant-loop-page : goal.invariant-loop-page

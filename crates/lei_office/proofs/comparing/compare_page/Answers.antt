@@ -1,6 +1,6 @@
 use Rattle.std.proofs.Common.{subst}
 use Rattle.lei_office.specs.Opening.{Compares}
-use Rattle.lei_office.proofs.Cells.{touched-page}
+use Rattle.register_history.proofs.Cells.{touched-page}
 use Rattle.lei_office.proofs.ComparedPages.{page-compares}
 use Rattle.lei_office.proofs.comparing.compare_page.Goals as goal
 

@@ -1,7 +1,7 @@
 use Rattle.std.proofs.Common.{◌≡◌, Some, get_or, length, option_map, slice_get, take, arith, ap, refl, rules, subst, sym, ◌∙◌}
 use Rattle.std.proofs.lemmas.Option.{slice_get-get_or}
 use mathlib.Core.Bool.{true≢false}
-use Rattle.lei_office.specs.Damage.{not_made}
+use Rattle.register_history.specs.Damage.{not_made}
 use Rattle.lei_office.proofs.Differing.{differs-at, lacks-at, one-more, same-all}
 use Rattle.lei_office.proofs.comparing.first_difference.Goals as goal
 

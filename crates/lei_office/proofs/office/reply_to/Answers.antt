@@ -1,10 +1,10 @@
 use Rattle.std.proofs.Common.{◌≤◌, of_z, rules, to_z, w64}
-use Rattle.lei_office.specs.Register.{after, entry_writes}
-use Rattle.lei_office.specs.Replies.{outcome_at}
-use Rattle.lei_office.specs.State.{office_of}
+use Rattle.register_history.specs.Register.{after, entry_writes}
+use Rattle.register_history.specs.Replies.{outcome_at}
+use Rattle.register_history.specs.State.{office_of}
 use Rattle.register_table.specs.Held.{rows}
-use Rattle.lei_office.proofs.TableLemmas.{entry-may, held-told, kept-added}
-use Rattle.lei_office.proofs.Outcomes.{adds_of, never_fault, next_number, stays_of}
+use Rattle.register_history.proofs.TableLemmas.{entry-may, held-told, kept-added}
+use Rattle.register_state.proofs.Outcomes.{adds_of, never_fault, next_number, stays_of}
 use Rattle.lei_office.proofs.office.reply_to.Goals as goal
 
 pub add-added-requires-clause-may : goal.add-added-requires-clause-may

@@ -1,5 +1,5 @@
-use Rattle.lei_office.proofs.Shelved.{shelved-none}
-use Rattle.lei_office.proofs.TableLemmas.{kept-none}
+use Rattle.register_state.proofs.Shelved.{shelved-none}
+use Rattle.register_history.proofs.TableLemmas.{kept-none}
 use Rattle.lei_office.proofs.opening.read_store.Goals as goal
 
 pub replay_store-requires-clause-table : goal.replay_store-requires-clause-table

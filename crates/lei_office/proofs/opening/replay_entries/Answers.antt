@@ -1,13 +1,13 @@
 use Rattle.std.proofs.Common.{◌≡◌, arith, refl, subst, sym, ◌∙◌}
 use Rattle.std.specs.Prelude.{IfSome}
 use Rattle.lei_outside.specs.Keeping.{entries_between}
-use Rattle.lei_office.specs.Legal.{Legal}
+use Rattle.register_history.specs.Legal.{Legal}
 use Rattle.lei_office.specs.Opening.{PageReplays}
-use Rattle.lei_office.specs.Register.{IsKeptAfter}
-use Rattle.lei_office.specs.Shelving.{IsShelved, ShelvesUnless}
-use Rattle.lei_office.specs.State.{office_of}
+use Rattle.register_history.specs.Register.{IsKeptAfter}
+use Rattle.register_state.specs.Shelving.{IsShelved, ShelvesUnless}
+use Rattle.register_history.specs.State.{office_of}
 use Rattle.lei_office.proofs.ComparedPages.{leaves-join, stays-itself, stays-join, stays-told}
-use Rattle.lei_office.proofs.Histories.{Legal-opened}
+use Rattle.register_history.proofs.Histories.{Legal-opened}
 use Rattle.lei_office.proofs.ReplayedPages.{Reached, told-all, told-damage, told-first, told-more}
 use Rattle.lei_office.proofs.opening.replay_entries.Goals as goal
 

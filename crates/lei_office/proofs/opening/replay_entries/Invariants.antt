@@ -1,10 +1,10 @@
 use Rattle.std.proofs.Common.{◌≡◌, ◌≤◌, ◌-◌}
 use Rattle.std.specs.Prelude.{IfSome}
 use Rattle.lei_outside.specs.Keeping.{LeavesNoMore, Stays}
-use Rattle.lei_office.specs.Legal.{Legal}
-use Rattle.lei_office.specs.Register.{IsKeptAfter}
-use Rattle.lei_office.specs.Shelving.{IsShelved}
-use Rattle.lei_office.specs.State.{office_of}
+use Rattle.register_history.specs.Legal.{Legal}
+use Rattle.register_history.specs.Register.{IsKeptAfter}
+use Rattle.register_state.specs.Shelving.{IsShelved}
+use Rattle.register_history.specs.State.{office_of}
 use Rattle.lei_office.proofs.ReplayedPages.{Reached}
 use Rattle.lei_office.proofs.opening.replay_entries.Given as goal
 

@@ -1,6 +1,7 @@
 use Rattle.std.proofs.Common.{ap, length, subst, sym, ◌≡◌}
-use Rattle.lei_office.specs.Opening.{AllReplay, AllStand}
-use Rattle.lei_office.proofs.Stored.{held-stands}
+use Rattle.lei_office.specs.Opening.{AllReplay}
+use Rattle.register_history.specs.Standing.{AllStand}
+use Rattle.register_history.proofs.Stored.{held-stands}
 use Rattle.lei_office.proofs.opening.replay_store.Goals as goal
 
 pub compare_cells-requires-clause-stand : goal.compare_cells-requires-clause-stand

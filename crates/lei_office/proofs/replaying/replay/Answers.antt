@@ -1,9 +1,9 @@
 use Rattle.std.proofs.Common.{◌≡◌, of_z, rules, subst, sym, to_z, w64, ◌∙◌}
 use Rattle.lei_shapes.specs.Moment.{IsMoment}
 use Rattle.upload_ledger.specs.History.{stamp}
-use Rattle.lei_office.specs.State.{office_of}
-use Rattle.lei_office.proofs.AskedFor.{none-asked}
-use Rattle.lei_office.proofs.Histories.{stamp-is_moment}
+use Rattle.register_history.specs.State.{office_of}
+use Rattle.register_history.proofs.AskedFor.{none-asked}
+use Rattle.register_history.proofs.Histories.{stamp-is_moment}
 use Rattle.lei_office.proofs.replaying.replay.Goals as goal
 
 pub replay_request-requires-clause-moment : goal.replay_request-requires-clause-moment

@@ -1,10 +1,10 @@
 use Rattle.std.proofs.Common.{◌≡◌, ◌≢◌, ◌+◌, length, arith, inl, inr, rules, sym, ap, subst, ◌∙◌}
-use Rattle.lei_office.specs.Damage.{missing}
-use Rattle.lei_office.specs.Legal.{Legal}
+use Rattle.register_history.specs.Damage.{missing}
+use Rattle.register_history.specs.Legal.{Legal}
 use Rattle.lei_office.specs.Opening.{Replays}
-use Rattle.lei_office.specs.Shelving.{ShelvesUnless}
-use Rattle.lei_office.specs.State.{office_of}
-use Rattle.lei_office.proofs.Histories.{Legal-push}
+use Rattle.register_state.specs.Shelving.{ShelvesUnless}
+use Rattle.register_history.specs.State.{office_of}
+use Rattle.register_history.proofs.Histories.{Legal-push}
 use Rattle.lei_office.proofs.Leading.{page-differs, page-grows}
 use Rattle.lei_office.proofs.replaying.replay_page.Goals as goal
 

@@ -1,8 +1,8 @@
 use Rattle.std.proofs.Common.{◌≡◌, ◌++◌, take}
-use Rattle.lei_office.specs.Legal.{Legal}
-use Rattle.lei_office.specs.Register.{IsKeptAfter}
-use Rattle.lei_office.specs.Shelving.{IsShelved}
-use Rattle.lei_office.specs.State.{office_of}
+use Rattle.register_history.specs.Legal.{Legal}
+use Rattle.register_history.specs.Register.{IsKeptAfter}
+use Rattle.register_state.specs.Shelving.{IsShelved}
+use Rattle.register_history.specs.State.{office_of}
 use Rattle.lei_office.proofs.replaying.replay_page.Given as goal
 
 abbrev pub invariant-loop-stored : goal.invariant-loop-stored

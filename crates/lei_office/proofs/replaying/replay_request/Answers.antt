@@ -2,12 +2,13 @@ use Rattle.std.proofs.Common.{◌≡◌, ◌≤◌, ◌++◌, ◌∷◌, [], ap,
 use mathlib.Core.Bool.{true≢false}
 use Rattle.register_table.specs.Held.{rows}
 use Rattle.register_table.specs.Undos.{IsLater}
-use Rattle.lei_office.specs.Register.{IsKeptAfter, after, entry_writes}
-use Rattle.lei_office.specs.Replies.{outcome_at}
-use Rattle.lei_office.specs.State.{office_of}
-use Rattle.lei_office.proofs.AskedFor.{adds-differs, adds-next, adds_is, stays-differs}
-use Rattle.lei_office.proofs.Outcomes.{adds_of, next_number, stays_of}
-use Rattle.lei_office.proofs.TableLemmas.{entry-may, kept-push}
+use Rattle.register_history.specs.Register.{IsKeptAfter, after, entry_writes}
+use Rattle.register_history.specs.Replies.{outcome_at}
+use Rattle.register_history.specs.State.{office_of}
+use Rattle.register_history.proofs.AskedFor.{adds-differs, adds-next, stays-differs}
+use Rattle.register_state.proofs.Outcomes.{adds_is}
+use Rattle.register_state.proofs.Outcomes.{adds_of, next_number, stays_of}
+use Rattle.register_history.proofs.TableLemmas.{entry-may, kept-push}
 use Rattle.lei_office.proofs.replaying.replay_request.Goals as goal
 
 pub returns-in_ok-reply_words-in-Stays-clause-replays : goal.returns-in_ok-reply_words-in-Stays-clause-replays

@@ -1,7 +1,7 @@
 use Rattle.std.proofs.Common.{◌<◌, ◌+◌, ℕ, Err, length, refl, sym, ap, subst, ◌∙◌, arith}
 use Rattle.lei_outside.proofs.Faulting.{fails_later}
 use Rattle.leireg_run.specs.Ends.{RunsFrom}
-use Rattle.leireg_run.specs.Limits.{input_limit}
+use Rattle.line_reading.specs.Limits.{input_limit}
 use Rattle.leireg_run.specs.Outside.{outside}
 use Rattle.leireg_run.proofs.Ending.{begins, ends_too_long, ends_well, fails_reading, flushed, reaches_end, stops_in, stops_last, stops_sending, stops_waiting, takes_in, unseen}
 use Rattle.leireg_run.proofs.Stopping.{read_status, sink_cause, sink_failed}

@@ -1,9 +1,9 @@
 use Rattle.std.proofs.Common.{◌≡◌, ◌-◌}
 use Rattle.leireg_run.proofs.Ending.{Midway}
 use Rattle.leireg_run.proofs.program.answer_input.Given as goal
-use Rattle.leireg_run.specs.Limits.{input_limit}
+use Rattle.line_reading.specs.Limits.{input_limit}
 use Rattle.leireg_run.specs.Outside.{outside}
-use Rattle.leireg_run.specs.Runs.{progress}
+use Rattle.line_reading.specs.Runs.{progress}
 
 abbrev pub invariant-loop-held : goal.invariant-loop-held
 invariant-loop-held g l =

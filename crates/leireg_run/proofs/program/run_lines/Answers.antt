@@ -1,6 +1,6 @@
 use Rattle.std.proofs.Common.{subst}
 use Rattle.lei_outside.specs.Keeping.{Stays}
-use Rattle.lei_office.specs.Limits.{standard}
+use Rattle.register_words.specs.Limits.{standard}
 use Rattle.lei_office.specs.Offices.{FaultRose, IsRefused, keeper_back}
 use Rattle.leireg_run.specs.Ends.{MayTell}
 use Rattle.leireg_run.proofs.Unopened.{damaged_opening}

@@ -1,5 +1,5 @@
 use Rattle.std.proofs.Common.{◌≡◌, [], ◌∷◌, List, ℕ, subst}
-use Rattle.lei_office.specs.declared.request.Request.TheVariants.{Accredit}
+use Rattle.register_words.specs.declared.request.Request.TheVariants.{Accredit}
 use Rattle.register_demo.specs.Codes.{first_issuer}
 use Rattle.register_demo.specs.Requests.{Answers}
 use Rattle.register_demo.proofs.Stages.{answers-two}

@@ -1,7 +1,7 @@
-use Rattle.golden_shelf.specs.declared.base.Base.TheVariants.{Number}
-use Rattle.lei_office.specs.declared.request.Request.TheVariants.{Delta}
-use Rattle.copy_csv.specs.declared.sheets.Form.TheVariants.{Csv}
-use Rattle.copy_csv.specs.declared.sheets.Sheet.TheVariants.{Lei, Rr}
+use Rattle.register_words.specs.declared.base.Base.TheVariants.{Number}
+use Rattle.register_words.specs.declared.request.Request.TheVariants.{Delta}
+use Rattle.register_words.specs.declared.sheets.Form.TheVariants.{Csv}
+use Rattle.register_words.specs.declared.sheets.Sheet.TheVariants.{Lei, Rr}
 use Rattle.register_demo.proofs.Stages.{answers-two}
 use Rattle.register_demo.proofs.session.ask_for_deltas.Goals as goal
 

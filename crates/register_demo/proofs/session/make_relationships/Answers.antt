@@ -1,5 +1,5 @@
 use Rattle.std.proofs.Common.{◌+◌, ◌*◌, arith, rules}
-use Rattle.lei_office.specs.declared.request.Request.TheVariants.{Publish}
+use Rattle.register_words.specs.declared.request.Request.TheVariants.{Publish}
 use Rattle.register_demo.proofs.Making.{makes-relationships}
 use Rattle.register_demo.proofs.Stages.{answers-one}
 use Rattle.register_demo.proofs.session.make_relationships.Goals as goal

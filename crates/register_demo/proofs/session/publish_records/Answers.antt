@@ -1,6 +1,6 @@
-use Rattle.lei_office.specs.declared.request.Request.TheVariants.{Copy, Publish}
-use Rattle.copy_csv.specs.declared.sheets.Form.TheVariants.{Csv}
-use Rattle.copy_csv.specs.declared.sheets.Sheet.TheVariants.{Lei, Rr}
+use Rattle.register_words.specs.declared.request.Request.TheVariants.{Copy, Publish}
+use Rattle.register_words.specs.declared.sheets.Form.TheVariants.{Csv}
+use Rattle.register_words.specs.declared.sheets.Sheet.TheVariants.{Lei, Rr}
 use Rattle.register_demo.proofs.Stages.{answers-three}
 use Rattle.register_demo.proofs.session.publish_records.Goals as goal
 

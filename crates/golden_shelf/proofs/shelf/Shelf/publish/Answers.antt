@@ -1,6 +1,6 @@
 use Rattle.std.proofs.Common.{[], ◌∷◌, ◌++◌, ap, sym, subst, ◌∙◌}
 use Rattle.lei_shapes.specs.Moment.{IsMoment}
-use Rattle.copy_csv.specs.declared.sheets.Sheet.{Sheet}
+use Rattle.register_words.specs.declared.sheets.Sheet.{Sheet}
 use Rattle.golden_shelf.specs.Lines.{with_lines}
 use Rattle.golden_shelf.specs.Parts.{kept_of}
 use Rattle.golden_shelf.specs.Shelves.{Keeps, lines_of}

@@ -1,11 +1,11 @@
 use Rattle.std.proofs.Common.{◌≡◌, ℤ, sym, ap, ◌∙◌, subst, of_z, to_z, w64, rules}
 use Rattle.lei_shapes.specs.Moment.{IsMoment}
 use Rattle.upload_ledger.specs.History.{stamp}
-use Rattle.lei_office.specs.State.{office_of}
-use Rattle.lei_office.proofs.Histories.{Legal-step, stamp-is_moment}
-use Rattle.lei_office.proofs.Orders.{never_fall, numbered}
-use Rattle.lei_office.proofs.Passing.{all_permitted}
-use Rattle.lei_office.proofs.Registers.{after-fit}
+use Rattle.register_history.specs.State.{office_of}
+use Rattle.register_history.proofs.Histories.{Legal-step, stamp-is_moment}
+use Rattle.register_history.proofs.Orders.{never_fall, numbered}
+use Rattle.register_history.proofs.Passing.{all_permitted}
+use Rattle.register_history.proofs.Registers.{after-fit}
 use Rattle.lei_office.proofs.office.Office.answer.Goals as goal
 
 pub reply_to-requires-clause-moment : goal.reply_to-requires-clause-moment

@@ -1,6 +1,6 @@
 use Rattle.std.proofs.Common.{◌∙◌, ◌-◌, ap, length, option_map, slice_get}
 use Rattle.upload_ledger.specs.History.{last_entry}
-use Rattle.lei_office.proofs.Histories.{last_found}
+use Rattle.register_history.proofs.Histories.{last_found}
 use Rattle.lei_office.proofs.office.Office.last_moment.Goals as goal
 
 pub returns : goal.returns

@@ -1,0 +1,123 @@
+-- Each check that is told on an upload's items is one: there is a check of its number.
+use Rattle.std.proofs.Common.{◌≡◌, ℕ, ℤ, List, [], ◌∷◌, ◌++◌, map, true, false, cond, Option, Some, None, option_map, unwrap_or, refl, subst}
+use Rattle.std.specs.List.{All}
+use Rattle.std.specs.Prelude.{IfSome}
+use Rattle.std.specs.Option.{option_or}
+use Rattle.std.proofs.lemmas.List.Elements.{All-cons, All-nil}
+use Rattle.lei_code.specs.Texts.{Lei, Text}
+use Rattle.lei_records.specs.Cells.{lei_in, successor_in}
+use Rattle.lei_records.specs.Checks.{FailedCheck, Finding, IsNumber, first_failing}
+use Rattle.lei_records.specs.Items.{failed_check, failed_field, is_withdrawal, item_of, miscoded_field, misshapen_field, missing_field, ready, readied, row_of, unknown_name}
+use Rattle.lei_records.specs.Rows.{Row}
+use Rattle.lei_records.specs.Tables.{Table, other_holder, put_all, record_of}
+use Rattle.lei_records.specs.declared.fields.Kind.{Kind}
+use Rattle.lei_records.specs.declared.item.Item.{Item}
+use Rattle.lei_records.specs.declared.item.RawItem.{RawItem}
+use Rattle.lei_records.specs.declared.item.Readied.{Readied}
+use Rattle.lei_records.specs.declared.view.RecCell.{RecCell}
+use Rattle.register_judge.specs.Checks.{c19, c20, held_checks, is_full, own_checks, successor_checks}
+use Rattle.register_judge.specs.Taking.{item_checks, take, verdict, verdict_of, writes_of}
+use Rattle.answer_texts.specs.Answers.{IsTold}
+
+-- there is a check of each finding's number
+abbrev AreNumbered : List Finding → Type 0
+AreNumbered [] = Unit {0}
+AreNumbered (finding ∷ findings) = IsNumber finding.number × AreNumbered findings
+
+both-numbered : (first second : List Finding) → AreNumbered first → AreNumbered second → AreNumbered (first ++ second)
+both-numbered [] second numbered others = others
+both-numbered (finding ∷ first) second numbered others = (numbered.0, both-numbered first second numbered.1 others)
+
+first-numbered : (findings : List Finding) (check : FailedCheck) → AreNumbered findings → first_failing findings ≡ Some check → IsNumber check.number
+first-numbered [] check numbered is = cc
+first-numbered (finding ∷ findings) check numbered is =
+    elim finding.fails as (λ b. cond b (Some (record { number = finding.number; detail = finding.detail })) (first_failing findings) ≡ Some check → IsNumber check.number) [
+      | true ↦ λ told.
+          let own : FailedCheck = record { number = finding.number; detail = finding.detail } in
+          let same : own ≡ check = cc in
+          let N : FailedCheck → Type 0 = λ c. IsNumber c.number in
+          subst N same numbered.0
+      | false ↦ λ told. first-numbered findings check numbered.1 told
+    ] is
+
+-- ---- the checks on a table
+
+held-numbered : (held : Option RecCell) (today : ℤ) (issuer : Lei) (row : Row) → AreNumbered (held_checks held today issuer row)
+held-numbered None today issuer row = (refl, (refl, (refl, (refl, (refl, (refl, tt))))))
+held-numbered (Some held) today issuer row = (refl, (refl, (refl, (refl, (refl, (refl, tt))))))
+
+successor-numbered : (table : Table) (row : Row) (successor : Option Lei) → AreNumbered (successor_checks table row successor)
+successor-numbered table row None = tt
+successor-numbered table row (Some successor) = (refl, (refl, (refl, tt)))
+
+parts-numbered : (own held followed taken full : List Finding) → AreNumbered own → AreNumbered held → AreNumbered followed → AreNumbered taken → AreNumbered full
+    → AreNumbered ((own ++ held ++ followed ++ taken) ++ full)
+parts-numbered own held followed taken full of_own of_held of_followed of_taken of_full =
+    both-numbered (own ++ held ++ followed ++ taken) full
+    (both-numbered (own ++ held ++ followed) taken (both-numbered (own ++ held) followed (both-numbered own held of_own of_held) of_followed) of_taken) of_full
+
+item-numbered : (table : Table) (limit : ℕ) (today : ℤ) (issuer : Lei) (item : Item) → AreNumbered (item_checks table limit today issuer item)
+item-numbered table limit today issuer (Item.Record row) =
+    let held = record_of table (lei_in row) in
+    let taken = c19 (other_holder table row) row ∷ [] in
+    let full = c20 held (is_full table limit) ∷ [] in
+    parts-numbered (own_checks today issuer row) (held_checks held today issuer row) (successor_checks table row (successor_in row)) taken full
+    (refl, (refl, (refl, (refl, (refl, tt))))) (held-numbered held today issuer row) (successor-numbered table row (successor_in row)) (refl, tt) (refl, tt)
+item-numbered table limit today issuer (Item.Relation row) = (refl, (refl, (refl, (refl, (refl, (refl, (refl, (refl, (refl, (refl, (refl, tt)))))))))))
+item-numbered table limit today issuer (Item.Exception item) = (refl, (refl, (refl, (refl, tt))))
+
+-- ---- the checks of fields
+
+field-numbered : (number : ℕ) (found : Option Text) (others : Option FailedCheck) (check : FailedCheck) → IsNumber number → (others ≡ Some check → IsNumber check.number)
+    → option_or (option_map (failed_field number) found) others ≡ Some check → IsNumber check.number
+field-numbered number None others check numbered rest is = rest is
+field-numbered number (Some name) others check numbered rest is =
+    let same : failed_field number name ≡ check = cc in
+    let N : FailedCheck → Type 0 = λ c. IsNumber c.number in
+    subst N same numbered
+
+last-numbered : (number : ℕ) (found : Option Text) (check : FailedCheck) → IsNumber number → option_map (failed_field number) found ≡ Some check → IsNumber check.number
+last-numbered number None check numbered is = cc
+last-numbered number (Some name) check numbered is =
+    let same : failed_field number name ≡ check = cc in
+    let N : FailedCheck → Type 0 = λ c. IsNumber c.number in
+    subst N same numbered
+
+fields-numbered : (kind : Kind) (pairs : List (Text × Text)) (check : FailedCheck) → failed_check kind pairs ≡ Some check → IsNumber check.number
+unfolding failed_check
+fields-numbered kind pairs check is =
+    field-numbered 1 (unknown_name kind pairs) _ check refl
+    (field-numbered 2 (missing_field kind pairs) _ check refl
+    (field-numbered 3 (misshapen_field kind pairs) _ check refl (last-numbered 4 (miscoded_field kind pairs) check refl))) is
+
+-- ---- verdicts
+
+of_failed : (failed : Option FailedCheck) → ((check : FailedCheck) → failed ≡ Some check → IsNumber check.number) → IsTold (verdict_of failed)
+of_failed None numbered = tt
+of_failed (Some check) numbered = numbered check refl
+
+of_item : (table : Table) (limit : ℕ) (today : ℤ) (issuer : Lei) (item : Item) → IsTold (verdict table limit today issuer (Readied.Good item))
+of_item table limit today issuer item =
+    let findings = item_checks table limit today issuer item in
+    of_failed (first_failing findings) (λ check is. first-numbered findings check (item-numbered table limit today issuer item) is)
+
+of_readied : (table : Table) (limit : ℕ) (today : ℤ) (issuer : Lei) (kind : Kind) (pairs : List (Text × Text)) (failed : Option FailedCheck) → failed_check kind pairs ≡ failed
+    → IsTold (verdict table limit today issuer (readied kind pairs failed))
+of_readied table limit today issuer kind pairs None is = of_item table limit today issuer (item_of kind (is_withdrawal pairs) (row_of kind pairs))
+of_readied table limit today issuer kind pairs (Some check) is = fields-numbered kind pairs check is
+
+of_raw : (table : Table) (limit : ℕ) (today : ℤ) (issuer : Lei) (raw : RawItem) → IsTold (verdict table limit today issuer (ready raw))
+of_raw table limit today issuer (RawItem.Record pairs) = of_readied table limit today issuer Kind.Record pairs (failed_check Kind.Record pairs) refl
+of_raw table limit today issuer (RawItem.Relation pairs) = of_readied table limit today issuer Kind.Relation pairs (failed_check Kind.Relation pairs) refl
+of_raw table limit today issuer (RawItem.Exception pairs) = of_readied table limit today issuer Kind.Exception pairs (failed_check Kind.Exception pairs) refl
+
+pub all_told : (table : Table) (limit : ℕ) (today : ℤ) (issuer : Lei) (raws : List RawItem) → All IsTold (take table limit today issuer (map ready raws)).verdicts
+all_told table limit today issuer [] = All-nil IsTold
+all_told table limit today issuer (raw ∷ raws) =
+    let given = verdict table limit today issuer (ready raw) in
+    All-cons IsTold given _ (of_raw table limit today issuer raw) (all_told (put_all (writes_of given (ready raw)) table) limit today issuer raws)
+
+-- a text that there is
+pub told_text : (told : Option Text) (text bytes : Text) → told ≡ Some text → IfSome told (λ written. bytes ≡ written) → bytes ≡ unwrap_or told []
+told_text None text bytes is writes = cc
+told_text (Some told) text bytes is writes = writes

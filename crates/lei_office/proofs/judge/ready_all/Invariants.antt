@@ -1,7 +1,0 @@
-use Rattle.std.proofs.Common.{◌≡◌, ◌++◌, drop, map}
-use Rattle.lei_records.specs.Items.{ready as ready_of}
-use Rattle.lei_office.proofs.judge.ready_all.Given as goal
-
--- the items so far with those of the rest are all
-abbrev pub invariant-loop-raw : goal.invariant-loop-raw
-invariant-loop-raw l = l.items.items ++ map ready_of (drop l.raw-index l.raws) ≡ map ready_of l.raws

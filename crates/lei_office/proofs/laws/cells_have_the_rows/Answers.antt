@@ -1,5 +1,0 @@
-use Rattle.lei_office.proofs.TableLemmas.{have_the_rows}
-use Rattle.lei_office.proofs.laws.cells_have_the_rows.Goals as goal
-
-pub returns : goal.returns
-returns c = have_the_rows

@@ -1,5 +1,0 @@
-use Rattle.lei_office.proofs.Passing.{all_permitted}
-use Rattle.lei_office.proofs.laws.changes_are_permitted.Goals as goal
-
-pub returns : goal.returns
-returns c = λ office legal. all_permitted office

@@ -1,5 +1,0 @@
-use Rattle.lei_office.proofs.Registers.{after-fit}
-use Rattle.lei_office.proofs.laws.successors_are_chained.Goals as goal
-
-pub returns : goal.returns
-returns c = λ office legal. (after-fit office.limits office.history).chains

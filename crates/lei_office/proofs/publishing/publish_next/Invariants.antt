@@ -1,4 +1,0 @@
-use Rattle.lei_office.proofs.publishing.publish_next.Given as goal
-
-abbrev pub ghosts-shelve : goal.ghosts-shelve
-ghosts-shelve g a = record { name = a.blank.name; parts = a.blank.parts }

@@ -1,0 +1,110 @@
+-- What a sink took, piece after piece.
+use Rattle.std.proofs.Common.{◌≡◌, ℕ, ◌+◌, ◌<◌, List, [], ◌∷◌, ◌++◌, length, take, drop, get_or, flat_map, Bor, Option, Result, Ok, Err, OnOk, OnErr, refl, sym, ap, ◌∙◌, append_assoc, arith, length-append, subst}
+use Rattle.std.proofs.lemmas.List.{append-nil, take-append-le, take-append-drop, take_more}
+use Rattle.std.proofs.lemmas.List.Concat.{flat_map-append}
+use Rattle.std.proofs.Math.Seq.{take-append-add}
+use Rattle.lei_outside.proofs.Told.{Grows-none, Grows-join}
+use Rattle.lei_outside.specs.Told.{Grows, WritesFront}
+use Rattle.line_reading.specs.Outbox.{IsWritten}
+use Rattle.line_reading.specs.Outbox.{Sends}
+
+pub Grows-front : (a b c : Option (List ℕ)) (xs ys : List ℕ) → Grows a b xs → WritesFront b c ys
+    → WritesFront a c (xs ++ ys)
+Grows-front a b c xs ys first front =
+    let n = front.0 in
+    let within : length xs + n < length (xs ++ ys) = omega (arith, length-append xs ys, front.1) in
+    let P : List ℕ → Type 0 = λ zs. Grows a c zs in
+    (length xs + n, within, subst P (sym (take-append-add xs ys n)) (Grows-join a b c xs (take n ys) first front.2))
+
+-- a front of a list is a front of a longer one
+pub WritesFront-longer : (a c : Option (List ℕ)) (xs ys : List ℕ) → WritesFront a c xs → WritesFront a c (xs ++ ys)
+WritesFront-longer a c xs ys front =
+    let n = front.0 in
+    let P : List ℕ → Type 0 = λ zs. Grows a c zs in (
+      n,
+      omega (arith, length-append xs ys, front.1),
+      subst P (sym (take-append-le n xs ys (omega (arith, front.1))))
+          front.2,
+    )
+
+-- ---- what was sent and waits, with a piece more
+
+pub Sends-then : (a b c : Option (List ℕ)) (all waits piece more : List ℕ) → Sends a b all waits
+    → Sends b c (waits ++ piece) more → Sends a c (all ++ piece) more
+Sends-then a b c all waits piece more first second = (
+  first.0 ++ second.0,
+  Grows-join a b c first.0 second.0 first.1 second.1,
+  ap (λ xs. xs ++ piece) first.2
+      ∙ (append_assoc first.0 waits piece
+      ∙ (ap (λ xs. first.0 ++ xs) second.2 ∙ sym (append_assoc first.0 second.0 more))),
+)
+
+pub Sends-front : (a b c : Option (List ℕ)) (all waits piece : List ℕ) → Sends a b all waits
+    → WritesFront b c (waits ++ piece) → WritesFront a c (all ++ piece)
+Sends-front a b c all waits piece first front =
+    let P : List ℕ → Type 0 = λ xs. WritesFront a c xs in
+    subst P (sym (append_assoc first.0 waits piece) ∙ ap (λ xs. xs ++ piece) (sym first.2))
+    (Grows-front a b c first.0 (waits ++ piece) first.1 front)
+
+-- what waits was sent, or refused
+pub sends_rest : {E : Type 0} (a b c : Option (List ℕ)) (all waits : List ℕ) (result : Result (Unit {0}) E)
+    → Sends a b all waits → OnOk result (Grows b c waits) → OnErr result (WritesFront b c waits)
+    → IsWritten a c all result
+sends_rest a b c all waits (Ok done) first grown front =
+    let G : List ℕ → Type 0 = λ xs. Grows a c xs in
+    subst G (sym first.2) (Grows-join a b c first.0 waits first.1 grown)
+sends_rest a b c all waits (Err fault) first grown front =
+    let W : List ℕ → Type 0 = λ xs. WritesFront a c xs in
+    subst W (sym first.2) (Grows-front a b c first.0 waits first.1 front)
+
+pub Sends-nothing : (a : Option (List ℕ)) (waits : List ℕ) → Sends a a waits waits
+Sends-nothing a waits = ([], Grows-none a, refl)
+
+-- ---- pieces one after another
+
+pub pieces_more : (pieces : List (Bor (List ℕ))) (i : ℕ) (d : Bor (List ℕ)) → i < length pieces
+    → flat_map (λ piece. piece.now) (take (i + 1) pieces) ≡ flat_map (λ piece. piece.now)
+    (take i pieces) ++ (get_or pieces i d).now
+pieces_more pieces i d within =
+    ap (flat_map (λ piece. piece.now)) (take_more pieces i d within)
+    ∙ (flat_map-append (λ (piece : Bor (List ℕ)). piece.now) (take i pieces) (get_or pieces i d ∷ [])
+    ∙ ap (λ xs. flat_map (λ piece. piece.now) (take i pieces) ++ xs) (append-nil (get_or pieces i d).now))
+
+pub pieces_rest : (pieces : List (Bor (List ℕ))) (i : ℕ)
+    → flat_map (λ piece. piece.now) (take i pieces) ++ flat_map (λ piece. piece.now) (drop i pieces) ≡ flat_map
+    (λ piece. piece.now) pieces
+pieces_rest pieces i = sym (flat_map-append (λ (piece : Bor (List ℕ)). piece.now) (take i pieces) (drop i pieces))
+    ∙ ap (flat_map (λ piece. piece.now)) (take-append-drop i pieces)
+
+-- a piece that was refused, and the pieces that were to come after it
+pub refused : (a b c : Option (List ℕ)) (pieces : List (Bor (List ℕ))) (i : ℕ) (d : Bor (List ℕ)) (held waits : List ℕ)
+    → i < length pieces
+    → Sends a b (held ++ flat_map (λ piece. piece.now) (take i pieces)) waits
+    → WritesFront b c (waits ++ (get_or pieces i d).now)
+    → WritesFront a c (held ++ flat_map (λ piece. piece.now) pieces)
+refused a b c pieces i d held waits within sent front =
+    let done = flat_map (λ (piece : Bor (List ℕ)). piece.now) (take i pieces) in
+    let here = (get_or pieces i d).now in
+    let rest = flat_map (λ (piece : Bor (List ℕ)). piece.now) (drop (i + 1) pieces) in
+    let P : List ℕ → Type 0 = λ xs. WritesFront a c xs in
+    let whole : ((held ++ done) ++ here) ++ rest ≡ held ++ flat_map (λ piece. piece.now) pieces =
+    ap (λ xs. xs ++ rest) (append_assoc held done here) ∙ (append_assoc held (done ++ here) rest
+    ∙ ap (λ xs. held ++ xs)
+    (ap (λ xs. xs ++ rest) (sym (pieces_more pieces i d within)) ∙ pieces_rest pieces (i + 1))) in
+    subst P whole (WritesFront-longer a c ((held ++ done) ++ here) rest
+    (Sends-front a b c (held ++ done) waits here sent front))
+
+-- ---- where nothing waits
+
+pub sent_then : (a b c : Option (List ℕ)) (all piece : List ℕ) → Sends a b all [] → Grows b c piece
+    → Sends a c (all ++ piece) []
+sent_then a b c all piece first more = (
+  first.0 ++ piece,
+  Grows-join a b c first.0 piece first.1 more,
+  ap (λ xs. xs ++ piece)
+      (first.2 ∙ append-nil first.0) ∙ sym (append-nil (first.0 ++ piece)),
+)
+
+pub sent_all : (a b : Option (List ℕ)) (all : List ℕ) → Sends a b all [] → Grows a b all
+sent_all a b all sent = let G : List ℕ
+    → Type 0 = λ xs. Grows a b xs in subst G (sym (sent.2 ∙ append-nil sent.0)) sent.1

@@ -1,0 +1,15 @@
+use Rattle.std.proofs.Common.{List, ℕ, Some, None, subst}
+use Rattle.memchr.specs.Find.{IsFirstByte, is_byte}
+use Rattle.line_reading.proofs.Running.{next_end, no_end}
+use Rattle.line_reading.proofs.answering.next_end.Goals as goal
+
+pub returns-in-Some-clause-found : goal.returns-in-Some-clause-found
+returns-in-Some-clause-found c =
+    let F : List ℕ → Type 0 = λ bytes. IsFirstByte (is_byte 10) bytes (Some c.in-Some.at) in
+    next_end c.args.rest.now c.args.seen c.in-Some.at c.requires.within c.requires.seen
+    (subst F c.split_at.ensures.back c.in-Some.ensures)
+
+pub returns-in-None-clause-none : goal.returns-in-None-clause-none
+returns-in-None-clause-none c =
+    let F : List ℕ → Type 0 = λ bytes. IsFirstByte (is_byte 10) bytes None in
+    no_end c.args.rest.now c.args.seen c.requires.seen (subst F c.split_at.ensures.back c.in-None.ensures)

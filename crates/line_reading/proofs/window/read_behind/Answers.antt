@@ -1,0 +1,18 @@
+use Rattle.std.proofs.Common.{◌+◌, ◌-◌, ◌≤◌, ◌++◌, List, ℕ, ap, take, drop, length, rules}
+use borrow.Rule.Slice.PartMut.{post_of}
+use Rattle.line_reading.proofs.Filling.{fills}
+use Rattle.line_reading.proofs.window.read_behind.Goals as goal
+
+pub returns-clause-ok : goal.returns-clause-ok
+returns-clause-ok g c =
+    let held = c.args.held in
+    let items = c.deref_mut.result.now in
+    let block = c.read.new.buffer in
+    let rest : List ℕ = post_of held (held + c.min.result - held) items in
+    let written = take held items ++ (block ++ rest) in
+    let within : held ≤ length items = search rules in
+    let fits : held + length block ≤ c.args.buffer.now.len = search rules in
+    let few : length block ≤ c.args.most = search rules in
+    fills _ _ c.read.result c.args.buffer.now.len held c.args.most _ items block rest
+    (drop (length written) c.args.buffer.now.items) (ap (take held) c.deref_mut.ensures.value) within fits few
+    c.read.ensures.bytes

@@ -1,0 +1,13 @@
+use Rattle.std.proofs.Common.{◌≡◌, ◌++◌, take, flat_map}
+use Rattle.line_reading.specs.Outbox.{Sends}
+use Rattle.line_reading.proofs.writing.put_all.Given as goal
+
+abbrev pub invariant-loop-piece : goal.invariant-loop-piece
+invariant-loop-piece g l =
+    let written = g.W.Sink.written in
+    let faults = g.W.Sink.faults in
+    record {
+      sent : Sends (written l.fn.out) (written l.out)
+          (l.fn.outbox ++ flat_map (λ piece. piece.now) (take l.piece-index l.pieces)) l.outbox;
+      kept : faults l.out ≡ faults l.fn.out;
+    }

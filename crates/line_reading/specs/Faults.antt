@@ -1,0 +1,18 @@
+-- Replies that tell a fault of the keeper.
+use Rattle.std.specs.Prelude.{ℕ, ◌+◌, ◌-◌, ◌^◌, ◌≤◌, ◌==◌, Bool, false, List, length, filter, min}
+use Rattle.register_words.specs.declared.reply.Reply.{Reply}
+use Rattle.register_words.specs.declared.reply.Reply.TheVariants.{Text, Words}
+use Rattle.register_words.specs.Refusals.{refusal_status_code}
+
+-- The reply is 503 KEEPER_FAULT. No other refusal has this status code.
+abbrev pub is_keeper_fault : Reply → Bool
+is_keeper_fault (Text code kind text) = false
+is_keeper_fault (Words refusal) = refusal_status_code refusal == 503
+
+-- How many of the replies are KEEPER_FAULT.
+abbrev pub keeper_faults : List Reply → ℕ
+keeper_faults replies = length (filter is_keeper_fault replies)
+
+-- A count of faults, kept in 64 bits, rose by so many at least, or stands at its last value.
+abbrev pub RoseBy : ℕ → ℕ → ℕ → Type 0
+RoseBy times before now = min (before + times) (2 ^ 64 - 1) ≤ now

@@ -1,0 +1,11 @@
+pub mod Limits
+pub mod Lines
+pub mod Requests
+pub mod Faults
+pub mod Moments
+pub mod Outbox
+pub mod Window
+pub mod Replies
+pub mod Runs
+pub mod Reading
+pub mod Opened

@@ -1,0 +1,140 @@
+-- What a line asks. This project's profile.
+use Rattle.std.specs.Prelude.{ℕ, ◌+◌, ◌==◌, List, take, drop, length, codes, nat_lt, if◌then◌else◌, position, Option, Some, None, option_map, option_and_then}
+use Rattle.std.specs.Str.{bytes_eq}
+use Rattle.register_words.specs.Requests.{TakesMemoryToRead}
+use Rattle.register_words.specs.declared.request.Request.{Request}
+use Rattle.register_words.specs.declared.request.Request.TheVariants as requests
+use Rattle.register_words.specs.declared.request.Asked.{Asked}
+use Rattle.register_words.specs.declared.request.Asked.TheVariants.{Ask, Refuse}
+use Rattle.register_words.specs.declared.reply.Refusal.TheVariants.{TooLong, NoRoute, Path}
+use Rattle.register_words.specs.Words.{base_of, code_of, form_of, number_of, sheet_of}
+use Rattle.line_reading.specs.Limits.{line_limit}
+use Rattle.line_reading.specs.Lines.{Line}
+use Rattle.line_reading.specs.declared.requests.FirstWord.{FirstWord}
+use Rattle.line_reading.specs.declared.requests.FirstWord.TheVariants.{Accredit, Upload, Kept, Publish, Show, Copy, Delta, Status}
+
+infixl 10 ◌>>=◌
+-- What is made of a value, where there is one.
+abbrev pub ◌>>=◌ : {A B : Type 0} → Option A → (A → Option B) → Option B
+o >>= f = option_and_then f o
+
+-- ---- words
+
+-- The bytes before the first space and those behind it, where there is a space.
+abbrev pub cut : List ℕ → Option (List ℕ × List ℕ)
+cut bytes = option_map (λ n. (take n bytes, drop (n + 1) bytes)) (position (λ b. b == 32) bytes)
+
+-- ---- requests, by what stands behind the first word and its space
+
+-- ACCREDIT: the rest is an LEI.
+abbrev pub accreditation_of : List ℕ → Option Request
+accreditation_of rest = option_map requests.Accredit (code_of rest)
+
+-- SHOW: the rest is an LEI.
+abbrev pub show_of : List ℕ → Option Request
+show_of rest = option_map requests.Show (code_of rest)
+
+-- PUBLISH: the rest is a number.
+abbrev pub publication_of : List ℕ → Option Request
+publication_of rest = option_map requests.Publish (number_of rest)
+
+-- COPY: a sheet and a form.
+unfoldable pub copy_of : List ℕ → Option Request
+copy_of rest = do
+  parts ← cut rest
+  sheet ← sheet_of parts.0
+  form ← form_of parts.1
+  Some (requests.Copy sheet form)
+
+-- DELTA: a base, a sheet and a form.
+unfoldable pub delta_of : List ℕ → Option Request
+delta_of rest = do
+  first ← cut rest
+  second ← cut first.1
+  base ← base_of first.0
+  sheet ← sheet_of second.0
+  form ← form_of second.1
+  Some (requests.Delta base sheet form)
+
+-- KEPT: an LEI and a number.
+unfoldable pub kept_of : List ℕ → Option Request
+kept_of rest = do
+  parts ← cut rest
+  issuer ← code_of parts.0
+  number ← number_of parts.1
+  Some (requests.Kept issuer number)
+
+-- UPLOAD: an LEI, a number, and all that follows the space behind it as the body.
+unfoldable pub upload_of : List ℕ → Option Request
+upload_of rest = do
+  first ← cut rest
+  second ← cut first.1
+  office ← code_of first.0
+  number ← number_of second.0
+  Some (requests.Upload (record { office = office; number = number; body = second.1 }))
+
+-- The first words of lines that ask something, each as it is written. Another word is none.
+abbrev pub first_word : List ℕ → Option FirstWord
+first_word word =
+    if bytes_eq word (codes "ACCREDIT") then Some Accredit
+    else (if bytes_eq word (codes "UPLOAD") then Some Upload
+    else (if bytes_eq word (codes "KEPT") then Some Kept
+    else (if bytes_eq word (codes "PUBLISH") then Some Publish
+    else (if bytes_eq word (codes "SHOW") then Some Show
+    else (if bytes_eq word (codes "COPY") then Some Copy
+    else (if bytes_eq word (codes "DELTA") then Some Delta
+    else (if bytes_eq word (codes "STATUS") then Some Status else None)))))))
+
+-- The request that a first word makes alone: STATUS, to which no other word belongs.
+abbrev pub request_alone : FirstWord → Option Request
+request_alone Accredit = None
+request_alone Upload = None
+request_alone Kept = None
+request_alone Publish = None
+request_alone Show = None
+request_alone Copy = None
+request_alone Delta = None
+request_alone Status = Some requests.Status
+
+-- The request that a first word makes with what stands behind its space.
+abbrev pub request_with : FirstWord → List ℕ → Option Request
+request_with Accredit rest = accreditation_of rest
+request_with Upload rest = upload_of rest
+request_with Kept rest = kept_of rest
+request_with Publish rest = publication_of rest
+request_with Show rest = show_of rest
+request_with Copy rest = copy_of rest
+request_with Delta rest = delta_of rest
+request_with Status rest = None
+
+-- The request that a first word makes with what stands behind its space, where there is a space.
+abbrev pub request_by : FirstWord → Option (List ℕ) → Option Request
+request_by word None = request_alone word
+request_by word (Some rest) = request_with word rest
+
+-- ---- lines
+
+-- A request is asked, or the words behind the first one are not those of a request.
+abbrev pub or_path : Option Request → Asked
+or_path None = Refuse Path
+or_path (Some request) = Ask request
+
+-- What is asked by a first word and what stands behind its space.
+abbrev pub asked_by : Option FirstWord → Option (List ℕ) → Asked
+asked_by None rest = Refuse NoRoute
+asked_by (Some word) rest = or_path (request_by word rest)
+
+-- The same, of a line that was cut at its first space if it has one.
+abbrev pub asked_in : Line → Option (List ℕ × List ℕ) → Asked
+asked_in line None = asked_by (first_word line) None
+asked_in line (Some parts) = asked_by (first_word parts.0) (Some parts.1)
+
+-- The first of these: the line is too long; its first word is unknown; its other words are not those of a request;
+-- or what it asks.
+unfoldable pub asked : Line → Asked
+asked line = if nat_lt line_limit (length line) then Refuse TooLong else asked_in line (cut line)
+
+-- A request is asked whose reading takes memory.
+abbrev pub MayWantMemory : Asked → Type 0
+MayWantMemory (Refuse refusal) = ⊥
+MayWantMemory (Ask request) = TakesMemoryToRead request

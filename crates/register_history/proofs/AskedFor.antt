@@ -1,0 +1,199 @@
+-- Stored entries and the requests that they were taken for.
+use Rattle.std.proofs.Common.{◌≡◌, ◌⊎◌, inl, inr, nat_lt, ℕ, ◌+◌, ℤ, List, [], length, codes, Bool, true, false, cond, ◌&&◌, ◌||◌, ◌==◌, is_none, Option, Some, None, Result, Ok, Err, refl, sym, ap, subst, ◌∙◌, arith}
+use Rattle.std.proofs.lemmas.Bool.Decides.{nat_tests}
+use Rattle.std.proofs.lemmas.Int.{ints}
+use Rattle.lei_code.specs.Code.{IsValid}
+use Rattle.lei_code.proofs.Faults.{fault_of-IsValid}
+use Rattle.lei_shapes.specs.Moment.{IsMoment, is_moment}
+use Rattle.lei_outside.specs.declared.entry.KeptEntry.{KeptEntry}
+use Rattle.upload_format.specs.Bodies.{upload}
+use Rattle.register_words.specs.declared.malformed.Malformed.{Malformed}
+use Rattle.lei_records.specs.declared.item.RawItem.{RawItem}
+use Rattle.upload_ledger.specs.History.{History, accredited, ahead, fresh, number_taken, Place, place, published, repeat_of, stamp, unknown_issuer}
+use Rattle.register_words.specs.declared.limits.Limits.{Limits}
+use Rattle.register_history.specs.Damage.{accreditation_in, asked_by, entry_line, is_lei, is_number, outcome_text, publication_in, replayed, request_in, request_text, upload_in}
+use Rattle.register_words.specs.declared.reply.Reply.{Reply}
+use Rattle.register_words.specs.declared.reply.Reply.TheVariants.{Words}
+use Rattle.register_words.specs.declared.reply.Refusal.TheVariants.{LedgerFull, TooLong}
+use Rattle.register_words.specs.declared.request.Call.{Call}
+use Rattle.register_words.specs.declared.request.Request.{Request}
+use Rattle.register_words.specs.declared.request.Request.TheVariants.{Accredit, Publish, Upload}
+use Rattle.register_history.specs.Legal.{IsNext, request_of}
+use Rattle.register_words.specs.Requests.{IsRequest, IsUploadNumber}
+use Rattle.register_history.specs.Replies.{Outcome, accredit_outcome, accreditation, adds, body_outcome, is_full, is_too_much, outcome, outcome_at, place_outcome, stays, taken_upload, upload_outcome}
+use Rattle.register_history.specs.State.{OfficeState, office_of}
+use Rattle.register_words.specs.Refusals.{reply_words}
+use Rattle.register_history.proofs.Histories.{publish_adds}
+
+-- ---- the number of an entry that is added
+
+unless_full : (full : Bool) (refused : Reply) (a e : KeptEntry) → cond full (stays (Words LedgerFull)) (adds a) ≡ adds e → a ≡ e
+unless_full true refused a e is = cc
+unless_full false refused a e is = cc
+
+-- an accreditation that is added
+pub accredit_adds : (office : OfficeState) (issuer : List ℕ) (moment : ℤ) (found : Option (List ℕ)) (e : KeptEntry) → accredit_outcome office issuer moment found ≡ adds e
+    → accreditation office.history issuer moment ≡ e
+accredit_adds office issuer moment None e is = unless_full (is_full office) (Words LedgerFull) (accreditation office.history issuer moment) e is
+accredit_adds office issuer moment (Some text) e is = cc
+
+body_adds : (office : OfficeState) (call : Call) (moment : ℤ) (read : Result (List RawItem) Malformed) (e : KeptEntry) → body_outcome office call moment read ≡ adds e → e.seq ≡ length office.history + 1
+body_adds office call moment (Ok raws) e is =
+    let same = unless_full (is_full office || is_too_much office call.body) (Words LedgerFull) (taken_upload office call moment raws) e is in
+    ap (λ a. a.seq) (sym same)
+body_adds office call moment (Err fault) e is = cc
+
+place_adds : (office : OfficeState) (call : Call) (moment : ℤ) (at : Place) (e : KeptEntry) → place_outcome office call moment at ≡ adds e → e.seq ≡ length office.history + 1
+place_adds office call moment unknown_issuer e is = cc
+place_adds office call moment (repeat_of answer) e is = cc
+place_adds office call moment number_taken e is = cc
+place_adds office call moment (ahead next) e is = cc
+place_adds office call moment fresh e is = body_adds office call moment (upload call.body) e is
+
+short_adds : (long : Bool) (office : OfficeState) (call : Call) (moment : ℤ) (at : Place) (e : KeptEntry) → cond long (stays (Words TooLong)) (place_outcome office call moment at) ≡ adds e
+    → e.seq ≡ length office.history + 1
+short_adds true office call moment at e is = cc
+short_adds false office call moment at e is = place_adds office call moment at e is
+
+upload_adds : (office : OfficeState) (call : Call) (moment : ℤ) (e : KeptEntry) → upload_outcome office call moment ≡ adds e → e.seq ≡ length office.history + 1
+unfolding upload_outcome
+upload_adds office call moment e is = short_adds (nat_lt office.limits.body (length call.body)) office call moment (place office.history call.office call.number call.body) e is
+
+-- ---- requests of entries
+
+-- an entry of one of the kinds was taken for that request
+abbrev IsOneOf : (one two three : Bool) (a b c request : Request) → Type 0
+IsOneOf one two three a b c request =
+    ((one ≡ true) × (request ≡ a)) ⊎ ((one ≡ false) × (two ≡ true) × (request ≡ b)) ⊎ ((one ≡ false) × (two ≡ false) × (three ≡ true) × (request ≡ c))
+
+one_of : (one two three : Bool) (a b c request : Request) → cond one (Some a) (cond two (Some b) (cond three (Some c) None)) ≡ Some request → IsOneOf one two three a b c request
+one_of true two three a b c request is = inl (refl, (let same : a ≡ request = cc in sym same))
+one_of false true three a b c request is = inr (inl (refl, refl, (let same : b ≡ request = cc in sym same)))
+one_of false false true a b c request is = inr (inr (refl, refl, refl, (let same : c ≡ request = cc in sym same)))
+one_of false false false a b c request is = cc
+
+abbrev call_of : KeptEntry → Call
+call_of e = record { office = e.office; number = e.number; body = e.body }
+
+-- the requests that entries of a kind were taken for
+of_kind : (e : KeptEntry) (request : Request) → request_of e ≡ Some request
+    → IsOneOf (e.kind == 1) (e.kind == 2) (e.kind == 3) (Accredit e.office) (Upload (call_of e)) (Publish e.number) request
+of_kind e request is = one_of (e.kind == 1) (e.kind == 2) (e.kind == 3) (Accredit e.office) (Upload (call_of e)) (Publish e.number) request is
+
+-- what is next has the next number
+pub next-seq : (limits : Limits) (before : History) (e : KeptEntry) → IsNext (office_of limits before) e → e.seq ≡ length before + 1
+next-seq limits before e next =
+    let office = office_of limits before in
+    elim (of_kind e next.0 next.1) [
+      | inl a ↦
+          let added : outcome_at office (Accredit e.office) (stamp before e.moment) ≡ adds e = ap (λ r. outcome office r e.moment) (sym a.1) ∙ next.4 in
+          ap (λ x. x.seq) (sym (accredit_adds office e.office (stamp before e.moment) (accredited before e.office) e added))
+      | inr (inl u) ↦
+          let added : outcome_at office (Upload (call_of e)) (stamp before e.moment) ≡ adds e = ap (λ r. outcome office r e.moment) (sym u.2) ∙ next.4 in
+          upload_adds office (call_of e) (stamp before e.moment) e added
+      | inr (inr p) ↦
+          let added : outcome_at office (Publish e.number) (stamp before e.moment) ≡ adds e = ap (λ r. outcome office r e.moment) (sym p.3) ∙ next.4 in
+          ap (λ x. x.seq) (sym (publish_adds office e.number (stamp before e.moment) (published before e.number) e added).is)
+    ]
+
+lei_is : (text : List ℕ) → IsValid text → is_lei text ≡ true
+lei_is text valid = ap is_none (fault_of-IsValid text valid)
+
+number_is : (number : ℕ) → IsUploadNumber number → is_number number ≡ true
+number_is number is =
+    let low = is.0 in
+    let high = is.1 in
+    grind (arith, nat_tests)
+
+moment_is : (seconds : ℤ) → IsMoment seconds → is_moment seconds ≡ true
+moment_is seconds is = grind (arith, ints)
+
+-- what is next was taken for the request that is read of it
+pub asked-next : (office : OfficeState) (e : KeptEntry) (next : IsNext office e) → asked_by e ≡ Some next.0
+unfolding asked_by
+asked-next office e next =
+    let of_moment = moment_is e.moment next.3 in
+    rw of_moment (elim (of_kind e next.0 next.1) [
+      | inl a ↦
+          let asked : IsValid e.office = subst IsRequest a.1 next.2 in
+          let added : outcome_at office (Accredit e.office) (stamp office.history e.moment) ≡ adds e = ap (λ r. outcome office r e.moment) (sym a.1) ∙ next.4 in
+          let made = accredit_adds office e.office (stamp office.history e.moment) (accredited office.history e.office) e added in
+          let none : e.number ≡ 0 = ap (λ x. x.number) (sym made) in
+          let empty : e.body ≡ [] = ap (λ x. x.body) (sym made) in
+          rw (a.0, lei_is e.office asked, none, empty) (ap Some (sym a.1))
+      | inr (inl u) ↦
+          let asked : IsRequest (Upload (call_of e)) = subst IsRequest u.2 next.2 in
+          rw (u.0, u.1, lei_is e.office asked.0, number_is e.number asked.1) (ap Some (sym u.2))
+      | inr (inr p) ↦
+          let asked : IsUploadNumber e.number = subst IsRequest p.3 next.2 in
+          let added : outcome_at office (Publish e.number) (stamp office.history e.moment) ≡ adds e = ap (λ r. outcome office r e.moment) (sym p.3) ∙ next.4 in
+          let made = (publish_adds office e.number (stamp office.history e.moment) (published office.history e.number) e added).is in
+          let none : e.office ≡ [] = ap (λ x. x.office) (sym made) in
+          let empty : e.body ≡ [] = ap (λ x. x.body) (sym made) in
+          rw (p.0, p.1, p.2, number_is e.number asked, none, empty) (ap Some (sym p.3))
+    ])
+
+-- ---- what a replay makes
+
+pub asked-request : (e : KeptEntry) (request : Request) → asked_by e ≡ Some request → request_of e ≡ Some request
+unfolding asked_by
+asked-request e request is = by_moment (is_moment e.moment) is
+  where
+    of_upload : (b : Bool) → cond b (Some (Upload (call_of e))) None ≡ Some request → Some (Upload (call_of e)) ≡ Some request
+    of_upload true found = found
+    of_upload false found = cc
+
+    of_accredit : (b : Bool) → cond b (Some (Accredit e.office)) None ≡ Some request → Some (Accredit e.office) ≡ Some request
+    of_accredit true found = found
+    of_accredit false found = cc
+
+    of_publish : (b : Bool) → cond b (Some (Publish e.number)) None ≡ Some request → Some (Publish e.number) ≡ Some request
+    of_publish true found = found
+    of_publish false found = cc
+
+    by_kind : (one two three : Bool) → cond one (accreditation_in e) (cond two (upload_in e) (cond three (publication_in e) None)) ≡ Some request
+        → cond one (Some (Accredit e.office)) (cond two (Some (Upload (call_of e))) (cond three (Some (Publish e.number)) None)) ≡ Some request
+    by_kind true two three found = of_accredit (is_lei e.office && e.number == 0 && length e.body == 0) found
+    by_kind false true three found = of_upload (is_lei e.office && is_number e.number) found
+    by_kind false false true found = of_publish (length e.office == 0 && is_number e.number && length e.body == 0) found
+    by_kind false false false found = found
+
+    by_moment : (b : Bool) → cond b (request_in e) None ≡ Some request → request_of e ≡ Some request
+    by_moment true found = by_kind (e.kind == 1) (e.kind == 2) (e.kind == 3) found
+    by_moment false found = cc
+
+same_some : {X : Type 0} (x y : X) → Some x ≡ Some y → x ≡ y
+same_some x y is = cc
+
+-- an entry that is none of a request
+pub none-asked : (office : OfficeState) (e : KeptEntry) → asked_by e ≡ None → (IsNext office e → ⊥) × (codes "NOT_AN_ENTRY" ≡ replayed office e)
+none-asked office e none = (
+  λ next. let bad : None ≡ Some next.0 = sym none ∙ asked-next office e next in cc,
+  ap (request_text office e.moment) (sym none),
+)
+
+-- the request is answered, and adds nothing
+pub stays-differs : (office : OfficeState) (e : KeptEntry) (request : Request) (answered : Reply) → asked_by e ≡ Some request → outcome office request e.moment ≡ stays answered
+    → (IsNext office e → ⊥) × (reply_words answered ≡ replayed office e)
+stays-differs office e request answered asked is = (
+  λ next.
+      let same : request ≡ next.0 = same_some request next.0 (sym asked ∙ asked-next office e next) in
+      let bad : stays answered ≡ adds e = sym is ∙ (ap (λ r. outcome office r e.moment) same ∙ next.4) in cc,
+  ap outcome_text (sym is) ∙ ap (request_text office e.moment) (sym asked),
+)
+
+-- it adds another entry
+pub adds-differs : (office : OfficeState) (e : KeptEntry) (request : Request) (made : KeptEntry) → asked_by e ≡ Some request → outcome office request e.moment ≡ adds made → (made ≡ e → ⊥)
+    → (IsNext office e → ⊥) × (entry_line made ≡ replayed office e)
+adds-differs office e request made asked is other = (
+  λ next.
+      let same : request ≡ next.0 = same_some request next.0 (sym asked ∙ asked-next office e next) in
+      let both : adds made ≡ adds e = sym is ∙ (ap (λ r. outcome office r e.moment) same ∙ next.4) in
+      other (let one : made ≡ e = cc in one),
+  ap outcome_text (sym is) ∙ ap (request_text office e.moment) (sym asked),
+)
+
+-- it adds this entry
+pub adds-next : (office : OfficeState) (e : KeptEntry) (request : Request) (made : KeptEntry) → asked_by e ≡ Some request → outcome office request e.moment ≡ adds made → made ≡ e
+    → IsRequest request → IsMoment e.moment → IsNext office e
+adds-next office e request made asked is same of_request of_moment = (request, asked-request e request asked, of_request, of_moment, is ∙ ap adds same)

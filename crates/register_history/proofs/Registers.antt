@@ -1,0 +1,269 @@
+-- The register after a history is sound and has no more records than the limit, and what an upload writes may be put.
+use Rattle.std.proofs.Common.{◌≡◌, ℕ, ◌+◌, ◌<◌, ◌≤◌, ℤ, List, [], ◌∷◌, map, fold, Bool, true, false, ◌&&◌, cond, nat_le, nat_lt, ◌==◌, length, Option, Some, None, is_some, is_none, find, option_map, option_and_then, Result, Ok, Err, MatchResult, refl, sym, ap, ◌∙◌, subst, arith, rules}
+use Rattle.std.specs.List.{Contains}
+use Rattle.std.specs.Option.{option_to_list}
+use Rattle.std.specs.FinMap.{get-empty, len-empty, len-insert}
+use Rattle.std.specs.Cmp.{IsTotalOrder}
+use Rattle.std.proofs.lemmas.Bool.Decides.{nat_tests}
+use Rattle.std.proofs.lemmas.Cmp.{lists_total, nat_list_cmp_total}
+use Rattle.lei_outside.specs.declared.entry.KeptEntry.{KeptEntry}
+use Rattle.lei_shapes.specs.Moment.{day_of}
+use Rattle.serde_json.specs.Data.{Data}
+use Rattle.std.proofs.lemmas.Bool.{ltb-false}
+use Rattle.upload_format.specs.Bodies as bodies
+use Rattle.upload_format.specs.Bodies.{of_items, of_value, upload, value_of}
+use Rattle.register_words.specs.declared.malformed.Malformed.{Malformed}
+use Rattle.register_words.specs.declared.malformed.Malformed.TheVariants.{NoItems, TooManyItems}
+use Rattle.lei_records.specs.Cells.{lei_in, rec_cell, successor_in}
+use Rattle.lei_records.specs.Items.{failed_check, ready, readied}
+use Rattle.lei_records.specs.Relations.{end_in, is_active_of}
+use Rattle.lei_records.specs.declared.fields.Kind.{Kind}
+use Rattle.lei_shapes.specs.declared.lists.RelationType.{RelationType}
+use Rattle.lei_records.specs.Rows.{Row}
+use Rattle.lei_records.specs.Tables.{Table, key_cmp, record_key, put, put_all, put_write, row_at, row_key, active_of, relations_of, record_of, record_count, IsSound}
+use Rattle.lei_records.specs.declared.item.Item.{Item}
+use Rattle.lei_records.specs.declared.item.RawItem.{RawItem}
+use Rattle.lei_records.specs.declared.item.Readied.{Readied}
+use Rattle.lei_records.specs.declared.view.CellKey.{CellKey}
+use Rattle.lei_records.proofs.RowLemmas.{IsRowOf-row_of}
+use Rattle.lei_records.specs.Checks.{FailedCheck, first_failing}
+use Rattle.lei_records.specs.Parents.{parent_type, parents_of}
+use Rattle.lei_records.specs.Walks.{successors_of}
+use Rattle.relation_rules.specs.Parents.{AreApart, HasParents}
+use Rattle.authority_rules.proofs.MapLemmas.{find-values}
+use Rattle.successor_rules.specs.Chains.{EndsIn}
+use Rattle.successor_rules.specs.Successors.{HasChains}
+use Rattle.register_judge.specs.Checks.{earlier_checks, checks, is_full, c20}
+use Rattle.register_judge.specs.Taking.{Taken, take, in_front, is_new, verdict_of, written, writes_of, item_checks, HasRow, HaveRows}
+use Rattle.register_judge.specs.declared.outcome.JudgeStop.{JudgeStop}
+use Rattle.register_judge.specs.declared.outcome.Outcome.{Outcome}
+use Rattle.register_judge.proofs.ChainLemmas.{take-chains}
+use Rattle.register_judge.proofs.ParentLemmas.{take-apart, take-parents}
+use Rattle.register_judge.proofs.TakingLemmas.{take-sound}
+use Rattle.register_table.specs.Held.{no_rows}
+use Rattle.register_table.specs.Undos.{WriteList, AreOwn, IsOwn, MayApply, StaysKept}
+use Rattle.upload_ledger.specs.declared.ledger.TheConstants.{UPLOAD}
+use Rattle.register_words.specs.declared.limits.Limits.{Limits}
+use Rattle.upload_ledger.specs.History.{History}
+use Rattle.register_history.specs.Register.{after, after_entry, items_in, items_of, take_items}
+use Rattle.register_history.proofs.Passing.{passing, passing_behind}
+
+keys_total : IsTotalOrder key_cmp
+keys_total = lists_total nat_list_cmp_total
+
+-- ---- items have rows
+
+readied-rows : (kind : Kind) (pairs : List (List ℕ × List ℕ)) (failed : Option FailedCheck) (items : List Readied) → failed_check kind pairs ≡ failed → HaveRows items
+    → HaveRows (readied kind pairs failed ∷ items)
+readied-rows Kind.Record pairs None items passes rows = (IsRowOf-row_of Kind.Record pairs passes, rows)
+readied-rows Kind.Relation pairs None items passes rows = (IsRowOf-row_of Kind.Relation pairs passes, rows)
+readied-rows Kind.Exception pairs None items passes rows = (IsRowOf-row_of Kind.Exception pairs passes, rows)
+readied-rows kind pairs (Some check) items fails rows = rows
+
+pub ready-rows : (raws : List RawItem) → HaveRows (map ready raws)
+ready-rows [] = tt
+ready-rows (RawItem.Record pairs ∷ raws) = readied-rows Kind.Record pairs (failed_check Kind.Record pairs) (map ready raws) refl (ready-rows raws)
+ready-rows (RawItem.Relation pairs ∷ raws) = readied-rows Kind.Relation pairs (failed_check Kind.Relation pairs) (map ready raws) refl (ready-rows raws)
+ready-rows (RawItem.Exception pairs ∷ raws) = readied-rows Kind.Exception pairs (failed_check Kind.Exception pairs) (map ready raws) refl (ready-rows raws)
+
+pub read-rows : (read : Result (List RawItem) Malformed) → HaveRows (items_in read)
+read-rows (Ok raws) = ready-rows raws
+read-rows (Err fault) = tt
+
+-- ---- an accepted item
+
+-- the table with what it writes
+abbrev with_item : Table → Item → Table
+with_item table item = put_write table (row_key item, written item)
+
+-- is sound
+item-sound : (table : Table) (limit : ℕ) (today : ℤ) (office : List ℕ) (item : Item) → IsSound table → HasRow item
+    → first_failing (item_checks table limit today office item) ≡ None → IsSound (with_item table item)
+item-sound table limit today office item sound row passes =
+    let P : Option FailedCheck → Type 0 = λ failed. IsSound (put_all (writes_of (verdict_of failed) (Readied.Good item)) table) in
+    subst P passes (take-sound table limit today office (Readied.Good item ∷ []) sound (row, tt))
+
+-- it is written under its own key
+item-own : (item : Item) → IsOwn (row_key item, written item)
+item-own (Item.Record row) = (refl, refl)
+item-own (Item.Relation row) = (refl, refl)
+item-own (Item.Exception (row, true)) = tt
+item-own (Item.Exception (row, false)) = (refl, refl)
+
+-- a new one is accepted only where there is room
+fits_with : (held : Option Row) (count limit next : ℕ) → count ≤ limit → next ≡ cond (is_some held) count (count + 1) → (is_none (option_map rec_cell held) && nat_le limit count) ≡ false → next ≤ limit
+fits_with None count limit next fits is room = let below : count < limit = grind (arith, nat_tests) in omega arith
+fits_with (Some row) count limit next fits is room = omega arith
+
+put-fits : (table : Table) (limit : ℕ) (today : ℤ) (office : List ℕ) (item : Row) → record_count table ≤ limit → first_failing (checks table limit today office item) ≡ None
+    → record_count (put table (Item.Record item)) ≤ limit
+put-fits table limit today office item fits passes =
+    let from_c20 = passing_behind (earlier_checks table today office item) (c20 (record_of table (lei_in item)) (is_full table limit) ∷ [])
+    (passing (checks table limit today office item) passes) in
+    fits_with (row_at table (lei_in item)) (record_count table) limit (record_count (put table (Item.Record item))) fits (len-insert keys_total table.records (record_key (lei_in item)) item) from_c20.first
+
+-- a relationship and an exception leave the number of records as it is
+item-fits : (table : Table) (limit : ℕ) (today : ℤ) (office : List ℕ) (item : Item) → record_count table ≤ limit
+    → first_failing (item_checks table limit today office item) ≡ None → record_count (with_item table item) ≤ limit
+item-fits table limit today office (Item.Record row) fits passes = put-fits table limit today office row fits passes
+item-fits table limit today office (Item.Relation row) fits passes = fits
+item-fits table limit today office (Item.Exception (row, true)) fits passes = fits
+item-fits table limit today office (Item.Exception (row, false)) fits passes = fits
+
+-- ---- the items of an upload
+
+-- what they write may be put, and the table has no more records than the limit
+pub record MayPut (table : Table) (limit : ℕ) (taken : Taken) : Type 0 where
+  pub own : AreOwn taken.writes
+  pub kept : limit ≤ 4294967295 → StaysKept taken.writes table
+  pub fits : record_count taken.table ≤ limit
+
+-- the item and those behind it, where this check of the item failed or none
+abbrev with_first : Table → ℕ → ℤ → List ℕ → Item → List Readied → Option FailedCheck → Taken
+with_first table limit today office item items failed =
+    let writes = writes_of (verdict_of failed) (Readied.Good item) in
+    in_front (verdict_of failed) writes (is_new table today office (Readied.Good item)) (take (put_all writes table) limit today office items)
+
+pub may_put : (table : Table) (limit : ℕ) (today : ℤ) (office : List ℕ) (items : List Readied) → IsSound table → record_count table ≤ limit → HaveRows items
+    → MayPut table limit (take table limit today office items)
+may_put table limit today office [] sound fits rows = record { own = tt; kept = λ bound. tt; fits = fits }
+may_put table limit today office (Readied.Bad check ∷ items) sound fits rows =
+    let rest = may_put table limit today office items sound fits rows in
+    record { own = rest.own; kept = rest.kept; fits = rest.fits }
+may_put table limit today office (Readied.Good item ∷ items) sound fits rows =
+    elim (first_failing (item_checks table limit today office item)) as (λ failed. first_failing (item_checks table limit today office item) ≡ failed
+    → MayPut table limit (with_first table limit today office item items failed)) [
+      | None ↦ λ passes.
+          let sound_with = item-sound table limit today office item sound rows.0 passes in
+          let fits_now = item-fits table limit today office item fits passes in
+          let rest = may_put (with_item table item) limit today office items sound_with fits_now rows.1 in
+          record {
+            own = (item-own item, rest.own);
+            kept = λ bound. (record { sound = sound_with; count = omega (arith, bound, fits_now) }, rest.kept bound);
+            fits = rest.fits;
+          }
+      | Some check ↦ λ fails.
+          let rest = may_put table limit today office items sound fits rows.1 in
+          record { own = rest.own; kept = rest.kept; fits = rest.fits }
+    ] refl
+
+-- ---- the table after a history
+
+pub record IsFit (limit : ℕ) (table : Table) : Type 0 where
+  pub sound : IsSound table
+  pub fits : record_count table ≤ limit
+  pub chains : HasChains table
+  pub parents : HasParents table
+  pub apart : AreApart table
+
+pub entry-fit : (limits : Limits) (table : Table) (e : KeptEntry) → IsFit limits.records table → IsFit limits.records (after_entry limits table e)
+entry-fit limits table e fit =
+    let rows = read-rows (upload e.body) in
+    elim (e.kind == UPLOAD) as (λ b. IsFit limits.records (cond b (take_items limits table e (items_of e)).table table)) [
+      | true ↦ record {
+        sound = take-sound table limits.records (day_of e.moment) e.office (items_of e) fit.sound rows;
+        fits = (may_put table limits.records (day_of e.moment) e.office (items_of e) fit.sound fit.fits rows).fits;
+        chains = take-chains table limits.records (day_of e.moment) e.office (items_of e) fit.chains;
+        parents = take-parents table limits.records (day_of e.moment) e.office (items_of e) fit.sound fit.parents rows;
+        apart = take-apart table limits.records (day_of e.moment) e.office (items_of e) fit.sound fit.apart rows;
+      }
+      | false ↦ fit
+    ]
+
+entries-fit : (limits : Limits) (table : Table) (history : History) → IsFit limits.records table → IsFit limits.records (fold (after_entry limits) table history)
+entries-fit limits table [] fit = fit
+entries-fit limits table (e ∷ history) fit = entries-fit limits (after_entry limits table e) history (entry-fit limits table e fit)
+
+is_some-none : {X : Type 0} (x : X) (found : Option X) → found ≡ None → found ≡ Some x → ⊥
+is_some-none x found none some = cc
+
+-- where there are no rows, nothing is named
+nothing : (next : List ℕ) → Contains [] next → ⊥
+nothing next at = search rules
+
+none-named : (lei next : List ℕ) → Contains (successors_of no_rows lei) next → EndsIn 0 (successors_of no_rows) next
+none-named lei next at =
+    let empty : successors_of no_rows lei ≡ [] = ap (λ row. option_to_list (option_and_then successor_in row)) (get-empty key_cmp (record_key lei)) in
+    nothing next (subst (λ nexts. Contains nexts next) empty at) where
+      nothing : (next : List ℕ) → Contains [] next → ⊥
+      nothing next at = search rules
+
+-- and nothing is active
+none-active : (start : List ℕ) (kind : RelationType) → active_of no_rows start kind ≡ None
+none-active start kind = of_found (find (is_active_of start kind) (relations_of no_rows)) refl where
+  of_found : (found : Option Row) → find (is_active_of start kind) (relations_of no_rows) ≡ found → option_map end_in found ≡ None
+  of_found None is = refl
+  of_found (Some row) is =
+      let hit = find-values keys_total no_rows.relations (is_active_of start kind) row is in
+      absurd (is_some-none row _ (get-empty key_cmp hit.0) hit.1)
+
+none-above : (lei next : List ℕ) → Contains (parents_of no_rows lei) next → EndsIn 0 (parents_of no_rows) next
+none-above lei next at =
+    nothing next (subst (λ parent. Contains (option_to_list parent) next) (none-active lei RelationType.IsDirectlyConsolidatedBy) at)
+
+pub none-fit : (limit : ℕ) → IsFit limit no_rows
+none-fit limit = record {
+  sound = record {
+    keyed = λ key row at. absurd (is_some-none row _ (get-empty key_cmp key) at);
+    holders = λ authority id a b first second of_a of_b by_a by_b. absurd (is_some-none first _ (get-empty key_cmp (record_key a)) of_a);
+    rows = λ key row at. absurd (is_some-none row _ (get-empty key_cmp key) at);
+    relations_keyed = λ key row at. absurd (is_some-none row _ (get-empty key_cmp key) at);
+    relation_rows = λ key row at. absurd (is_some-none row _ (get-empty key_cmp key) at);
+    actives = λ start kind a b first second of_a of_b by_a by_b. absurd (is_some-none first _ (get-empty key_cmp a) of_a);
+    exceptions_keyed = λ key row at. absurd (is_some-none row _ (get-empty key_cmp key) at);
+    exception_rows = λ key row at. absurd (is_some-none row _ (get-empty key_cmp key) at);
+  };
+  fits = let none = len-empty key_cmp Row in omega (arith, none);
+  chains = record {
+    held = λ lei row next at. absurd (is_some-none row _ (get-empty key_cmp (record_key lei)) at);
+    ends = λ lei. (1, none-named lei);
+  };
+  parents = record { ends = λ lei. (1, none-above lei) };
+  apart = λ lei category stands. none-active lei (parent_type category);
+}
+
+pub after-fit : (limits : Limits) (history : History) → IsFit limits.records (after limits history)
+unfolding after
+after-fit limits history = entries-fit limits no_rows history (none-fit limits.records)
+
+-- ---- judging over a table
+
+-- no cell of a table is wanted
+pub no_cell_wanted : (P : Outcome → Type 0) (result : Result Outcome JudgeStop) (key : CellKey) → MatchResult result P (λ stop. stop ≡ JudgeStop.NoMemory) → result ≡ Err (JudgeStop.NeedCell key) → ⊥
+no_cell_wanted P (Ok outcome) key takes is = cc
+no_cell_wanted P (Err stop) key takes is =
+    let same : stop ≡ JudgeStop.NeedCell key = cc in
+    let clash : JudgeStop.NoMemory ≡ JudgeStop.NeedCell key = sym takes ∙ same in
+    cc
+
+-- what the items of a body write may be put into the table after a history
+pub writes-apply : (limits : Limits) (history : History) (table : Table) (today : ℤ) (office : List ℕ) (raws : List RawItem) (writes : WriteList) → limits.records ≤ 4294967295
+    → table ≡ after limits history → writes ≡ (take table limits.records today office (map ready raws)).writes → MayApply writes table
+writes-apply limits history table today office raws writes bound is same =
+    let F : Table → Type 0 = λ t. IsFit limits.records t in
+    let fit = subst F (sym is) (after-fit limits history) in
+    let may = may_put table limits.records today office (map ready raws) fit.sound fit.fits (ready-rows raws) in
+    let P : WriteList → Type 0 = λ w. MayApply w table in
+    subst P (sym same) (record { own = may.own; kept = may.kept bound })
+
+-- ---- an upload has at most 5,000 items
+
+counted-within : (none many : Bool) (raws items : List RawItem) → nat_lt 5000 (length raws) ≡ many → cond none (Err NoItems) (cond many (Err TooManyItems) (Ok raws)) ≡ Ok items → length items ≤ 5000
+counted-within true many raws items is counted = cc
+counted-within false true raws items is counted = cc
+counted-within false false raws items is counted =
+    let same : raws ≡ items = cc in
+    let L : List RawItem → Type 0 = λ l. length l ≤ 5000 in
+    subst L same (ltb-false 5000 (length raws) is)
+
+items-within : (found : Option (List RawItem)) (items : List RawItem) → of_items found ≡ Ok items → length items ≤ 5000
+items-within None items is = cc
+items-within (Some raws) items is = counted-within (length raws == 0) (nat_lt 5000 (length raws)) raws items refl is
+
+value-within : (value : Option Data) (items : List RawItem) → of_value value ≡ Ok items → length items ≤ 5000
+value-within None items is = cc
+value-within (Some value) items is = items-within (bodies.items_of value) items is
+
+pub upload-within : (body : List ℕ) (items : List RawItem) → upload body ≡ Ok items → length items ≤ 5000
+unfolding upload
+upload-within body items is = value-within (value_of body) items is

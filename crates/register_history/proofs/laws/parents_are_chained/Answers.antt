@@ -1,0 +1,5 @@
+use Rattle.register_history.proofs.Registers.{after-fit}
+use Rattle.register_history.proofs.laws.parents_are_chained.Goals as goal
+
+pub returns : goal.returns
+returns c = λ office legal. (after-fit office.limits office.history).parents

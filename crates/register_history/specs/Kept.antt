@@ -1,0 +1,102 @@
+-- Kept tables: what a keeper has of an office, its entries and the cells of the register.
+use Rattle.std.specs.Prelude.{◌≡◌, ℕ, List, [], ◌∷◌, ◌++◌, Option, Some, option_map, IfSome}
+use Rattle.std.specs.FinMap.{get}
+use Rattle.lei_code.specs.Code.{IsValid}
+use Rattle.lei_code.specs.Texts.{Text}
+use Rattle.lei_outside.specs.Keeping.{CellContent, CellPlace, Cells, KeptTables}
+use Rattle.lei_outside.specs.declared.keeper.KeptCell.{KeptCell}
+use Rattle.lei_records.specs.declared.view.RowKey.{RowKey}
+use Rattle.lei_records.specs.Tables.{KeyTexts, exception_key, record_key, relation_key}
+use Rattle.register_words.specs.declared.sheets.Sheet.{Sheet}
+use Rattle.copy_forms.specs.Items.{item_text}
+use Rattle.copy_forms.specs.Json.{json_record}
+use Rattle.copy_csv.specs.Sheets.{row_of}
+use Rattle.register_table.specs.declared.touched.Touched.{Touched}
+use Rattle.register_table.specs.Held.{Cell, Held, cell_key}
+use Rattle.upload_ledger.specs.History.{History}
+use Rattle.register_history.specs.Register.{held_after}
+use Rattle.register_history.specs.State.{OfficeState}
+
+-- ---- where a cell stands
+
+-- texts with a space between two of them
+abbrev pub joined : List Text → Text
+joined [] = []
+joined (text ∷ []) = text
+joined (text ∷ next ∷ texts) = text ++ 32 ∷ joined (next ∷ texts)
+
+-- The place of a key: the byte of its kind, which is its first text, and behind it the name, its other texts with a space
+-- between two.
+abbrev pub place_in : KeyTexts → CellPlace
+place_in [] = []
+place_in (kind ∷ texts) = kind ++ joined texts
+
+-- each LEI of a key is one
+abbrev pub IsKey : RowKey → Type 0
+IsKey (RowKey.Rec lei) = IsValid lei
+IsKey (RowKey.Rel start kind end) = IsValid start × IsValid end
+IsKey (RowKey.Exc lei category) = IsValid lei
+
+-- the number of a key's kind: 1 of a record, 2 of a relationship, 3 of an exception
+abbrev pub kind_of : RowKey → ℕ
+kind_of (RowKey.Rec lei) = 1
+kind_of (RowKey.Rel start kind end) = 2
+kind_of (RowKey.Exc lei category) = 3
+
+-- its name: the texts of the row's key with a space between two
+abbrev pub name_of : RowKey → Text
+name_of (RowKey.Rec lei) = joined (record_key lei)
+name_of (RowKey.Rel start kind end) = joined (relation_key start kind end)
+name_of (RowKey.Exc lei category) = joined (exception_key lei category)
+
+-- ---- what is kept of it
+
+-- the sheet that the rows of a key stand in
+abbrev pub sheet_of : RowKey → Sheet
+sheet_of (RowKey.Rec lei) = Sheet.Lei
+sheet_of (RowKey.Rel start kind end) = Sheet.Rr
+sheet_of (RowKey.Exc lei category) = Sheet.Repex
+
+-- the number of the entry that touched it last, and its row as a JSON object of the present fields, or none
+abbrev pub content : RowKey → Cell → CellContent
+content key cell = record {
+  touched = cell.entry;
+  row = option_map (λ row. json_record (row_of (sheet_of key) row)) cell.row;
+}
+
+-- ---- the tables
+
+-- The kept cells are those of the register: under the place of each key is kept what the register has under the key, and
+-- nothing is kept under any other place.
+pub record AreCellsOf (held : Held) (cells : Cells) : Type 0 where
+  pub each : (key : RowKey) → IsKey key → get cells (place_in (cell_key key)) ≡ option_map (content key) (get held (cell_key key))
+  pub only : (place : CellPlace) (kept : CellContent) → get cells place ≡ Some kept
+      → (key : RowKey) × IsKey key × (place ≡ place_in (cell_key key))
+
+-- The tables are those of these entries and cells.
+pub record AreTablesWith (history : History) (held : Held) (tables : KeptTables) : Type 0 where
+  pub entries : tables.entries ≡ history
+  pub cells : AreCellsOf held tables.cells
+
+-- The tables of an office: the entries of its history in order, and the cells of its register.
+abbrev pub AreTablesOf : OfficeState → KeptTables → Type 0
+AreTablesOf office tables = AreTablesWith office.history (held_after office.limits office.history) tables
+
+-- Where a keeper tells its tables, they are those of the office.
+abbrev pub Keeps : Option KeptTables → OfficeState → Type 0
+Keeps told office = IfSome told (AreTablesOf office)
+
+-- No two tables are those of one office.
+abbrev pub TablesAreOne : OfficeState → Type 0
+TablesAreOne office = (one other : KeptTables) → AreTablesOf office one → AreTablesOf office other → one ≡ other
+
+-- ---- cells that are committed
+
+-- a touched key, as the cell that is kept of it
+abbrev pub kept_cell : Touched → KeptCell
+kept_cell told = record {
+  kind = kind_of told.key;
+  name = name_of told.key;
+  touched = told.entry;
+  row = option_map item_text told.item;
+}

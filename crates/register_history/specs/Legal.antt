@@ -1,0 +1,78 @@
+-- Which histories can come about, and runs of requests over them.
+use Rattle.std.specs.Prelude.{◌≡◌, ◌⊎◌, ℕ, ℤ, ◌≤ℤ◌, List, [], ◌∷◌, ◌++◌, if◌then◌else◌, Option, Some, None}
+use Rattle.lei_code.specs.Code.{IsValid}
+use Rattle.lei_code.specs.Texts.{Lei}
+use Rattle.lei_shapes.specs.Moment.{IsMoment}
+use Rattle.lei_outside.specs.declared.entry.KeptEntry.{KeptEntry}
+use Rattle.register_words.specs.declared.request.Asked.{Asked}
+use Rattle.register_words.specs.declared.request.Asked.TheVariants.{Ask, Refuse}
+use Rattle.register_words.specs.declared.request.Request.{Request}
+use Rattle.register_words.specs.declared.request.Request.TheVariants.{Accredit, Copy, Delta, Kept, Publish, Show, Status, Upload}
+use Rattle.register_words.specs.declared.reply.Refusal.TheVariants.{NoMemory}
+use Rattle.register_words.specs.declared.reply.Reply.{Reply}
+use Rattle.register_words.specs.declared.reply.Reply.TheVariants.{Words}
+use Rattle.register_words.specs.declared.limits.Limits.{Limits}
+use Rattle.upload_ledger.specs.History.{History, is_accreditation, is_publication, is_upload, upload_at}
+use Rattle.register_words.specs.Requests.{IsRequest, TakesMemoryToRead}
+use Rattle.register_history.specs.State.{OfficeState, office_of}
+use Rattle.register_history.specs.Replies.{adds, next, outcome, reply, Step}
+
+-- the request that an entry was taken for
+abbrev pub request_of : KeptEntry → Option Request
+request_of e =
+    if is_accreditation e then Some (Accredit e.office)
+    else (if is_upload e then Some (Upload (record { office = e.office; number = e.number; body = e.body }))
+    else (if is_publication e then Some (Publish e.number) else None))
+
+-- the entry is what its own request adds to the office before it, at its own moment
+abbrev pub IsNext : OfficeState → KeptEntry → Type 0
+IsNext before e =
+    (request : Request) × (request_of e ≡ Some request) × IsRequest request × IsMoment e.moment
+    × (outcome before request e.moment ≡ adds e)
+
+-- each entry of the rest is next after those before it
+abbrev pub LegalAfter : Limits → History → History → Type 0
+LegalAfter limits before [] = Unit {0}
+LegalAfter limits before (e ∷ rest) = IsNext (office_of limits before) e × LegalAfter limits (before ++ e ∷ []) rest
+
+-- each entry is what its own request adds to the entries before it, under the limits
+unfoldable pub Legal : OfficeState → Type 0
+Legal office = LegalAfter office.limits [] office.history
+
+-- the moment of no entry is later than that of the next one
+abbrev pub MomentsNeverFall : History → Type 0
+MomentsNeverFall history =
+    (before after : History) (first second : KeptEntry) → history ≡ before ++ first ∷ second ∷ after
+    → first.moment ≤ℤ second.moment
+
+-- each issuer's uploads are numbered 1, 2, 3 and so on
+abbrev pub UploadsAreNumbered : History → Type 0
+UploadsAreNumbered history =
+    (issuer : Lei) (number : ℕ) (e : KeptEntry) → upload_at history issuer number ≡ Some e → e.number ≡ number
+
+-- ---- runs
+
+-- A refusal of the reader is its own reply, and takes no moment. A request takes one, and makes a step. Where there
+-- was no memory to read an upload, that is answered in place of its step: no moment is taken, and nothing changes.
+abbrev pub AskStep : OfficeState → Asked → List ℤ → Reply → OfficeState → Type 0
+AskStep old (Refuse refusal) moments answered new = (moments ≡ []) × (answered ≡ Words refusal) × (new ≡ old)
+AskStep old (Ask request) moments answered new =
+    ((m : ℤ) × (moments ≡ m ∷ []) × Step old request m answered new)
+    ⊎ (TakesMemoryToRead request × (moments ≡ []) × (answered ≡ Words NoMemory) × (new ≡ old))
+
+-- these replies answer what was asked, in order, at these moments, from one office to the other
+abbrev pub Session : OfficeState → List Asked → List ℤ → List Reply → OfficeState → Type 0
+Session old [] moments [] new = (moments ≡ []) × (new ≡ old)
+Session old [] moments (answered ∷ replies) new = ⊥
+Session old (asked ∷ asks) moments [] new = ⊥
+Session old (asked ∷ asks) moments (answered ∷ replies) new =
+    (given : List ℤ) × (rest : List ℤ) × (between : OfficeState) × (moments ≡ given ++ rest)
+    × AskStep old asked given answered between × Session between asks rest replies new
+
+-- The replies where memory is never wanting and the keeper never fails. Where the moments run out, nothing more is answered.
+abbrev pub replies_to : OfficeState → List Asked → List ℤ → List Reply
+replies_to office [] moments = []
+replies_to office (Refuse refusal ∷ asks) moments = Words refusal ∷ replies_to office asks moments
+replies_to office (Ask request ∷ asks) [] = []
+replies_to office (Ask request ∷ asks) (m ∷ moments) =
+    reply office request m ∷ replies_to (next office request m) asks moments

@@ -1,0 +1,11 @@
+pub mod State
+pub mod Register
+pub mod Publications
+pub mod Publishing
+pub mod Replies
+pub mod Legal
+pub mod Parties
+pub mod Kept
+pub mod Standing
+pub mod Touching
+pub mod Damage

@@ -1,0 +1,91 @@
+-- Publications: the golden copies that a history made, one behind the other. This project's profile.
+use Rattle.std.specs.Prelude.{ℕ, List, [], ◌∷◌, ◌++◌, length, map, flat_map, filter, Bool, true, false, not, if◌then◌else◌}
+use Rattle.std.specs.FinMap.{values}
+use Rattle.std.specs.Str.{bytes_eq}
+use Rattle.lei_code.specs.Texts.{Text}
+use Rattle.lei_outside.specs.Keeping.{number_of}
+use Rattle.lei_outside.specs.declared.entry.KeptEntry.{KeptEntry}
+use Rattle.lei_shapes.specs.declared.lists.RelationRegistration.{RelationRegistration}
+use Rattle.lei_records.specs.Relations.{registration_in}
+use Rattle.lei_records.specs.Rows.{Row}
+use Rattle.lei_records.specs.Tables.{KeyTexts, Rows, Table}
+use Rattle.copy_csv.specs.Sheets.{SheetRow, row_of}
+use Rattle.register_words.specs.declared.sheets.Sheet.{Sheet}
+use Rattle.copy_forms.specs.Trails.{Publication, Trail}
+use Rattle.register_table.specs.Held.{Held, exception_kind, record_kind, relation_kind}
+use Rattle.register_table.specs.Touched.{touched}
+use Rattle.upload_ledger.specs.History.{History, is_publication, last_entry, publications}
+use Rattle.register_words.specs.declared.limits.Limits.{Limits}
+use Rattle.register_history.specs.Register.{after, held_after}
+use Rattle.register_history.specs.State.{OfficeState}
+
+-- ---- the rows that are published
+
+-- the rows of a table that stand in a sheet, under their keys and in the order of these
+abbrev pub rows_in : Table → Sheet → Rows
+rows_in table Sheet.Lei = table.records
+rows_in table Sheet.Rr = table.relations
+rows_in table Sheet.Repex = table.exceptions
+
+-- the registration of a relationship is annulled
+abbrev pub is_annulled : RelationRegistration → Bool
+is_annulled RelationRegistration.Issued = false
+is_annulled RelationRegistration.Published = false
+is_annulled RelationRegistration.Lapsed = false
+is_annulled RelationRegistration.Retired = false
+is_annulled RelationRegistration.Annulled = true
+
+-- each row is published, but for a relationship whose registration is annulled
+abbrev pub is_published : Sheet → Row → Bool
+is_published Sheet.Lei row = true
+is_published Sheet.Rr row = not (is_annulled (registration_in row))
+is_published Sheet.Repex row = true
+
+-- the rows of a sheet that are published of a table, in the order of their keys
+abbrev pub published_rows : Table → Sheet → List SheetRow
+published_rows table sheet = map (row_of sheet) (filter (is_published sheet) (values (rows_in table sheet)))
+
+-- ---- the keys that were touched
+
+-- the kind of the cells whose rows stand in a sheet
+abbrev pub cell_kind : Sheet → Text
+cell_kind Sheet.Lei = record_kind
+cell_kind Sheet.Rr = relation_kind
+cell_kind Sheet.Repex = exception_kind
+
+-- the key of a cell's row, where the row stands in this sheet
+abbrev pub key_within : Sheet → KeyTexts → List KeyTexts
+key_within sheet [] = []
+key_within sheet (kind ∷ key) = if bytes_eq kind (cell_kind sheet) then key ∷ [] else []
+
+-- the keys of a sheet that entries touched whose numbers are greater than one number and at most another
+abbrev pub keys_touched : ℕ → ℕ → Held → Sheet → List KeyTexts
+keys_touched after upto held sheet = flat_map (λ cell. key_within sheet cell.0) (touched after upto held)
+
+-- ---- the publications of a history
+
+-- the number of the entry that made the latest publication, 0 where there is none
+abbrev pub last_published : History → ℕ
+last_published history = number_of (last_entry (publications history))
+
+-- The publication that an entry makes behind these: its moment, the rows of the register that they leave, and the keys
+-- that were touched behind the publication before it.
+abbrev pub publication_by : Limits → History → KeptEntry → Publication
+publication_by limits before e = record {
+  moment = e.moment;
+  rows = published_rows (after limits before);
+  touched = keys_touched (last_published before) (length before) (held_after limits before);
+}
+
+-- what an entry publishes behind these: a publication, where it is of this kind, and nothing else
+abbrev pub published_by : Limits → History → KeptEntry → Trail
+published_by limits before e = if is_publication e then publication_by limits before e ∷ [] else []
+
+-- what the rest of a history publishes behind the entries before it
+abbrev pub trail_behind : Limits → History → History → Trail
+trail_behind limits before [] = []
+trail_behind limits before (e ∷ rest) = published_by limits before e ++ trail_behind limits (before ++ e ∷ []) rest
+
+-- the publications of a history, the first of which has the number 1
+unfoldable pub trail : OfficeState → Trail
+trail office = trail_behind office.limits [] office.history

@@ -1,0 +1,66 @@
+-- The register: the table that a history's uploads leave.
+use Rattle.std.specs.Prelude.{◌≡◌, ◌+◌, List, [], length, map, fold, if◌then◌else◌, Result, Ok, Err}
+use Rattle.std.specs.FinMap.{empty}
+use Rattle.lei_outside.specs.declared.entry.KeptEntry.{KeptEntry}
+use Rattle.lei_shapes.specs.Moment.{day_of}
+use Rattle.upload_format.specs.Bodies.{upload}
+use Rattle.register_words.specs.declared.malformed.Malformed.{Malformed}
+use Rattle.lei_records.specs.Items.{ready}
+use Rattle.lei_records.specs.Tables.{Table}
+use Rattle.lei_records.specs.declared.item.RawItem.{RawItem}
+use Rattle.lei_records.specs.declared.item.Readied.{Readied}
+use Rattle.register_judge.specs.Taking.{Taken, take}
+use Rattle.register_table.specs.Held.{Held, TableState, no_rows, rows}
+use Rattle.register_table.specs.Undos.{IsLater, WriteList, touch_all}
+use Rattle.register_words.specs.declared.limits.Limits.{Limits}
+use Rattle.lei_outside.specs.Keeping.{number_of}
+use Rattle.upload_ledger.specs.History.{History, is_upload, last_entry}
+use Rattle.register_history.specs.State.{OfficeState}
+
+-- the items of a body after the checks of their fields, none of a body that is no upload
+abbrev pub items_in : Result (List RawItem) Malformed → List Readied
+items_in (Ok raws) = map ready raws
+items_in (Err fault) = []
+
+-- the items of an entry's body
+abbrev pub items_of : KeptEntry → List Readied
+items_of e = items_in (upload e.body)
+
+-- What these items of an entry do to a table: they are judged for the entry's issuer, on the day of its moment,
+-- where the table may hold so many records.
+abbrev pub take_items : Limits → Table → KeptEntry → List Readied → Taken
+take_items limits table e items = take table limits.records (day_of e.moment) e.office items
+
+-- the table after an entry: an upload takes its items, and every other entry leaves it
+abbrev pub after_entry : Limits → Table → KeptEntry → Table
+after_entry limits table e = if is_upload e then (take_items limits table e (items_of e)).table else table
+
+-- the table after a history, from the one without records
+unfoldable pub after : Limits → History → Table
+after limits history = fold (after_entry limits) no_rows history
+
+-- ---- the cells of the register
+
+-- what an entry writes, judged on a table: the accepted items of an upload, and nothing of any other entry
+abbrev pub entry_writes : Limits → Table → KeptEntry → WriteList
+entry_writes limits table e = if is_upload e then (take_items limits table e (items_of e)).writes else []
+
+-- the cells after an entry: each key that it writes has its number, and the row of the item or none
+abbrev pub held_after_entry : Limits → Held → KeptEntry → Held
+held_after_entry limits held e = touch_all e.seq (entry_writes limits (rows held) e) held
+
+-- the cells after a history, from none
+unfoldable pub held_after : Limits → History → Held
+held_after limits history = fold (held_after_entry limits) empty history
+
+-- The rows of the register's cells are those of the register.
+abbrev pub CellsHaveTheRows : OfficeState → Type 0
+CellsHaveTheRows office = rows (held_after office.limits office.history) ≡ after office.limits office.history
+
+-- The table that is kept after a history: it has the cells after it, their rows are those of the table after it, and no
+-- cell has a greater number than the last entry, whose number is how many there are.
+pub record IsKeptAfter (limits : Limits) (history : History) (table : TableState) : Type 0 where
+  pub held : table.held ≡ held_after limits history
+  pub rows : rows table.held ≡ after limits history
+  pub numbers : IsLater (length history + 1) table.held
+  pub last : number_of (last_entry history) ≡ length history

@@ -1,0 +1,107 @@
+//! Laws of the definitions. Each is the contract of a function that does nothing.
+ghost use Rattle.std.specs.Prelude.{◌≡◌, ℤ, List, Contains};
+ghost use Rattle.lei_records.specs.Tables.{IsSound};
+ghost use Rattle.lei_outside.specs.Keeping.{KeptTables};
+ghost use Rattle.lei_outside.specs.declared.keeper.KeptCell.{KeptCell};
+ghost use Rattle.register_history.specs.Damage.{DamageExcludes, DamageIsOne, EntryTextsDiffer, LineTellsCell};
+ghost use Rattle.register_words.specs.declared.limits.Limits.{Limits};
+ghost use Rattle.upload_ledger.specs.History.{History};
+ghost use Rattle.successor_rules.specs.Successors.{HasChains};
+ghost use Rattle.relation_rules.specs.Parents.{AreApart, HasParents};
+ghost use Rattle.register_words.specs.declared.reply.Refusal.TheVariants.{KeeperFault, NoMemory};
+ghost use Rattle.register_words.specs.declared.reply.Reply.{Reply};
+ghost use Rattle.register_words.specs.declared.reply.Reply.TheVariants.{Words};
+ghost use Rattle.register_words.specs.declared.request.Asked.{Asked};
+ghost use Rattle.register_history.specs.Legal.{Legal, MomentsNeverFall, Session, UploadsAreNumbered, replies_to};
+ghost use Rattle.register_history.specs.Parties.{ChangesArePermitted, ChangesMakeRecords};
+ghost use Rattle.copy_forms.specs.Trails.{IsSound as IsSoundTrail};
+ghost use Rattle.register_history.specs.Publications.{trail};
+ghost use Rattle.register_history.specs.Kept.{TablesAreOne};
+ghost use Rattle.register_history.specs.Register.{CellsHaveTheRows, after};
+ghost use Rattle.register_history.specs.State.{OfficeState};
+
+/// In a history that can come about no entry's moment is later than that of the next one.
+pub fn moments_never_fall()
+    ensures { (office : OfficeState) → Legal office → MomentsNeverFall office.history }
+{}
+
+/// In a history that can come about each issuer's uploads have the numbers 1, 2, 3 and so on.
+pub fn uploads_are_numbered()
+    ensures { (office : OfficeState) → Legal office → UploadsAreNumbered office.history }
+{}
+
+/// In a register that can come about no two live records have the same authority key, and no two active relationships
+/// the same start and type.
+pub fn registers_are_sound()
+    ensures { (office : OfficeState) → Legal office → IsSound (after office.limits office.history) }
+{}
+
+/// In a register that can come about each successor that a record names is held, and each chain of successors ends.
+pub fn successors_are_chained()
+    ensures { (office : OfficeState) → Legal office → HasChains (after office.limits office.history) }
+{}
+
+/// In a register that can come about each chain of direct parents ends. For one start and type at most one relationship
+/// is active, which is part of a sound table.
+pub fn parents_are_chained()
+    ensures { (office : OfficeState) → Legal office → HasParents (after office.limits office.history) }
+{}
+
+/// In a register that can come about no active parent stands beside the exception of its category.
+pub fn exceptions_stand_apart()
+    ensures { (office : OfficeState) → Legal office → AreApart (after office.limits office.history) }
+{}
+
+/// In a history that can come about each change of a record was permitted to the issuer that sent it.
+pub fn changes_are_permitted()
+    ensures { (office : OfficeState) → Legal office → ChangesArePermitted office }
+{}
+
+/// The records of a register are what the changes of its history make.
+pub fn changes_make_records()
+    ensures { (office : OfficeState) → ChangesMakeRecords office }
+{}
+
+/// The rows of the cells that are kept of a register are those of the register.
+pub fn cells_have_the_rows()
+    ensures { (office : OfficeState) → CellsHaveTheRows office }
+{}
+
+/// What has damage isn't what a history leaves: a store of a history is never refused.
+pub fn damage_is_no_history()
+    ensures { (limits : Limits) (tables : KeptTables) → DamageExcludes limits tables }
+{}
+
+/// Where a stored entry isn't what the replay makes, the two texts that tell it differ.
+pub fn texts_of_entries_differ()
+    ensures { (limits : Limits) (entries : History) → EntryTextsDiffer limits entries }
+{}
+
+/// The line of a cell whose kind and name are known tells the number of the entry that touched it last, and the word of
+/// its row. A row that is the text `-` has the word of no row.
+pub fn lines_tell_cells()
+    ensures { (one other : KeptCell) → LineTellsCell one other }
+{}
+
+/// A store has one first difference at most.
+pub fn damage_is_one()
+    ensures { (limits : Limits) (tables : KeptTables) → DamageIsOne limits tables }
+{}
+
+/// The publications of a history that can come about are a sound trail: the rows of each stand in the order of their keys,
+/// and under a key that no entry touched since the one before stands the same row, or none as there.
+pub fn publications_are_a_sound_trail()
+    ensures { (office : OfficeState) → Legal office → IsSoundTrail (trail office) }
+{}
+
+/// No two tables are those that are kept of one office.
+pub fn kept_tables_are_one()
+    ensures { (office : OfficeState) → TablesAreOne office }
+{}
+
+/// Where neither want of memory nor a fault of the keeper is answered, the replies are those that the requests and their moments determine.
+pub fn sessions_are_exact()
+    ensures { (old new : OfficeState) (asks : List Asked) (moments : List ℤ) (replies : List Reply) →
+        Session old asks moments replies new → ¬ (Contains replies (Words NoMemory))
+        → ¬ (Contains replies (Words KeeperFault)) → replies ≡ replies_to old asks moments }
+{}

@@ -1,0 +1,124 @@
+-- What a request is not refused with: that nothing can be kept is found by the keeper alone.
+use Rattle.std.proofs.Common.{◌≡◌, ℕ, ◌+◌, ℤ, List, ◌||◌, ◌==◌, Bool, true, false, cond, ltb, length, is_some, Option, Some, None, Result, Ok, Err, subst, ◌∙◌}
+use Rattle.upload_format.specs.Bodies.{upload}
+use Rattle.register_words.specs.declared.malformed.Malformed.{Malformed}
+use Rattle.lei_code.specs.Texts.{Lei, Text}
+use Rattle.lei_records.specs.Rows.{Row}
+use Rattle.lei_records.specs.Tables.{row_at}
+use Rattle.lei_records.specs.declared.item.RawItem.{RawItem}
+use Rattle.lei_outside.specs.declared.entry.KeptEntry.{KeptEntry}
+use Rattle.register_state.specs.Deciding.{AddsNext, Decides}
+use Rattle.register_state.specs.declared.decision.Decision.{Decision}
+use Rattle.register_state.specs.declared.decision.Decision.TheVariants.{Adds, Stays}
+use Rattle.register_words.specs.declared.sheets.Form.{Form}
+use Rattle.register_words.specs.declared.sheets.Sheet.{Sheet}
+use Rattle.copy_forms.specs.Trails.{Publication, Trail}
+use Rattle.golden_shelf.specs.declared.fault.ShelfFault.{ShelfFault}
+use Rattle.golden_shelf.specs.Bases.{base_in, moments_of}
+use Rattle.golden_shelf.specs.Shelves.{latest}
+use Rattle.register_table.specs.Undos.{WriteList}
+use Rattle.upload_ledger.specs.History.{History, accredited, ahead, fresh, kept, number_taken, Place, place, published, repeat_of, unknown_issuer}
+use Rattle.register_words.specs.declared.reply.Refusal.TheVariants as refusals
+use Rattle.register_words.specs.declared.reply.Refusal.TheVariants.{KeeperFault}
+use Rattle.register_words.specs.declared.reply.Reply.{Reply}
+use Rattle.register_words.specs.declared.reply.Reply.TheVariants.{Words}
+use Rattle.register_words.specs.declared.request.Call.{Call}
+use Rattle.register_words.specs.declared.request.Request.{Request}
+use Rattle.register_words.specs.declared.request.Request.TheVariants.{Accredit, Copy, Delta, Kept, Publish, Show, Status, Upload}
+use Rattle.register_history.specs.Publications.{trail}
+use Rattle.register_history.specs.Register.{after}
+use Rattle.register_history.specs.Replies.{Outcome, accredit_outcome, accreditation, adds, answer_outcome, body_outcome, changed, copied, is_full, is_too_much, next_publication, outcome_at, place_outcome, publication_entry, publish_outcome, show_outcome, stays, taken_upload, upload_outcome}
+use Rattle.register_history.specs.State.{OfficeState}
+
+-- what was decided, by what it is
+pub stays_of : (request : Request) (outcome : Outcome) (writes : KeptEntry → WriteList) (decision : Decision) (reply : Reply) → decision ≡ Stays reply
+    → Decides request outcome writes (Ok decision) → outcome ≡ stays reply
+stays_of request outcome writes decision reply is decides = (let D : Decision → Type 0 = λ d. Decides request outcome writes (Ok d) in subst D is decides)
+
+pub adds_is : (request : Request) (outcome : Outcome) (writes : KeptEntry → WriteList) (decision : Decision) (entry : KeptEntry) (list : WriteList) → decision ≡ Adds entry list
+    → Decides request outcome writes (Ok decision) → outcome ≡ adds entry
+adds_is request outcome writes decision entry list is decides = (let D : Decision → Type 0 = λ d. Decides request outcome writes (Ok d) in (subst D is decides).0)
+
+pub adds_of : (request : Request) (outcome : Outcome) (writes : KeptEntry → WriteList) (decision : Decision) (entry : KeptEntry) (list : WriteList) → decision ≡ Adds entry list
+    → Decides request outcome writes (Ok decision) → list ≡ writes entry
+adds_of request outcome writes decision entry list is decides = (let D : Decision → Type 0 = λ d. Decides request outcome writes (Ok d) in (subst D is decides).1)
+
+pub next_number : (history : History) (decision : Decision) (entry : KeptEntry) (list : WriteList) → decision ≡ Adds entry list → AddsNext history (Ok decision) → entry.seq ≡ length history + 1
+next_number history decision entry list is next = (let D : Decision → Type 0 = λ d. AddsNext history (Ok d) in (subst D is next).0)
+
+-- the reply of an outcome that adds nothing is not that
+abbrev IsNoFault : Outcome → Type 0
+IsNoFault (stays reply) = reply ≡ Words KeeperFault → ⊥
+IsNoFault (adds e) = Unit {0}
+
+of_outcome : (outcome : Outcome) (reply : Reply) → IsNoFault outcome → outcome ≡ stays reply → reply ≡ Words KeeperFault → ⊥
+of_outcome (stays other) reply none is fault = (let same : other ≡ reply = cc in none (same ∙ fault))
+of_outcome (adds e) reply none is fault = cc
+
+accredit-none : (office : OfficeState) (issuer : Lei) (moment : ℤ) (found : Option Text) → IsNoFault (accredit_outcome office issuer moment found)
+accredit-none office issuer moment None = elim (is_full office) as (λ b. IsNoFault (cond b (stays (Words refusals.LedgerFull)) (adds (accreditation office.history issuer moment)))) [ true ↦ λ is. cc | false ↦ tt ]
+accredit-none office issuer moment (Some text) = λ is. cc
+
+body-none : (office : OfficeState) (call : Call) (moment : ℤ) (read : Result (List RawItem) Malformed) → IsNoFault (body_outcome office call moment read)
+body-none office call moment (Ok raws) = elim (is_full office || is_too_much office call.body) as (λ b. IsNoFault (cond b (stays (Words refusals.LedgerFull)) (adds (taken_upload office call moment raws)))) [ true ↦ λ is. cc | false ↦ tt ]
+body-none office call moment (Err fault) = λ is. cc
+
+place-none : (office : OfficeState) (call : Call) (moment : ℤ) (at : Place) → IsNoFault (place_outcome office call moment at)
+place-none office call moment unknown_issuer = λ is. cc
+place-none office call moment (repeat_of answer) = λ is. cc
+place-none office call moment number_taken = λ is. cc
+place-none office call moment (ahead next) = λ is. cc
+place-none office call moment fresh = body-none office call moment (upload call.body)
+
+upload-none : (office : OfficeState) (call : Call) (moment : ℤ) → IsNoFault (upload_outcome office call moment)
+unfolding upload_outcome
+upload-none office call moment = elim (ltb office.limits.body (length call.body)) as (λ b. IsNoFault (cond b (stays (Words refusals.TooLong)) (place_outcome office call moment (place office.history call.office call.number call.body)))) [
+  | true ↦ λ is. cc
+  | false ↦ place-none office call moment (place office.history call.office call.number call.body)
+]
+
+show-none : (found : Option Row) → IsNoFault (show_outcome found)
+show-none None = λ is. cc
+show-none (Some row) = λ is. cc
+
+answer-none : (found : Option Text) → IsNoFault (answer_outcome found)
+answer-none None = λ is. cc
+answer-none (Some text) = λ is. cc
+
+kept-none : (known : Bool) (found : Option Text) → IsNoFault (cond known (answer_outcome found) (stays (Words refusals.IssuerUnknown)))
+kept-none true found = answer-none found
+kept-none false found = λ is. cc
+
+publish-none : (office : OfficeState) (number : ℕ) (moment : ℤ) (found : Option Text) → IsNoFault (publish_outcome office number moment found)
+publish-none office number moment None = by_tests (number == next_publication office.history) (is_full office)
+  where
+    by_tests : (next full : Bool) → IsNoFault (cond next (cond full (stays (Words refusals.LedgerFull)) (adds (publication_entry office number moment))) (stays (Words (refusals.NumberAhead (next_publication office.history)))))
+    by_tests true true = λ is. cc
+    by_tests true false = tt
+    by_tests false full = λ is. cc
+publish-none office number moment (Some text) = λ is. cc
+
+copy-none : (sheet : Sheet) (form : Form) (number : ℕ) (found : Option Publication) → IsNoFault (copied sheet form number found)
+copy-none sheet form number None = λ is. cc
+copy-none sheet form number (Some publication) = λ is. cc
+
+delta-none : (sheet : Sheet) (form : Form) (made : Trail) (found : Result ℕ ShelfFault) (last : Option Publication) → IsNoFault (changed sheet form made found last)
+delta-none sheet form made (Err ShelfFault.NothingPublished) last = λ is. cc
+delta-none sheet form made (Err ShelfFault.PublicationUnknown) last = λ is. cc
+delta-none sheet form made (Err ShelfFault.NoBase) last = λ is. cc
+delta-none sheet form made (Err ShelfFault.NoMemory) last = λ is. cc
+delta-none sheet form made (Ok from) None = λ is. cc
+delta-none sheet form made (Ok from) (Some publication) = λ is. cc
+
+outcome-none : (office : OfficeState) (request : Request) (moment : ℤ) → IsNoFault (outcome_at office request moment)
+outcome-none office (Accredit issuer) moment = accredit-none office issuer moment (accredited office.history issuer)
+outcome-none office (Upload call) moment = upload-none office call moment
+outcome-none office (Kept issuer number) moment = kept-none (is_some (accredited office.history issuer)) (kept office.history issuer number)
+outcome-none office (Show lei) moment = show-none (row_at (after office.limits office.history) lei)
+outcome-none office (Publish number) moment = publish-none office number moment (published office.history number)
+outcome-none office (Copy sheet form) moment = copy-none sheet form (length (trail office)) (latest (trail office))
+outcome-none office (Delta base sheet form) moment = delta-none sheet form (trail office) (base_in (moments_of (trail office)) base) (latest (trail office))
+outcome-none office Status moment = λ is. cc
+
+pub never_fault : (office : OfficeState) (request : Request) (moment : ℤ) (reply : Reply) → outcome_at office request moment ≡ stays reply → reply ≡ Words KeeperFault → ⊥
+never_fault office request moment reply is fault = of_outcome (outcome_at office request moment) reply (outcome-none office request moment) is fault

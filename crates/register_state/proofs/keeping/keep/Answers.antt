@@ -1,0 +1,18 @@
+use Rattle.std.proofs.Common.{◌≤◌, ◌∷◌, [], arith, length-append}
+use Rattle.lei_outside.specs.declared.keeper.Batch.{Batch}
+use Rattle.register_history.proofs.KeptLemmas.{told-with, touched-batch}
+use Rattle.register_state.proofs.keeping.keep.Goals as goal
+
+pub commit-requires-clause-batch : goal.commit-requires-clause-batch
+commit-requires-clause-batch g c =
+    let batch : Batch = record { entry = c.args.entry; cells = c.in_ok-cells.cells } in
+    let few = c.requires.few.entries in
+    let some : 1 ≤ c.args.entry.seq = omega (arith, c.requires.number) in
+    let most : c.args.entry.seq ≤ 9223372036854775807 = omega (arith, c.requires.number, few, length-append c.args.ledger.now.entries (c.args.entry ∷ [])) in
+    touched-batch batch c.args.table.now.held some most c.requires.office c.in_ok-cells.ensures
+
+pub returns-clause-kept : goal.returns-clause-kept
+returns-clause-kept g c = λ before touches keeps.
+    let batch : Batch = record { entry = c.args.entry; cells = c.in_ok-cells.cells } in
+    let some : 1 ≤ c.args.entry.seq = omega (arith, c.requires.number) in
+    told-with _ _ c.args.ledger.now.entries before c.args.table.now.held batch some touches c.in_ok-cells.ensures c.in_ok-commit.ensures.tables keeps

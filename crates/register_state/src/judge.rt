@@ -1,0 +1,59 @@
+// What an upload's items come to.
+ghost use Rattle.std.specs.Prelude.{◌≡◌, ◌≤◌, IfOk, length, map};
+ghost use Rattle.lei_shapes.specs.Moment.{IsMoment, day_of};
+ghost use Rattle.lei_records.specs.Items.{ready as ready_of};
+ghost use Rattle.lei_records.specs.Tables.{record_count};
+ghost use Rattle.register_judge.specs.Taking.{take};
+ghost use Rattle.register_table.specs.Held.{rows};
+ghost use Rattle.register_state.specs.Judging.{ShowsTaken};
+
+use lei_code::Lei;
+use lei_outside::NoMemory;
+use lei_records::{RawItem, Readied, ready};
+use lei_shapes::day_number;
+use register_judge::{JudgeStop, Outcome, judge_all};
+use register_table::Table;
+use std::alloc::Global;
+
+// Judges the items of an issuer's upload on the table, on the day of the moment, where the table may hold so many
+// records.
+pub fn judge(
+    alloc: Global,
+    table: &Table,
+    records: u32,
+    issuer: &Lei,
+    moment: i64,
+    raws: &[RawItem],
+) -> Result<Outcome, NoMemory>
+    requires count { length raws.now ≤ 5000 }
+    requires moment { IsMoment moment }
+    requires fits { record_count (rows table.now.held) ≤ records }
+    ensures { IfOk result (λ outcome.
+        ShowsTaken outcome (take (rows table.now.held) records (day_of moment) issuer.now (map ready_of raws.now))) }
+{
+    let items = ready_all(alloc, raws)?;
+    let room = records.saturating_sub(table.held());
+    match judge_all(
+        alloc,
+        table,
+        room,
+        issuer,
+        day_number(moment),
+        items.as_slice(),
+    ) {
+        Ok(outcome) => Ok(outcome),
+        Err(JudgeStop::NoMemory) => Err(NoMemory),
+        Err(JudgeStop::NeedCell(_)) => unreachable!(),
+    }
+}
+
+// Asks the checks of each item's fields.
+fn ready_all(alloc: Global, raws: &[RawItem]) -> Result<Vec<Readied>, NoMemory>
+    ensures { IfOk result (λ items. items.items ≡ map ready_of raws.now) }
+{
+    let mut items = Vec::with_capacity(alloc, raws.len())?;
+    for raw in raws {
+        items.push(ready(alloc, raw)?)?;
+    }
+    Ok(items)
+}

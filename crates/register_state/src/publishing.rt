@@ -1,0 +1,294 @@
+//! Publications: what changed since the last one goes onto the shelf, which gives copies of the latest and deltas to it.
+ghost use Rattle.std.specs.Prelude.{◌≡◌, ◌<◌, ◌++◌, ◌∷◌, [], IfOk, OnErr, OnOk, Some, length, map};
+ghost use Rattle.copy_csv.specs.Sheets as sheets;
+ghost use Rattle.copy_forms.specs.Trails.{Publication, Trail};
+ghost use Rattle.golden_shelf.specs.Changes.{AreOwnChanges, IsIssued};
+ghost use Rattle.golden_shelf.specs.Shelves.{Keeps as KeepsTrail, latest_rows};
+ghost use Rattle.lei_shapes.specs.Moment.{IsMoment};
+ghost use Rattle.upload_ledger.specs.History.{published};
+ghost use Rattle.register_words.specs.declared.request.Request.TheVariants.{Copy, Delta, Publish};
+ghost use Rattle.register_state.specs.Deciding.{AddsNext, Decides, Tells};
+ghost use Rattle.register_history.specs.Legal.{Legal};
+ghost use Rattle.register_words.specs.Requests.{IsUploadNumber};
+ghost use Rattle.register_words.specs.Limits.{AreLimits};
+ghost use Rattle.register_history.specs.Publications.{last_published, trail};
+ghost use Rattle.register_history.specs.Publishing.{AreChangesSince, change_of, row_published};
+ghost use Rattle.register_history.specs.Register.{IsKeptAfter, after, entry_writes};
+ghost use Rattle.register_history.specs.Replies.{copy_outcome, delta_outcome, form_kind, json_reply, next_publication, publication_entry, publish_outcome};
+ghost use Rattle.register_state.specs.Shelving.{IsShelved, Shelves};
+ghost use Rattle.register_history.specs.State.{office_of};
+
+use copy_csv::{Form, Row, Sheet, Texts};
+use crate::decision::{Decision, is_full, refused};
+use crate::entries::publication;
+use golden_shelf::{Base, Shelf, ShelfFault};
+use lei_outside::{Bytes, KeptEntry, List, NoMemory};
+use lei_records::{FieldTexts, Item, RowKey};
+use lei_shapes::{Moment, RelationRegistration};
+use register_table::{Table, Touched};
+use register_words::{Kind, Limits, Refusal, Reply};
+use std::alloc::Global;
+use std::marker::Brand;
+use std::sync::ledger::{Blank, Ledger as Counted};
+use std::thread::Threads;
+use upload_ledger::{Ledger, PUBLISH};
+use worker_pool::Steps;
+
+/// Decides a publication of this number, which has this moment where it is made, and publishes it on the shelf then.
+pub fn publish<R: Threads + Sync>(
+    rt: &R,
+    alloc: Global,
+    limits: Limits,
+    ledger: &Ledger,
+    table: &Table,
+    shelf: &mut Shelf,
+    number: u32,
+    moment: i64,
+) -> Result<Decision, NoMemory>
+    requires limits { AreLimits limits }
+    requires number { IsUploadNumber number }
+    requires moment { IsMoment moment }
+    requires legal { Legal (office_of limits ledger.now.entries) }
+    requires table { IsKeptAfter limits ledger.now.entries table.now }
+    requires shelf { IsShelved limits ledger.now.entries shelf.old.now }
+    ensures decides { Decides (Publish number)
+        (publish_outcome (office_of limits ledger.now.entries) number moment (published ledger.now.entries number))
+        (entry_writes limits (after limits ledger.now.entries)) result }
+    ensures next { AddsNext ledger.now.entries result }
+    ensures shelf { Shelves limits ledger.now.entries shelf.old result shelf.new }
+{
+    if let Some(text) = ledger.publication(number) {
+        return Ok(Decision::Stays(published_reply(alloc, text)?));
+    }
+    let next = ledger.totals().publications + 1;
+    if number != next {
+        return Ok(refused(Refusal::NumberAhead(next)));
+    }
+    if is_full(limits, ledger) {
+        return Ok(refused(Refusal::LedgerFull));
+    }
+    let entry = publish_next(rt, alloc, limits, ledger, table, shelf, number, moment)?;
+    Ok(Decision::Adds(entry, List::from(Vec::new(alloc))))
+}
+
+// The text that is kept of a publication, as it is answered.
+fn published_reply(alloc: Global, text: &[u8]) -> Result<Reply, NoMemory>
+    ensures { IfOk result (λ reply. reply ≡ json_reply 201 text.now) }
+{
+    Ok(Reply::Text {
+        code: 201,
+        kind: Kind::Json,
+        text: Bytes::copy_of(alloc, text)?,
+    })
+}
+
+// Publishes the next publication on the shelf, and makes its entry.
+fn publish_next<R: Threads + Sync>(
+    rt: &R,
+    alloc: Global,
+    limits: Limits,
+    ledger: &Ledger,
+    table: &Table,
+    shelf: &mut Shelf,
+    number: u32,
+    moment: i64,
+) -> Result<KeptEntry, NoMemory>
+    requires limits { AreLimits limits }
+    requires number { IsUploadNumber number }
+    requires next { number ≡ next_publication ledger.now.entries }
+    requires moment { IsMoment moment }
+    requires legal { Legal (office_of limits ledger.now.entries) }
+    requires table { IsKeptAfter limits ledger.now.entries table.now }
+    requires shelf { IsShelved limits ledger.now.entries shelf.old.now }
+    ensures entry { IfOk result (λ entry. entry ≡ publication_entry (office_of limits ledger.now.entries) number moment) }
+    ensures shelf { IfOk result (λ entry. IsShelved limits (ledger.now.entries ++ entry ∷ []) shelf.new.now) }
+    ensures before { OnOk result (shelf.new.before ≡ Some shelf.old.now) }
+    ensures stays { OnErr result (shelf.new.now ≡ shelf.old.now) }
+{
+    let moment = moment_of(moment);
+    let entries = ledger.entries();
+    let (after, upto) = (last_published(entries), entries.len() as u64);
+    let changes = changes_since(alloc, table, after, upto)?;
+    shelve::<Brand, R>(rt, shelf, moment, changes.as_slice(), Blank::new(1))?;
+    match publication(alloc, entries, number, moment, shelf.counts()) {
+        Ok(entry) => Ok(entry),
+        Err(NoMemory) => {
+            shelf.undo();
+            Err(NoMemory)
+        }
+    }
+}
+
+// The moment that is so many seconds after 1970-01-01T00:00:00Z.
+fn moment_of(seconds: i64) -> Moment
+    requires { IsMoment seconds }
+    ensures { result ≡ seconds }
+{
+    match Moment::of(seconds) {
+        Some(moment) => moment,
+        None => unreachable!(),
+    }
+}
+
+// The number of the entry that made the latest publication, 0 where there is none. Only the entries behind it are looked
+// at.
+fn last_published(entries: &[KeptEntry]) -> u64
+    ensures { result ≡ last_published entries.now }
+{
+    for index in (0..entries.len()).rev() {
+        let entry = &entries[index];
+        if entry.kind == PUBLISH {
+            return entry.seq;
+        }
+    }
+    0
+}
+
+// Publishes these changes on the shelf. The steps that it takes are counted in a ledger that nobody reads.
+fn shelve<L: Counted, R: Threads + Sync>(
+    rt: &R,
+    shelf: &mut Shelf,
+    moment: Moment,
+    changes: &[(RowKey, Option<Row>)],
+    blank: Blank,
+) -> Result<(), NoMemory>
+    requires changes { AreOwnChanges changes.now }
+    requires few { length shelf.old.now.issues < 1_000_000 }
+    requires name { blank.name ≡ L.name }
+    requires parts { blank.parts ≡ L.parts }
+    requires one { blank.parts ≡ 1 }
+    ensures next { OnOk result ((trail : Trail) (next : Publication) → KeepsTrail trail shelf.old.now
+        → IsIssued (latest_rows trail) moment changes.now next → KeepsTrail (trail ++ next ∷ []) shelf.new.now) }
+    ensures before { OnOk result (shelf.new.before ≡ Some shelf.old.now) }
+    ensures err { OnErr result (shelf.new ≡ shelf.old) }
+{
+    let mut steps = Steps::<L>::new(blank);
+    shelf.publish(rt, moment, changes, &mut steps)
+}
+
+/// The keys that entries touched last whose numbers are greater than `after` and at most `upto`, each with the row that is
+/// published of it, or with none.
+pub fn changes_since(
+    alloc: Global,
+    table: &Table,
+    after: u64,
+    upto: u64,
+) -> Result<Vec<(RowKey, Option<Row>)>, NoMemory>
+    ensures { IfOk result (λ changes. AreChangesSince after upto table.now.held changes.items) }
+{
+    let touched = table.touched(after, upto)?;
+    changes_of(alloc, touched.as_slice())
+}
+
+// What became of touched keys.
+fn changes_of(alloc: Global, touched: &[Touched]) -> Result<Vec<(RowKey, Option<Row>)>, NoMemory>
+    ensures { IfOk result (λ changes. changes.items ≡ map change_of touched.now) }
+{
+    let mut changes = Vec::with_capacity(alloc, touched.len())?;
+    for told in touched {
+        changes.push((told.key, row_of(alloc, &told.item)?))?;
+    }
+    Ok(changes)
+}
+
+// The row that is published of what is held under a key.
+fn row_of(alloc: Global, item: &Option<Item>) -> Result<Option<Row>, NoMemory>
+    ensures { IfOk result (λ row. row ≡ row_published item.now) }
+{
+    match item {
+        Some(item) => published_row(alloc, item),
+        None => Ok(None),
+    }
+}
+
+// The row that is published of an item: none of a relationship whose registration is annulled.
+fn published_row(alloc: Global, item: &Item) -> Result<Option<Row>, NoMemory>
+    ensures { IfOk result (λ row. row ≡ row_published (Some item.now)) }
+{
+    match item {
+        Item::Record(record) => Ok(Some(sheet_row(alloc, Sheet::Lei, record.texts())?)),
+        Item::Relation(relation) => {
+            if relation.registration() == RelationRegistration::Annulled {
+                return Ok(None);
+            }
+            Ok(Some(sheet_row(alloc, Sheet::Rr, relation.texts())?))
+        }
+        Item::Exception(exception) => Ok(Some(sheet_row(alloc, Sheet::Repex, exception.texts())?)),
+    }
+}
+
+// The row of a sheet with these texts, which are copied into one piece of memory.
+fn sheet_row(alloc: Global, sheet: Sheet, fields: &FieldTexts) -> Result<Row, NoMemory>
+    requires { length fields.now ≡ sheets.width sheet }
+    ensures { IfOk result (λ row. row ≡ sheets.row_of sheet fields.now) }
+{
+    let mut texts = Texts::with_capacity(alloc, fields.len(), bytes_of(fields))?;
+    for index in 0..fields.len() {
+        texts.push(fields.text(index))?;
+    }
+    Ok(Row::of(sheet, texts))
+}
+
+// How many bytes texts have together.
+fn bytes_of(fields: &FieldTexts) -> usize {
+    let mut bytes = 0_usize;
+    for index in 0..fields.len() {
+        bytes = bytes.saturating_add(fields.text(index).len());
+    }
+    bytes
+}
+
+/// The copy of a sheet in the latest publication.
+pub fn copy(shelf: &Shelf, sheet: Sheet, form: Form) -> Result<Reply, NoMemory>
+    ensures { (trail : Trail) → KeepsTrail trail shelf.now.now → Tells (Copy sheet form) (copy_outcome sheet form trail) result }
+{
+    match shelf.latest() {
+        Some(_) => latest_copy(shelf, sheet, form),
+        None => Ok(Reply::Words(Refusal::NothingPublished)),
+    }
+}
+
+// The copy of a sheet in the latest publication, of which there is one.
+fn latest_copy(shelf: &Shelf, sheet: Sheet, form: Form) -> Result<Reply, NoMemory>
+    requires { ¬ (shelf.now.now.issues ≡ []) }
+    ensures { (trail : Trail) → KeepsTrail trail shelf.now.now → Tells (Copy sheet form) (copy_outcome sheet form trail) result }
+{
+    match shelf.copy(sheet, form) {
+        Ok(text) => Ok(file_reply(form, text)),
+        Err(_) => Err(NoMemory),
+    }
+}
+
+/// The delta of a sheet from its base to the latest publication.
+pub fn delta(shelf: &Shelf, base: Base, sheet: Sheet, form: Form) -> Result<Reply, NoMemory>
+    ensures { (trail : Trail) → KeepsTrail trail shelf.now.now → Tells (Delta base sheet form) (delta_outcome base sheet form trail) result }
+{
+    match shelf.delta(base, sheet, form) {
+        Ok(text) => Ok(file_reply(form, text)),
+        Err(ShelfFault::NothingPublished) => Ok(Reply::Words(Refusal::NothingPublished)),
+        Err(ShelfFault::PublicationUnknown) => Ok(Reply::Words(Refusal::PublicationUnknown)),
+        Err(ShelfFault::NoBase) => Ok(Reply::Words(Refusal::NoBase)),
+        Err(ShelfFault::NoMemory) => Err(NoMemory),
+    }
+}
+
+// A file in this form, as it is answered.
+fn file_reply(form: Form, text: Bytes) -> Reply
+    ensures { result ≡ Reply.Text 200 (form_kind form) text }
+{
+    Reply::Text {
+        code: 200,
+        kind: form_kind(form),
+        text,
+    }
+}
+
+// The kind of a text that is a file in this form.
+fn form_kind(form: Form) -> Kind
+    ensures { result ≡ form_kind form }
+{
+    match form {
+        Form::Csv => Kind::Csv,
+        Form::Json => Kind::Json,
+    }
+}

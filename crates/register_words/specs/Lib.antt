@@ -1,0 +1,5 @@
+pub mod Words
+pub mod Limits
+pub mod Faults
+pub mod Requests
+pub mod Refusals

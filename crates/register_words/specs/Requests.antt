@@ -1,0 +1,44 @@
+-- Requests as readers make them. This project's profile.
+use Rattle.std.specs.Prelude.{ℕ}
+use Rattle.lei_code.specs.Code.{IsValid}
+use Rattle.register_words.specs.declared.request.Request.{Request}
+use Rattle.register_words.specs.declared.request.Request.TheVariants.{Accredit, Upload, Kept, Publish, Show, Copy, Delta, Status}
+use Rattle.register_words.specs.Limits.{IsFrom1To}
+use Rattle.register_words.specs.Words.{number_limit}
+
+-- the number of an upload lies from 1 to its limit, and so does that of a publication
+abbrev pub IsUploadNumber : ℕ → Type 0
+IsUploadNumber number = IsFrom1To number_limit number
+
+-- where a request has a number, it lies in its range
+abbrev pub IsNumbered : Request → Type 0
+IsNumbered (Accredit issuer) = Unit {0}
+IsNumbered (Upload call) = IsUploadNumber call.number
+IsNumbered (Kept issuer number) = IsUploadNumber number
+IsNumbered (Publish number) = IsUploadNumber number
+IsNumbered (Show lei) = Unit {0}
+IsNumbered (Copy sheet form) = Unit {0}
+IsNumbered (Delta base sheet form) = Unit {0}
+IsNumbered Status = Unit {0}
+
+-- a request as readers make it: each LEI that it names is one, and its number lies in its range
+abbrev pub IsRequest : Request → Type 0
+IsRequest (Accredit issuer) = IsValid issuer
+IsRequest (Upload call) = IsValid call.office × IsUploadNumber call.number
+IsRequest (Kept issuer number) = IsValid issuer × IsUploadNumber number
+IsRequest (Publish number) = IsUploadNumber number
+IsRequest (Show lei) = IsValid lei
+IsRequest (Copy sheet form) = Unit {0}
+IsRequest (Delta base sheet form) = Unit {0}
+IsRequest Status = Unit {0}
+
+-- reading this request takes memory: an upload's, whose body is kept
+abbrev pub TakesMemoryToRead : Request → Type 0
+TakesMemoryToRead (Accredit issuer) = ⊥
+TakesMemoryToRead (Upload call) = Unit {0}
+TakesMemoryToRead (Kept issuer number) = ⊥
+TakesMemoryToRead (Publish number) = ⊥
+TakesMemoryToRead (Show lei) = ⊥
+TakesMemoryToRead (Copy sheet form) = ⊥
+TakesMemoryToRead (Delta base sheet form) = ⊥
+TakesMemoryToRead Status = ⊥

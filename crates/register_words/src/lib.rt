@@ -1,0 +1,19 @@
+//! The register's protocol: what is asked of it and answered, what single words of requests are read as, and what it takes
+//! at most.
+#![tactic(auto)]
+
+mod base;
+mod limits;
+mod malformed;
+mod reply;
+mod request;
+mod sheets;
+mod words;
+
+pub use base::Base;
+pub use limits::Limits;
+pub use malformed::Malformed;
+pub use reply::{Allowed, Kind, Refusal, Reply};
+pub use request::{Asked, Call, Request, is_upload_number};
+pub use sheets::{Form, Sheet};
+pub use words::{MAX_NUMBER, base_of, code_of, form_of, number_of, number_within, sheet_of};

@@ -1,0 +1,27 @@
+//! The commands of the register over memory alone.
+use lei_outside::SureKeeper;
+use leireg_commands::{run_command, tell};
+use leireg_run::status::{NO_MEMORY, USAGE};
+use program_words::{WordsFault, wanted};
+use std::mem::forget;
+use std::thread::Threads;
+
+/// Does what the words ask for, and says the status. A store is none of this program's. The runtime is handed on as one
+/// that may start threads, and as the host.
+pub fn run_words<R: Threads + Sync>(rt: &R, host: &HostRuntime, words: &[String]) -> u8 {
+    let status = match wanted(host.alloc(), words) {
+        Ok(wanted) => match wanted.store {
+            None => {
+                let keeper = SureKeeper::new(host.alloc());
+                let (status, keeper) = run_command(rt, host, words, &wanted, keeper);
+                forget(keeper);
+                status
+            }
+            Some(_) => USAGE,
+        },
+        Err(WordsFault::Usage) => USAGE,
+        Err(WordsFault::NoMemory) => NO_MEMORY,
+    };
+    tell(host, status, words);
+    status
+}
