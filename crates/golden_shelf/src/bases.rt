@@ -3,10 +3,10 @@ ghost use Rattle.std.specs.Prelude.{◌≡◌, ◌≤◌, ◌-ℤ◌, int_le, le
 ghost use Rattle.golden_shelf.specs.Bases as spec;
 ghost use Rattle.golden_shelf.specs.Bases.{base_in, moments_in};
 
-use register_words::Base;
 use crate::fault::ShelfFault;
 use crate::issue::Issue;
 use lei_shapes::Moment;
+use register_words::Base;
 
 /// The number of the publication that a base names, or why it names none.
 pub fn base_number(issues: &[Issue], base: Base) -> Result<u32, ShelfFault>

@@ -12,7 +12,6 @@ ghost use Rattle.golden_shelf.specs.Changes.{AreOwnChanges, IsIssued};
 ghost use Rattle.golden_shelf.specs.Deltas.{changed_in, shown_in};
 ghost use Rattle.golden_shelf.specs.Shelves.{Keeps, latest, latest_rows, lines_of, nothing_kept};
 
-use register_words::Base;
 use crate::bases::base_number;
 use crate::deltas::changes_of;
 use crate::fault::ShelfFault;
@@ -25,6 +24,7 @@ use copy_forms::{copy_text, delta_text};
 use lei_outside::{Bytes, List, NoMemory};
 use lei_records::RowKey;
 use lei_shapes::Moment;
+use register_words::Base;
 use std::alloc::Global;
 use std::marker::Model;
 use std::sync::ledger::Ledger;

@@ -17,12 +17,12 @@ ghost use Rattle.register_history.specs.Register.{IsKeptAfter, after, entry_writ
 ghost use Rattle.register_table.specs.Held.{rows};
 ghost use Rattle.register_history.specs.State.{office_of};
 
-use answer_texts::status_text;
-use copy_forms::item_text;
 use crate::decision::{Decision, is_full, refused};
 use crate::entries::{accreditation, taken_upload};
 use crate::judge::judge;
 use crate::publishing::{copy, delta, publish};
+use answer_texts::status_text;
+use copy_forms::item_text;
 use golden_shelf::Shelf;
 use lei_code::Lei;
 use lei_outside::{Bytes, KeptEntry, List, NoMemory};

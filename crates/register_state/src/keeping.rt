@@ -12,11 +12,11 @@ ghost use Rattle.register_history.specs.Touching.{AreCellsTouched, Touches};
 ghost use Rattle.register_table.specs.Held.{Held, rows};
 ghost use Rattle.register_table.specs.Undos.{IsLater, MayApply, touch_all};
 
-use register_words::{Kind, Reply};
 use copy_forms::item_text;
 use lei_outside::{Batch, Bytes, KeepFault, Keeper, KeptCell, KeptEntry, List, NoMemory, Shared};
 use lei_records::{Item, RowKey, Writes};
 use register_table::{Table, Touched};
+use register_words::{Kind, Reply};
 use std::alloc::Global;
 use upload_ledger::{Ledger, PUBLISH};
 

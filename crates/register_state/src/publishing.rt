@@ -18,9 +18,9 @@ ghost use Rattle.register_history.specs.Replies.{copy_outcome, delta_outcome, fo
 ghost use Rattle.register_state.specs.Shelving.{IsShelved, Shelves};
 ghost use Rattle.register_history.specs.State.{office_of};
 
-use copy_csv::{Form, Row, Sheet, Texts};
 use crate::decision::{Decision, is_full, refused};
 use crate::entries::publication;
+use copy_csv::{Form, Row, Sheet, Texts};
 use golden_shelf::{Base, Shelf, ShelfFault};
 use lei_outside::{Bytes, KeptEntry, List, NoMemory};
 use lei_records::{FieldTexts, Item, RowKey};

@@ -60,7 +60,10 @@ fn are_alike<R: Threads + Sync, K: Keeper>(
 ) -> Result<(bool, SureKeeper), NoMemory> {
     let (status, written, memory) = came(rt, alloc, words, lines, memory)?;
     let (same_status, same, _) = came(rt, alloc, words, lines, file)?;
-    let are_alike = status == OK && same_status == OK && written == same && !written.as_slice().is_empty();
+    let are_alike = status == OK
+        && same_status == OK
+        && written == same
+        && !written.as_slice().is_empty();
     Ok((are_alike, memory))
 }
 

@@ -8,11 +8,11 @@ ghost use Rattle.upload_format.specs.Bodies;
 ghost use Rattle.upload_format.specs.Bodies.{Gives, behind, fields_of, found, in_order, item_of, items_of, list_name, list_of, listed, member_names, parsed, uncounted, upload, value_of};
 
 use crate::fault::UploadFault;
-use register_words::Malformed;
 use crate::ordered::read_ordered;
 use json::Scratch;
 use lei_outside::{List, Text};
 use lei_records::{Fields, Kind, RawItem, Upload};
+use register_words::Malformed;
 use serde_json::{Map, Value};
 use std::alloc::Global;
 
