@@ -1,5 +1,6 @@
 -- What a box of waiting bytes does to an output.
 use Rattle.std.specs.Prelude.{◌≡◌, ℕ, List, ◌++◌, Option, Result, MatchResult}
+use Rattle.lei_code.specs.Texts.{Text}
 use Rattle.lei_outside.specs.Told.{Grows, WritesFront}
 
 -- Of all these bytes a front was written, and the rest waits.
