@@ -1,7 +1,7 @@
 //! A command between its inputs and the standard output.
 ghost use Rattle.std.specs.Prelude.{◌≡◌, ◌⊎◌, None, map, string_bytes};
 ghost use Rattle.program_words.specs.Words.{to_answer_lines};
-ghost use Rattle.leireg_run.specs.Words.{Mean, deed_in};
+ghost use Rattle.leireg_run.specs.Words.{Mean, invocation_in};
 
 use crate::one_of::OneOf;
 use crate::progress::Counted;
@@ -22,8 +22,8 @@ pub fn run_command<R: Threads + Sync, K: Keeper>(
     wanted: &WantedRun<'_>,
     keeper: K,
 ) -> (u8, K)
-    ensures usage { result.0 ≡ 1 → deed_in (map string_bytes words.now) ≡ None }
-    ensures refused { deed_in (map string_bytes words.now) ≡ None → (result.0 ≡ 1) ⊎ (result.0 ≡ 6) }
+    ensures usage { result.0 ≡ 1 → invocation_in (map string_bytes words.now) ≡ None }
+    ensures refused { invocation_in (map string_bytes words.now) ≡ None → (result.0 ≡ 1) ⊎ (result.0 ≡ 6) }
     ensures unkept { ¬ (Mean words.now to_answer_lines) → result.1 ≡ keeper }
 {
     let mut input = FileSource::new(first_input(host, wanted));

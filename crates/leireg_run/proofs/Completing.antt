@@ -22,7 +22,7 @@ use Rattle.line_reading.specs.Faults.{RoseBy, keeper_faults}
 use Rattle.line_reading.specs.Limits.{input_limit}
 use Rattle.leireg_run.specs.Outside.{Course, Leads, Outside}
 use Rattle.line_reading.specs.Runs.{asks_of}
-use Rattle.program_words.specs.Words.{Deed, to_answer_lines, to_check, to_make_digits, to_make_up, to_patch, to_serve}
+use Rattle.program_words.specs.Words.{Invocation, to_answer_lines, to_check, to_make_digits, to_make_up, to_patch, to_serve}
 use Rattle.leireg_run.specs.Status.{end_status, stop_status}
 use Rattle.leireg_run.specs.declared.status.Stop.{Stop}
 use Rattle.leireg_run.specs.declared.status.Stop.TheVariants as stops
@@ -114,7 +114,7 @@ summary_done records before after status n4 n6 (inl (text, is, inr (inl failed))
 summary_done records before after status n4 n6 (inl (text, is, inr (inr wanted))) = absurd (n6 wanted.0)
 summary_done records before after status n4 n6 (inr wanted) = absurd (n6 wanted.0)
 
-pub completes : (may : Option KeptTables → Type 0) (what : Deed) (before after : Outside) (second second_after : Option (List ℕ)) (status : ℕ) → status ≢ 3 → status ≢ 4 → status ≢ 6
+pub completes : (may : Option KeptTables → Type 0) (what : Invocation) (before after : Outside) (second second_after : Option (List ℕ)) (status : ℕ) → status ≢ 3 → status ≢ 4 → status ≢ 6
     → (status ≡ 7 → TellsDamage {E = Unit {0}} before after (Ok (tt {0}))) → Does may what before after second second_after status
     → Completes may what before after second second_after status
 completes may to_answer_lines before after second second_after status n3 n4 n6 whole (inl opens) =
@@ -159,12 +159,12 @@ only_damage stops.StoreDamaged is = refl
 only_damage stops.InputTooLong is = cc
 
 -- nothing stopped what the words mean
-pub completes_meant : (may : Option KeptTables → Type 0) (command what : Deed) (meant : Option Deed) (before after : Outside) (second second_after : Option (List ℕ)) (status : ℕ) → status ≡ 0
+pub completes_meant : (may : Option KeptTables → Type 0) (command what : Invocation) (meant : Option Invocation) (before after : Outside) (second second_after : Option (List ℕ)) (status : ℕ) → status ≡ 0
     → Some command ≡ meant → meant ≡ Some what
     → Does may command before after second second_after status → Completes may what before after second second_after 0
 completes_meant may command what meant before after second second_after status ok is means does =
     let same : command ≡ what = ap (λ o. unwrap_or o command) (is ∙ means) in
-    let D : Deed → Type 0 = λ m. Does may m before after second second_after 0 in
+    let D : Invocation → Type 0 = λ m. Does may m before after second second_after 0 in
     let N : ℕ → Type 0 = λ n. Does may command before after second second_after n in
     let n3 : 0 ≢ 3 = λ is. absurd (omega (arith, is)) in
     let n4 : 0 ≢ 4 = λ is. absurd (omega (arith, is)) in
@@ -173,14 +173,14 @@ completes_meant may command what meant before after second second_after status o
     completes may what before after second second_after 0 n3 n4 n6 n7 (subst D same (subst N ok does))
 
 -- what the words mean was stopped, and nothing failed
-pub completes_stopped : (may : Option KeptTables → Type 0) (command what : Deed) (meant : Option Deed) (before after : Outside) (second second_after : Option (List ℕ)) (ended : Result (Unit {0}) Stop) (stop : Stop) (status : ℕ)
+pub completes_stopped : (may : Option KeptTables → Type 0) (command what : Invocation) (meant : Option Invocation) (before after : Outside) (second second_after : Option (List ℕ)) (ended : Result (Unit {0}) Stop) (stop : Stop) (status : ℕ)
     → ended ≡ Err stop → status ≡ stop_status stop → Some command ≡ meant → meant ≡ Some what → (ended ≡ Err stops.ReadFault → ⊥) → (ended ≡ Err stops.WriteFault → ⊥) → status ≢ 6
     → (ended ≡ Err stops.StoreDamaged → TellsDamage {E = Unit {0}} before after (Ok (tt {0}))) → Does may command before after second second_after (end_status ended)
     → Completes may what before after second second_after status
 completes_stopped may command what meant before after second second_after ended stop status stopped status_is is means read wrote n6 whole does =
     let same : command ≡ what = ap (λ o. unwrap_or o command) (is ∙ means) in
     let at : end_status ended ≡ status = ap end_status stopped ∙ sym status_is in
-    let D : Deed → Type 0 = λ m. Does may m before after second second_after status in
+    let D : Invocation → Type 0 = λ m. Does may m before after second second_after status in
     let N : ℕ → Type 0 = λ n. Does may command before after second second_after n in
     let at_stop : (n : ℕ) (s : Stop) → ((s' : Stop) → stop_status s' ≡ n → s' ≡ s) → status ≡ n → ended ≡ Err s = λ n s only at_n.
     stopped ∙ ap Err (only stop (sym status_is ∙ at_n)) in

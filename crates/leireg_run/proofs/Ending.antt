@@ -17,7 +17,7 @@ use Rattle.leireg_run.specs.Outside.{Course, Leads, Outside, outside}
 use Rattle.line_reading.specs.Reading.{Holds, TakesIn}
 use Rattle.line_reading.specs.Requests.{asked}
 use Rattle.line_reading.specs.Runs.{asks_of, Answers, AnswersInPart, ComesTo, GoesOn, Progress, Ran, Stopped, progress}
-use Rattle.line_reading.specs.Window.{Fills, StaysUnread}
+use Rattle.line_reading.specs.ReadBuffer.{Fills, StaysUnread}
 use Rattle.line_reading.proofs.Going.{Ran-nothing, all_answers, all_written, now_so, ran_flushed, ran_stops}
 use Rattle.line_reading.proofs.Joining.{asks_of-append, lines_for}
 use Rattle.line_reading.proofs.LineLemmas.{IsClosed-append, IsClosed-whole_part, HasNoEnd-last_part, HasNoEnd-nil, parts_of, whole_part-is, lines-end, lines-closed}
@@ -120,30 +120,30 @@ length-none [] is = refl
 length-none (x ∷ xs) is = cc
 
 -- a block was read behind what is held
-record Block (held window more : List ℕ) (seen : ℕ) : Type 0 where
-  front : take seen window ≡ held
-  back : drop seen window ≡ more
+record Block (held input more : List ℕ) (seen : ℕ) : Type 0 where
+  front : take seen input ≡ held
+  back : drop seen input ≡ more
 
-block_of : (held window more : List ℕ) (seen : ℕ) → seen ≡ length held → window ≡ held ++ more
-    → Block held window more seen
-block_of held window more seen same is =
+block_of : (held input more : List ℕ) (seen : ℕ) → seen ≡ length held → input ≡ held ++ more
+    → Block held input more seen
+block_of held input more seen same is =
     let B : List ℕ → Type 0 = λ xs. Block held xs more seen in
     let C : ℕ → Type 0 = λ n. Block held (held ++ more) more n in
     subst B (sym is) (subst C (sym same) (record { front = take-front held more; back = drop-front held more }))
 
-pub unseen : (before after : Option (List ℕ)) (n most : ℕ) (skips : Bool) (held window part : List ℕ) (seen : ℕ)
+pub unseen : (before after : Option (List ℕ)) (n most : ℕ) (skips : Bool) (held input part : List ℕ) (seen : ℕ)
     → seen ≡ length held → Holds skips held part
-    → Fills before after held window n most → HasNoEnd (take seen window)
-unseen before after n most skips held window part seen same holds fills =
+    → Fills before after held input n most → HasNoEnd (take seen input)
+unseen before after n most skips held input part seen same holds fills =
     let N : List ℕ → Type 0 = λ xs. HasNoEnd xs in
-    let block = block_of held window fills.0 seen same fills.4 in
+    let block = block_of held input fills.0 seen same fills.4 in
     subst N (sym block.front) (held_unseen skips held part holds)
 
 -- and the lines that end in it were answered, or the output refused
 abbrev pub Goes : {E : Type 0} → ℕ → Bool → List ℕ → Progress → Result (Unit {0}) E → Progress → Bool → List ℕ → Type 0
-Goes seen skips window before result after skips_now held =
-    (part : List ℕ) → Holds skips (take seen window) part
-    → TakesIn {T = Unit {0}} part (drop seen window) before result after skips_now held
+Goes seen skips input before result after skips_now held =
+    (part : List ℕ) → Holds skips (take seen input) part
+    → TakesIn {T = Unit {0}} part (drop seen input) before result after skips_now held
 
 -- what a block more makes of a run, whatever the output did
 record Further {E : Type 0} (from : OfficeState) (begin : Outside) (left : Option (List ℕ)) (count : ℕ) (rest : List ℕ)
@@ -166,15 +166,15 @@ comes_to start now then front part result closed ran goes =
     (goes start (asks_of (lines front)) ran)
 
 further : {E : Type 0} (from : OfficeState) (begin : Outside) (mid left : Option (List ℕ)) (count n most seen : ℕ) (now then : Progress)
-    (skips : Bool) (held window : List ℕ)
+    (skips : Bool) (held input : List ℕ)
     (result : Result (Unit {0}) E) (part rest : List ℕ) → seen ≡ length held
-    → (at : Midway from begin mid count now skips held) → Fills mid left held window n most
-    → at.part ++ drop seen window ≡ part ++ rest → IsClosed part → GoesOn now (asks_of (lines part)) result then
+    → (at : Midway from begin mid count now skips held) → Fills mid left held input n most
+    → at.part ++ drop seen input ≡ part ++ rest → IsClosed part → GoesOn now (asks_of (lines part)) result then
     → Further from begin left (count + n) rest result then
-further {E} from begin mid left count n most seen now then skips held window result part rest same at fills parts closed
+further {E} from begin mid left count n most seen now then skips held input result part rest same at fills parts closed
     done =
     let more = fills.0 in
-    let block = block_of held window more seen same fills.4 in
+    let block = block_of held input more seen same fills.4 in
     record {
       read = at.read ++ more;
       front = at.front ++ part;
@@ -187,25 +187,25 @@ further {E} from begin mid left count n most seen now then skips held window res
     }
 
 goes_so : {E : Type 0} (from : OfficeState) (begin : Outside) (mid left : Option (List ℕ)) (count n most seen : ℕ) (now then : Progress)
-    (skips skips_now : Bool) (held window held_now : List ℕ)
+    (skips skips_now : Bool) (held input held_now : List ℕ)
     (result : Result (Unit {0}) E) → seen ≡ length held → (at : Midway from begin mid count now skips held)
-    → Fills mid left held window n most
-    → Goes seen skips window now result then skips_now held_now
-    → TakesIn {T = Unit {0}} at.part (drop seen window) now result then skips_now held_now
-goes_so from begin mid left count n most seen now then skips skips_now held window held_now result same at fills goes =
+    → Fills mid left held input n most
+    → Goes seen skips input now result then skips_now held_now
+    → TakesIn {T = Unit {0}} at.part (drop seen input) now result then skips_now held_now
+goes_so from begin mid left count n most seen now then skips skips_now held input held_now result same at fills goes =
     let H : List ℕ → Type 0 = λ xs. Holds skips xs at.part in
-    goes at.part (subst H (sym (block_of held window fills.0 seen same fills.4).front) at.holds)
+    goes at.part (subst H (sym (block_of held input fills.0 seen same fills.4).front) at.holds)
 
 pub takes_in : (from : OfficeState) (begin : Outside) (mid left : Option (List ℕ)) (count n most seen : ℕ) (now then : Progress)
-    (skips skips_now : Bool) (held window held_now : List ℕ)
-    → seen ≡ length held → Midway from begin mid count now skips held → Fills mid left held window n most
+    (skips skips_now : Bool) (held input held_now : List ℕ)
+    → seen ≡ length held → Midway from begin mid count now skips held → Fills mid left held input n most
     → count + n < input_limit
-    → Goes {E = SinkFault} seen skips window now (Ok (tt {0})) then skips_now held_now
+    → Goes {E = SinkFault} seen skips input now (Ok (tt {0})) then skips_now held_now
     → Midway from begin left (count + n) then skips_now held_now
-takes_in from begin mid left count n most seen now then skips skips_now held window held_now same at fills below goes =
-    let went = goes_so {E = SinkFault} from begin mid left count n most seen now then skips skips_now held window held_now (Ok (tt {0}))
+takes_in from begin mid left count n most seen now then skips skips_now held input held_now same at fills below goes =
+    let went = goes_so {E = SinkFault} from begin mid left count n most seen now then skips skips_now held input held_now (Ok (tt {0}))
     same at fills goes in
-    let all = further {E = SinkFault} from begin mid left count n most seen now then skips held window (Ok (tt {0})) went.0 went.1 same at
+    let all = further {E = SinkFault} from begin mid left count n most seen now then skips held input (Ok (tt {0})) went.0 went.1 same at
     fills went.2 went.3 went.4 in
     record {
       read = all.read;
@@ -319,16 +319,16 @@ stops_waiting from begin left kept count now written skips held status cause at 
 
 -- the output refused in a block
 pub stops_in : (from : OfficeState) (begin : Outside) (mid left : Option (List ℕ)) (kept : Option KeptTables) (count n most seen : ℕ)
-    (now then : Progress) (skips skips_now : Bool) (held window held_now : List ℕ)
+    (now then : Progress) (skips skips_now : Bool) (held input held_now : List ℕ)
     (fault : SinkFault) (status : ℕ) → IsCause status → seen ≡ length held → Midway from begin mid count now skips held
-    → Fills mid left held window n most → count + n < input_limit
-    → Goes seen skips window now (Err fault) then skips_now held_now → Keeps kept then.office
+    → Fills mid left held input n most → count + n < input_limit
+    → Goes seen skips input now (Err fault) then skips_now held_now → Keeps kept then.office
     → RunsFrom from begin (left_so left kept then then.written) status
-stops_in from begin mid left kept count n most seen now then skips skips_now held window held_now fault status cause same at
+stops_in from begin mid left kept count n most seen now then skips skips_now held input held_now fault status cause same at
     fills below goes keeps =
-    let went = goes_so from begin mid left count n most seen now then skips skips_now held window held_now (Err fault) same
+    let went = goes_so from begin mid left count n most seen now then skips skips_now held input held_now (Err fault) same
     at fills goes in
-    let all = further from begin mid left count n most seen now then skips held window (Err fault) went.0 went.1 same at
+    let all = further from begin mid left count n most seen now then skips held input (Err fault) went.0 went.1 same at
     fills went.2 went.3 went.4 in
     let short : length all.read < input_limit = omega (arith, all.long) in
     stops_within from begin left kept then status all.read all.front went.1 cause short all.loses all.parts all.closed

@@ -16,7 +16,7 @@ use Rattle.register_history.specs.State.{OfficeState}
 use Rattle.register_history.specs.Legal.{Legal, Session, replies_to}
 use Rattle.register_words.specs.Limits.{standard}
 use Rattle.leireg_run.specs.Codes.{check_line, digits_fault, digits_line, told_status, TellsLine}
-use Rattle.line_reading.specs.Outbox.{IsWritten}
+use Rattle.line_reading.specs.WriteBuffer.{IsWritten}
 use Rattle.line_reading.specs.Limits.{input_limit, read_limit}
 use Rattle.line_reading.specs.Lines.{Line, whole_part}
 use Rattle.line_reading.specs.Moments.{Gives}
@@ -27,7 +27,7 @@ use Rattle.leireg_run.specs.declared.status.Stop.{Stop}
 use Rattle.leireg_run.specs.declared.status.Stop.TheVariants as stops
 use Rattle.register_demo.specs.Session.{IsSummary}
 use Rattle.leireg_run.specs.Applying.{AppliesFiles, CompletesFiles, files}
-use Rattle.program_words.specs.Words.{Deed, to_answer_lines, to_check, to_make_digits, to_make_up, to_patch, to_serve}
+use Rattle.program_words.specs.Words.{Invocation, to_answer_lines, to_check, to_make_digits, to_make_up, to_patch, to_serve}
 
 -- ---- a run over lines, status by status
 
@@ -163,7 +163,7 @@ TellsSummary records before after status =
 -- What was meant was done, with this status: a store was opened, where the keeper may tell so, and the lines of the input
 -- were answered; the line of a text was written; two files were read, of which the second is told apart, and what comes of
 -- them was written; or the summary of a made-up register was. No server is run so.
-abbrev pub Does : (Option KeptTables → Type 0) → Deed → Outside → Outside → Option (List ℕ) → Option (List ℕ) → ℕ → Type 0
+abbrev pub Does : (Option KeptTables → Type 0) → Invocation → Outside → Outside → Option (List ℕ) → Option (List ℕ) → ℕ → Type 0
 Does may to_answer_lines before after second_before second_after status = RunsLines may before after status
 Does may to_serve before after second_before second_after status = ⊥
 Does may (to_check text) before after second_before second_after status =
@@ -176,7 +176,7 @@ Does may (to_make_up records) before after second_before second_after status =
     TellsSummary records before.written after.written status
 
 -- What was meant was done, with this status; or memory was wanting to read the words, and all is as it was.
-abbrev pub DoesIfRead : (Option KeptTables → Type 0) → Deed → Outside → Outside → Option (List ℕ) → Option (List ℕ) → ℕ → Type 0
+abbrev pub DoesIfRead : (Option KeptTables → Type 0) → Invocation → Outside → Outside → Option (List ℕ) → Option (List ℕ) → ℕ → Type 0
 DoesIfRead may what before after second_before second_after status =
     Does may what before after second_before second_after status
     ⊎ ((status ≡ 6) × (after ≡ before) × (second_after ≡ second_before))
@@ -204,7 +204,7 @@ pub record IsComplete (may : Option KeptTables → Type 0) (bytes : List ℕ) (b
 -- answered whole, unless a call of the keeper failed while its store was opened, or the store is damaged, which is told
 -- whole; a text is told, with status 0 or 2; files that are told and short enough are answered, with status 0 or 2; and a
 -- register is made up and told, with status 0.
-abbrev pub Completes : (Option KeptTables → Type 0) → Deed → Outside → Outside → Option (List ℕ) → Option (List ℕ) → ℕ → Type 0
+abbrev pub Completes : (Option KeptTables → Type 0) → Invocation → Outside → Outside → Option (List ℕ) → Option (List ℕ) → ℕ → Type 0
 Completes may to_answer_lines before after second_before second_after status =
     (bytes : List ℕ) → before.left ≡ Some bytes → length bytes < input_limit
     → IsComplete may bytes before after status

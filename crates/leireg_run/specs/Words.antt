@@ -2,10 +2,10 @@
 use Rattle.std.specs.Prelude.{◌≡◌, List, Bool, true, false, map, string_bytes, String, Option, None, Some, option_and_then}
 use Rattle.std.specs.Global.{Global}
 use Rattle.lei_code.specs.Texts.{Text}
-use Rattle.program_words.specs.Words.{Deed, meant, to_answer_lines, to_check, to_make_digits, to_make_up, to_patch, to_serve}
+use Rattle.program_words.specs.Words.{Invocation, meant, to_answer_lines, to_check, to_make_digits, to_make_up, to_patch, to_serve}
 
--- A deed that is done between an input and an output: any but to serve, which has doors in their place.
-abbrev pub unless_serving : Deed → Option Deed
+-- A invocation that is done between an input and an output: any but to serve, which has doors in their place.
+abbrev pub unless_serving : Invocation → Option Invocation
 unless_serving to_answer_lines = Some to_answer_lines
 unless_serving to_serve = None
 unless_serving (to_patch sheet form) = Some (to_patch sheet form)
@@ -14,11 +14,11 @@ unless_serving (to_make_digits text) = Some (to_make_digits text)
 unless_serving (to_make_up records) = Some (to_make_up records)
 
 -- What the words ask for, and nothing where they are no command of such a run.
-abbrev pub deed_in : List Text → Option Deed
-deed_in words = option_and_then (λ what. unless_serving what.deed) (meant words)
+abbrev pub invocation_in : List Text → Option Invocation
+invocation_in words = option_and_then (λ what. unless_serving what.invocation) (meant words)
 
 -- The command reads its first input.
-abbrev pub reads_input : Deed → Bool
+abbrev pub reads_input : Invocation → Bool
 reads_input to_answer_lines = true
 reads_input to_serve = false
 reads_input (to_patch sheet form) = true
@@ -27,7 +27,7 @@ reads_input (to_make_digits text) = false
 reads_input (to_make_up records) = false
 
 -- The command reads its second input.
-abbrev pub reads_second : Deed → Bool
+abbrev pub reads_second : Invocation → Bool
 reads_second to_answer_lines = false
 reads_second to_serve = false
 reads_second (to_patch sheet form) = true
@@ -36,5 +36,5 @@ reads_second (to_make_digits text) = false
 reads_second (to_make_up records) = false
 
 -- The words of a command line ask for this.
-abbrev pub Mean : List (String Global) → Deed → Type 0
-Mean words what = deed_in (map string_bytes words) ≡ Some what
+abbrev pub Mean : List (String Global) → Invocation → Type 0
+Mean words what = invocation_in (map string_bytes words) ≡ Some what

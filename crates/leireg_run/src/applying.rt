@@ -2,7 +2,7 @@
 ghost use Rattle.std.specs.Prelude.{◌≡◌, Ok, Err, IsErrOf};
 ghost use Rattle.lei_outside.specs.Faults.{FailsLast};
 ghost use Rattle.leireg_run.specs.Applying.{AppliesFiles, FailsOneOf, TellsAnswer, TellsOf, answer_text, files};
-ghost use Rattle.line_reading.specs.Outbox.{IsWritten};
+ghost use Rattle.line_reading.specs.WriteBuffer.{IsWritten};
 ghost use Rattle.leireg_run.specs.Status.{end_status};
 
 use crate::codes::write_pieces;

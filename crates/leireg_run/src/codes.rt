@@ -5,7 +5,7 @@ ghost use Rattle.lei_code.specs.Digits.{digits};
 ghost use Rattle.lei_outside.specs.Faults.{FailsLast};
 ghost use Rattle.lei_code.specs.Fault.{fault_of};
 ghost use Rattle.leireg_run.specs.Codes.{check_line, digits_fault, digits_line, line_or, TellsLine};
-ghost use Rattle.line_reading.specs.Outbox.{IsWritten};
+ghost use Rattle.line_reading.specs.WriteBuffer.{IsWritten};
 ghost use Rattle.leireg_run.specs.Status.{end_status};
 
 use crate::status::Stop;

@@ -1,17 +1,17 @@
 //! The command that the words ask for.
 ghost use Rattle.std.specs.Prelude.{◌≡◌, Some, map, string_bytes, IfOk};
 ghost use Rattle.program_words.specs.Reading.{Finds};
-ghost use Rattle.program_words.specs.Words.{IsInRange, deed_of};
-ghost use Rattle.leireg_run.specs.Words.{deed_in, unless_serving};
+ghost use Rattle.program_words.specs.Words.{IsInRange, invocation_of};
+ghost use Rattle.leireg_run.specs.Words.{invocation_in, unless_serving};
 
 use program_words::{Command, WordsFault, wanted};
 use std::alloc::Global;
 
 /// The command that these words are, of those that are done between an input and an output: any but to serve.
 pub fn command_of<'a>(alloc: Global, words: &'a [String]) -> Result<Command<'a>, WordsFault>
-    ensures meant { Finds deed_of (deed_in (map string_bytes words.now)) result }
+    ensures meant { Finds invocation_of (invocation_in (map string_bytes words.now)) result }
     ensures range { IfOk result IsInRange }
-    ensures run { IfOk result (λ command. unless_serving (deed_of command) ≡ Some (deed_of command)) }
+    ensures run { IfOk result (λ command. unless_serving (invocation_of command) ≡ Some (invocation_of command)) }
 {
     match wanted(alloc, words)?.command {
         Command::Serve => Err(WordsFault::Usage),

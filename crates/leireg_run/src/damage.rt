@@ -1,7 +1,7 @@
 //! What is told of a store that can't be opened.
 ghost use Rattle.std.specs.Prelude.{◌≡◌, IsErrOf};
 ghost use Rattle.lei_outside.specs.Faults.{FailsLast};
-ghost use Rattle.line_reading.specs.Outbox.{IsWritten};
+ghost use Rattle.line_reading.specs.WriteBuffer.{IsWritten};
 ghost use Rattle.leireg_run.specs.Ends.{damage_text};
 
 use crate::codes::write_pieces;

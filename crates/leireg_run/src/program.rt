@@ -10,8 +10,8 @@ ghost use Rattle.leireg_run.specs.Outside.{outside};
 ghost use Rattle.line_reading.specs.Reading.{Holds};
 ghost use Rattle.leireg_run.specs.Status.{end_status};
 ghost use Rattle.leireg_run.specs.Applying.{FailsOneOf};
-ghost use Rattle.program_words.specs.Words.{Deed, IsInRange, deed_of, to_answer_lines};
-ghost use Rattle.leireg_run.specs.Words.{Mean, deed_in, reads_input, reads_second, unless_serving};
+ghost use Rattle.program_words.specs.Words.{Invocation, IsInRange, invocation_of, to_answer_lines};
+ghost use Rattle.leireg_run.specs.Words.{Mean, invocation_in, reads_input, reads_second, unless_serving};
 
 use crate::applying::apply;
 use crate::codes::{check, digits};
@@ -44,16 +44,16 @@ pub fn run<R: Threads + Sync, S: Source, T: Source, W: Sink, K: Keeper, C: Clock
     clock: &mut C,
     progress: &mut P,
 ) -> (u8, K)
-    ensures usage { result.0 ≡ 1 → deed_in (map string_bytes words.now) ≡ None }
-    ensures refused { deed_in (map string_bytes words.now) ≡ None → (result.0 ≡ 1) ⊎ (result.0 ≡ 6) }
-    ensures untouched { deed_in (map string_bytes words.now) ≡ None
+    ensures usage { result.0 ≡ 1 → invocation_in (map string_bytes words.now) ≡ None }
+    ensures refused { invocation_in (map string_bytes words.now) ≡ None → (result.0 ≡ 1) ⊎ (result.0 ≡ 6) }
+    ensures untouched { invocation_in (map string_bytes words.now) ≡ None
         → (out.new ≡ out.old) × (input.new ≡ input.old) × (second.new ≡ second.old) }
-    ensures unread { (what : Deed) → Mean words.now what → reads_input what ≡ false → input.new ≡ input.old }
-    ensures second_unread { (what : Deed) → Mean words.now what → reads_second what ≡ false → second.new ≡ second.old }
+    ensures unread { (what : Invocation) → Mean words.now what → reads_input what ≡ false → input.new ≡ input.old }
+    ensures second_unread { (what : Invocation) → Mean words.now what → reads_second what ≡ false → second.new ≡ second.old }
     ensures unasked { ¬ (Mean words.now to_answer_lines) → clock.new ≡ clock.old }
     ensures unkept { ¬ (Mean words.now to_answer_lines) → result.1 ≡ keeper }
     ensures unopened { IsUnopened result.0 → (input.new ≡ input.old) × (clock.new ≡ clock.old) }
-    ensures does { (what : Deed) → Mean words.now what → DoesIfRead (MayTell K.tables) what
+    ensures does { (what : Invocation) → Mean words.now what → DoesIfRead (MayTell K.tables) what
         (outside (S.left input.old) (C.given clock.old) (W.written out.old) (K.tables keeper) (K.faults keeper))
         (outside (S.left input.new) (C.given clock.new) (W.written out.new) (K.tables result.1) (K.faults result.1))
         (T.left second.old) (T.left second.new) result.0 }
@@ -64,7 +64,7 @@ pub fn run<R: Threads + Sync, S: Source, T: Source, W: Sink, K: Keeper, C: Clock
     ensures write_fault { result.0 ≡ 4 → FailsLast W.written W.faults out.old out.new }
     ensures no_write_fault { result.0 ≢ 4 → result.0 ≢ 7 → W.faults out.new ≡ W.faults out.old }
     ensures damage_fault { result.0 ≡ 7 → Rose (W.faults out.old) (W.faults out.new) → FailsLast W.written W.faults out.old out.new }
-    ensures complete { (what : Deed) → Mean words.now what → result.0 ≢ 6
+    ensures complete { (what : Invocation) → Mean words.now what → result.0 ≢ 6
         → ¬ (Rose (S.faults input.old) (S.faults input.new)) → ¬ (Rose (T.faults second.old) (T.faults second.new))
         → ¬ (Rose (W.faults out.old) (W.faults out.new))
         → Completes (MayTell K.tables) what
@@ -97,13 +97,13 @@ fn run_command<R: Threads + Sync, S: Source, T: Source, W: Sink, K: Keeper, C: C
     progress: &mut P,
 ) -> (Result<(), Stop>, K)
     requires range { IsInRange command.now }
-    requires run { unless_serving (deed_of command.now) ≡ Some (deed_of command.now) }
-    ensures unread { reads_input (deed_of command.now) ≡ false → input.new ≡ input.old }
-    ensures second_unread { reads_second (deed_of command.now) ≡ false → second.new ≡ second.old }
-    ensures unasked { ¬ (deed_of command.now ≡ to_answer_lines) → clock.new ≡ clock.old }
-    ensures unkept { ¬ (deed_of command.now ≡ to_answer_lines) → result.1 ≡ keeper }
+    requires run { unless_serving (invocation_of command.now) ≡ Some (invocation_of command.now) }
+    ensures unread { reads_input (invocation_of command.now) ≡ false → input.new ≡ input.old }
+    ensures second_unread { reads_second (invocation_of command.now) ≡ false → second.new ≡ second.old }
+    ensures unasked { ¬ (invocation_of command.now ≡ to_answer_lines) → clock.new ≡ clock.old }
+    ensures unkept { ¬ (invocation_of command.now ≡ to_answer_lines) → result.1 ≡ keeper }
     ensures unopened { IsUnopened (end_status result.0) → (input.new ≡ input.old) × (clock.new ≡ clock.old) }
-    ensures does { Does (MayTell K.tables) (deed_of command.now)
+    ensures does { Does (MayTell K.tables) (invocation_of command.now)
         (outside (S.left input.old) (C.given clock.old) (W.written out.old) (K.tables keeper) (K.faults keeper))
         (outside (S.left input.new) (C.given clock.new) (W.written out.new) (K.tables result.1) (K.faults result.1))
         (T.left second.old) (T.left second.new) (end_status result.0) }
@@ -192,8 +192,8 @@ fn answer_input<R: Threads + Sync, S: Source, W: Sink, K: Keeper, C: Clock>(
     out: &mut W,
     clock: &mut C,
 ) -> Result<(), Stop>
-    requires held { Holds reader.old.skips reader.old.window [] }
-    requires waits { reader.old.outbox ≡ [] }
+    requires held { Holds reader.old.skips reader.old.input [] }
+    requires waits { reader.old.output ≡ [] }
     ensures runs { (kept : Option KeptTables) → Keeps kept reader.new.office.office → RunsFrom reader.old.office.office
         (outside (S.left input.old) (C.given clock.old) (W.written out.old)
         (K.tables reader.old.office.keeper) (K.faults reader.old.office.keeper))
@@ -206,9 +206,9 @@ fn answer_input<R: Threads + Sync, S: Source, W: Sink, K: Keeper, C: Clock>(
 {
     let mut read = 0;
     loop {
-        reader.outbox.flush(out)?;
-        let held = reader.window.bytes().len();
-        let count = reader.window.read_from(input, MAX_INPUT - read)?;
+        reader.output.flush(out)?;
+        let held = reader.input.bytes().len();
+        let count = reader.input.read_from(input, MAX_INPUT - read)?;
         if count == 0 {
             break;
         }
@@ -219,6 +219,6 @@ fn answer_input<R: Threads + Sync, S: Source, W: Sink, K: Keeper, C: Clock>(
         reader.take_in(rt, held, clock, out)?;
     }
     reader.answer_last(rt, clock, out)?;
-    reader.outbox.flush(out)?;
+    reader.output.flush(out)?;
     Ok(())
 }

@@ -2,10 +2,10 @@
 use Rattle.std.specs.Prelude.{◌≡◌, List, map, string_bytes, String, Option, None, Some, option_and_then}
 use Rattle.std.specs.Global.{Global}
 use Rattle.lei_code.specs.Texts.{Text}
-use Rattle.program_words.specs.Words.{Deed, Meant, meant, to_answer_lines, to_check, to_make_digits, to_make_up, to_patch, to_serve}
+use Rattle.program_words.specs.Words.{Invocation, Meant, meant, to_answer_lines, to_check, to_make_digits, to_make_up, to_patch, to_serve}
 
--- What is meant, where the deed is to serve.
-abbrev pub if_serving : Deed → Meant → Option Meant
+-- What is meant, where the invocation is to serve.
+abbrev pub if_serving : Invocation → Meant → Option Meant
 if_serving to_answer_lines what = None
 if_serving to_serve what = Some what
 if_serving (to_patch sheet form) what = None
@@ -15,7 +15,7 @@ if_serving (to_make_up records) what = None
 
 -- What a server is asked for, and nothing where the words are no command of one.
 abbrev pub served_by : List Text → Option Meant
-served_by words = option_and_then (λ what. if_serving what.deed what) (meant words)
+served_by words = option_and_then (λ what. if_serving what.invocation what) (meant words)
 
 -- The words of a command line ask a server for this.
 abbrev pub Mean : List (String Global) → Meant → Type 0

@@ -5,7 +5,7 @@ use Rattle.std.proofs.lemmas.List.Edits.{take-paste}
 use Rattle.std.proofs.Math.Seq.{take-append-add}
 use lib.Seq.{paste}
 use Rattle.lei_outside.specs.Told.{Reads}
-use Rattle.line_reading.specs.Window.{Fills}
+use Rattle.line_reading.specs.ReadBuffer.{Fills}
 
 -- a block is written behind what is held, and n bytes of it are kept
 pub filled : (size held n : ℕ) (items block rest beyond : List ℕ) → held ≤ length items → n ≤ length block

@@ -7,10 +7,10 @@ use Rattle.lei_outside.proofs.Told.{Grows-none, Grows-join}
 use Rattle.register_words.specs.declared.reply.Reply.{Reply}
 use Rattle.register_words.specs.declared.request.Asked.{Asked}
 use Rattle.register_history.specs.Legal.{AskStep}
-use Rattle.line_reading.specs.Outbox.{IsWritten}
+use Rattle.line_reading.specs.WriteBuffer.{IsWritten}
 use Rattle.line_reading.specs.Faults.{RoseBy, keeper_faults}
 use Rattle.line_reading.specs.Moments.{Gives}
-use Rattle.line_reading.specs.Outbox.{Sends, Puts}
+use Rattle.line_reading.specs.WriteBuffer.{Sends, Puts}
 use Rattle.line_reading.specs.Replies.{reply_text}
 use Rattle.line_reading.specs.Requests.{asked}
 use Rattle.line_reading.specs.Runs.{asks_of, Answers, AnswersInPart, ComesTo, GoesOn, Progress, Ran, Stopped}

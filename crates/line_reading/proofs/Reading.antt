@@ -9,7 +9,7 @@ use Rattle.register_words.specs.declared.reply.Refusal.TheVariants.{TooLong}
 use Rattle.register_words.specs.declared.reply.Reply.TheVariants.{Words}
 use Rattle.line_reading.specs.Limits.{line_limit}
 use Rattle.line_reading.specs.Lines.{HasNoEnd, IsClosed, Ends, Line, line_of}
-use Rattle.line_reading.specs.Outbox.{Sends, Puts}
+use Rattle.line_reading.specs.WriteBuffer.{Sends, Puts}
 use Rattle.line_reading.specs.Reading.{Holds, TakesIn}
 use Rattle.line_reading.specs.Replies.{reply_text}
 use Rattle.line_reading.specs.Requests.{asked, asked_in, cut}
@@ -55,35 +55,35 @@ lines_on before mid after front more result closed first then =
 -- ---- a block behind the begin of a line that is skipped
 
 -- the whole block is behind it
-behind : (seen : ℕ) (window : List ℕ) → take seen window ≡ [] → drop seen window ≡ window
-behind seen window none = ap (λ xs. xs ++ drop seen window) (sym none) ∙ take-append-drop seen window
+behind : (seen : ℕ) (input : List ℕ) → take seen input ≡ [] → drop seen input ≡ input
+behind seen input none = ap (λ xs. xs ++ drop seen input) (sym none) ∙ take-append-drop seen input
 
-pub skips_all : (E : Type 0) (skips : Bool) (window held : List ℕ) (seen : ℕ) (at : Progress) (part : List ℕ)
-    → skips ≡ true → HasNoEnd window → held ≡ []
-    → Holds skips (take seen window) part
-    → TakesIn {T = Unit {0}} {E = E} part (drop seen window) at (Ok (tt {0})) at skips held
-skips_all E true window held seen at part is none empty holds =
+pub skips_all : (E : Type 0) (skips : Bool) (input held : List ℕ) (seen : ℕ) (at : Progress) (part : List ℕ)
+    → skips ≡ true → HasNoEnd input → held ≡ []
+    → Holds skips (take seen input) part
+    → TakesIn {T = Unit {0}} {E = E} part (drop seen input) at (Ok (tt {0})) at skips held
+skips_all E true input held seen at part is none empty holds =
     let N : List ℕ → Type 0 = λ xs. HasNoEnd xs in
-    let more = drop seen window in (
+    let more = drop seen input in (
       [],
       part ++ more,
       refl,
       inl refl,
       keeps_nothing at,
       (
-        HasNoEnd-append part more holds.0 (subst N (sym (behind seen window holds.1)) none),
+        HasNoEnd-append part more holds.0 (subst N (sym (behind seen input holds.1)) none),
         empty,
         omega
             (arith, length-append part more, holds.2),
       ),
     )
-skips_all E false window held seen at part is none empty holds = cc
+skips_all E false input held seen at part is none empty holds = cc
 
 -- a long line ends in the block
-long_parts : (seen : ℕ) (window part before after : List ℕ) → take seen window ≡ [] → Ends window before after
-    → part ++ drop seen window ≡ ((part ++ before) ++ 10 ∷ []) ++ after
-long_parts seen window part before after none ends =
-    ap (λ xs. part ++ xs) (behind seen window none ∙ ends.parts)
+long_parts : (seen : ℕ) (input part before after : List ℕ) → take seen input ≡ [] → Ends input before after
+    → part ++ drop seen input ≡ ((part ++ before) ++ 10 ∷ []) ++ after
+long_parts seen input part before after none ends =
+    ap (λ xs. part ++ xs) (behind seen input none ∙ ends.parts)
     ∙ (sym (append_assoc part (before ++ 10 ∷ []) after)
     ∙ ap (λ xs. xs ++ after) (sym (append_assoc part before (10 ∷ []))))
 
@@ -100,52 +100,52 @@ pub never : (P : Type 0) (result : Result (Unit {0}) SinkFault) → IsErr result
 never P (Err fault) failed = tt
 never P (Ok done) failed = cc
 
-pub long_stops : (skips : Bool) (window : List ℕ) (seen : ℕ) (at : Progress) (waits : List ℕ)
+pub long_stops : (skips : Bool) (input : List ℕ) (seen : ℕ) (at : Progress) (waits : List ℕ)
     (written : Option (List ℕ)) (part before after : List ℕ) (fault : SinkFault) (result : Result (Unit {0}) SinkFault)
-    → skips ≡ true → IsErr result → Ends window before after
+    → skips ≡ true → IsErr result → Ends input before after
     → Puts {T = Unit {0}} at.written written (at.waits ++ reply_text (Refuse TooLong) (Words TooLong)) (Err fault) waits
-    → Holds skips (take seen window) part
-    → (part ++ drop seen window ≡ ((part ++ before) ++ 10 ∷ []) ++ after)
+    → Holds skips (take seen input) part
+    → (part ++ drop seen input ≡ ((part ++ before) ++ 10 ∷ []) ++ after)
     × GoesOn at (asks_of (lines ((part ++ before) ++ 10 ∷ []))) result (now_so at waits written)
-long_stops true window seen at waits written part before after fault (Err other) is failed ends puts holds = (
-  long_parts seen window part before after holds.1 ends,
+long_stops true input seen at waits written part before after fault (Err other) is failed ends puts holds = (
+  long_parts seen input part before after holds.1 ends,
   long_goes_on {T = Unit {0}} at (asks_of (lines ((part ++ before) ++ 10 ∷ []))) waits written (Err other)
       (asks_long_line part before holds.0 ends.none holds.2) puts,
 )
-long_stops skips window seen at waits written part before after fault (Ok done) is failed ends puts holds = cc
-long_stops false window seen at waits written part before after fault (Err other) is failed ends puts holds = cc
+long_stops skips input seen at waits written part before after fault (Ok done) is failed ends puts holds = cc
+long_stops false input seen at waits written part before after fault (Err other) is failed ends puts holds = cc
 
-pub long_goes : (skips : Bool) (window held : List ℕ) (skips_now : Bool) (seen : ℕ) (at : Progress) (waits : List ℕ)
+pub long_goes : (skips : Bool) (input held : List ℕ) (skips_now : Bool) (seen : ℕ) (at : Progress) (waits : List ℕ)
     (written : Option (List ℕ)) (now : Progress) (part before after : List ℕ) (result : Result (Unit {0}) SinkFault)
-    → skips ≡ true → Ends window before after → Sends at.written written (at.waits ++ reply_text (Refuse TooLong) (Words TooLong)) waits
+    → skips ≡ true → Ends input before after → Sends at.written written (at.waits ++ reply_text (Refuse TooLong) (Words TooLong)) waits
     → TakesIn [] after (now_so at waits written) result now skips_now held
-    → Holds skips (take seen window) part → TakesIn part (drop seen window) at result now skips_now held
-long_goes true window held skips_now seen at waits written now part before after result is ends sent then holds =
+    → Holds skips (take seen input) part → TakesIn part (drop seen input) at result now skips_now held
+long_goes true input held skips_now seen at waits written now part before after result is ends sent then holds =
     let long = (part ++ before) ++ 10 ∷ [] in
     let closed : IsClosed long = inr (part ++ before, refl) in
     let answered = long_goes_on {T = Unit {0}} {E = SinkFault} at (asks_of (lines long)) waits written (Ok (tt {0}))
     (asks_long_line part before holds.0 ends.none holds.2) sent in (
       long ++ then.0,
       then.1,
-      long_parts seen window part before after holds.1 ends
+      long_parts seen input part before after holds.1 ends
           ∙ (ap (λ xs. long ++ xs) then.2 ∙ sym (append_assoc long then.0 then.1)),
       IsClosed-append long then.0 closed then.3,
       lines_on at (now_so at waits written) now long then.0 result closed answered then.4,
       then.5,
     )
-long_goes false window held skips_now seen at waits written now part before after result is ends sent then holds = cc
+long_goes false input held skips_now seen at waits written now part before after result is ends sent then holds = cc
 
 -- ---- a block behind the begin of a line that is held
 
-pub held_goes : (skips : Bool) (window held : List ℕ) (skips_now : Bool) (seen : ℕ) (at now : Progress) (part : List ℕ)
+pub held_goes : (skips : Bool) (input held : List ℕ) (skips_now : Bool) (seen : ℕ) (at now : Progress) (part : List ℕ)
     (result : Result (Unit {0}) SinkFault)
-    → skips ≡ false → TakesIn [] window at result now skips_now held
-    → Holds skips (take seen window) part → TakesIn part (drop seen window) at result now skips_now held
-held_goes false window held skips_now seen at now part result is then holds =
-    let parts : part ++ drop seen window ≡ window = ap (λ xs. xs ++ drop seen window) (sym holds.1)
-    ∙ take-append-drop seen window in
+    → skips ≡ false → TakesIn [] input at result now skips_now held
+    → Holds skips (take seen input) part → TakesIn part (drop seen input) at result now skips_now held
+held_goes false input held skips_now seen at now part result is then holds =
+    let parts : part ++ drop seen input ≡ input = ap (λ xs. xs ++ drop seen input) (sym holds.1)
+    ∙ take-append-drop seen input in
     (then.0, then.1, parts ∙ then.2, then.3, then.4, then.5)
-held_goes true window held skips_now seen at now part result is then holds = cc
+held_goes true input held skips_now seen at now part result is then holds = cc
 
 -- ---- the last line
 

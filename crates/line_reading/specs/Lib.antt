@@ -3,8 +3,8 @@ pub mod Lines
 pub mod Requests
 pub mod Faults
 pub mod Moments
-pub mod Outbox
-pub mod Window
+pub mod WriteBuffer
+pub mod ReadBuffer
 pub mod Replies
 pub mod Runs
 pub mod Reading

@@ -9,7 +9,7 @@ use Rattle.register_history.specs.Legal.{Session}
 use Rattle.line_reading.specs.Faults.{RoseBy, keeper_faults}
 use Rattle.line_reading.specs.Lines.{HasNoEnd, IsClosed, Line}
 use Rattle.line_reading.specs.Moments.{Gives}
-use Rattle.line_reading.specs.Outbox.{Sends}
+use Rattle.line_reading.specs.WriteBuffer.{Sends}
 use Rattle.line_reading.specs.Requests.{asked}
 use Rattle.line_reading.specs.Replies.{reply_text, reply_texts}
 

@@ -7,8 +7,8 @@ ghost use Rattle.register_words.specs.declared.request.Asked.TheVariants.{Ask};
 ghost use Rattle.line_reading.specs.Lines.{HasNoEnd, Ends, line_of};
 ghost use Rattle.line_reading.specs.Runs.{asks_of, progress, AnswersWhole, GoesOn};
 
-use crate::outbox::Outbox;
 use crate::requests::line_request;
+use crate::write_buffer::WriteBuffer;
 use crate::writing::{put_refusal, send_reply};
 use lei_office::{Asked, Office, Refusal, Request};
 use lei_outside::{Clock, Keeper, NoMemory, Sink, SinkFault};
@@ -35,19 +35,19 @@ fn answer_request<R: Threads + Sync, W: Sink, K: Keeper, C: Clock>(
     office: &mut Office<K>,
     request: &Request,
     clock: &mut C,
-    outbox: &mut Outbox,
+    buffer: &mut WriteBuffer,
     out: &mut W,
 ) -> Result<(), SinkFault>
     requires { IsNumbered request.now }
     ensures answered { GoesOn
-        (progress office.old.office (K.faults office.old.keeper) outbox.old (C.given clock.old) (W.written out.old)) (Ask request.now ∷ []) result
-        (progress office.new.office (K.faults office.new.keeper) outbox.new (C.given clock.new) (W.written out.new)) }
+        (progress office.old.office (K.faults office.old.keeper) buffer.old (C.given clock.old) (W.written out.old)) (Ask request.now ∷ []) result
+        (progress office.new.office (K.faults office.new.keeper) buffer.new (C.given clock.new) (W.written out.new)) }
     ensures kept { ¬ (IsErrOf result SinkFault.Failed) → W.faults out.new ≡ W.faults out.old }
     ensures failed { IsErrOf result SinkFault.Failed → FailsLast W.written W.faults out.old out.new }
 {
-    outbox.flush(out)?;
+    buffer.flush(out)?;
     let reply = office.answer(rt, request, moment_of(clock));
-    send_reply(outbox, out, request, &reply)
+    send_reply(buffer, out, request, &reply)
 }
 
 /// Answers a line. An empty line asks nothing. The clock is asked after the line was read, and only where the line
@@ -58,12 +58,12 @@ pub fn answer_line<R: Threads + Sync, W: Sink, K: Keeper, C: Clock>(
     office: &mut Office<K>,
     line: &[u8],
     clock: &mut C,
-    outbox: &mut Outbox,
+    buffer: &mut WriteBuffer,
     out: &mut W,
 ) -> Result<(), SinkFault>
     ensures answered { GoesOn
-        (progress office.old.office (K.faults office.old.keeper) outbox.old (C.given clock.old) (W.written out.old)) (asks_of (line.now ∷ [])) result
-        (progress office.new.office (K.faults office.new.keeper) outbox.new (C.given clock.new) (W.written out.new)) }
+        (progress office.old.office (K.faults office.old.keeper) buffer.old (C.given clock.old) (W.written out.old)) (asks_of (line.now ∷ [])) result
+        (progress office.new.office (K.faults office.new.keeper) buffer.new (C.given clock.new) (W.written out.new)) }
     ensures kept { ¬ (IsErrOf result SinkFault.Failed) → W.faults out.new ≡ W.faults out.old }
     ensures failed { IsErrOf result SinkFault.Failed → FailsLast W.written W.faults out.old out.new }
 {
@@ -71,9 +71,9 @@ pub fn answer_line<R: Threads + Sync, W: Sink, K: Keeper, C: Clock>(
         return Ok(());
     }
     match line_request(alloc, line) {
-        Ok(Asked::Ask(request)) => answer_request(rt, office, &request, clock, outbox, out),
-        Ok(Asked::Refuse(refusal)) => put_refusal(outbox, out, refusal),
-        Err(NoMemory) => put_refusal(outbox, out, Refusal::NoMemory),
+        Ok(Asked::Ask(request)) => answer_request(rt, office, &request, clock, buffer, out),
+        Ok(Asked::Refuse(refusal)) => put_refusal(buffer, out, refusal),
+        Err(NoMemory) => put_refusal(buffer, out, Refusal::NoMemory),
     }
 }
 
@@ -111,20 +111,20 @@ pub fn answer_lines<R: Threads + Sync, W: Sink, K: Keeper, C: Clock>(
     block: &[u8],
     mut seen: usize,
     clock: &mut C,
-    outbox: &mut Outbox,
+    buffer: &mut WriteBuffer,
     out: &mut W,
 ) -> Result<usize, SinkFault>
     requires within { seen ≤ length block.now }
     requires seen { HasNoEnd (take seen block.now) }
     ensures answered { AnswersWhole
-        (progress office.old.office (K.faults office.old.keeper) outbox.old (C.given clock.old) (W.written out.old)) block.now result
-        (progress office.new.office (K.faults office.new.keeper) outbox.new (C.given clock.new) (W.written out.new)) }
+        (progress office.old.office (K.faults office.old.keeper) buffer.old (C.given clock.old) (W.written out.old)) block.now result
+        (progress office.new.office (K.faults office.new.keeper) buffer.new (C.given clock.new) (W.written out.new)) }
     ensures kept { ¬ (IsErrOf result SinkFault.Failed) → W.faults out.new ≡ W.faults out.old }
     ensures failed { IsErrOf result SinkFault.Failed → FailsLast W.written W.faults out.old out.new }
 {
     let mut rest = block;
     while let Some(end) = next_end(rest, seen) {
-        answer_line(rt, alloc, office, line_of(&rest[..end]), clock, outbox, out)?;
+        answer_line(rt, alloc, office, line_of(&rest[..end]), clock, buffer, out)?;
         (_, rest) = rest.split_at(end + 1);
         seen = 0;
     }

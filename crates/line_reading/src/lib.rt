@@ -3,13 +3,13 @@
 
 mod answering;
 mod laws;
-mod outbox;
+mod read_buffer;
 mod reader;
 pub mod requests;
-mod window;
+mod write_buffer;
 mod writing;
 
 pub use laws::lines_end_at_line_feeds;
-pub use outbox::{BLOCK, Outbox};
+pub use read_buffer::{ReadBuffer, read_behind};
 pub use reader::Reader;
-pub use window::{Window, read_behind};
+pub use write_buffer::{BLOCK, WriteBuffer};

@@ -11,9 +11,9 @@ ghost use Rattle.line_reading.specs.Reading.{Holds, TakesIn};
 ghost use Rattle.line_reading.specs.Runs.{asks_of, progress, GoesOn};
 
 use crate::answering::{answer_line, answer_lines};
-use crate::outbox::Outbox;
+use crate::read_buffer::ReadBuffer;
 use crate::requests::MAX_LINE;
-use crate::window::Window;
+use crate::write_buffer::WriteBuffer;
 use crate::writing::put_refusal;
 use lei_office::{Limits, Office, OpenFault, Refusal};
 use lei_outside::{Clock, Keeper, NoMemory, Sink, SinkFault};
@@ -25,8 +25,8 @@ use std::thread::Threads;
 pub struct Reader<K: Keeper> {
     pub alloc: Global,
     pub office: Office<K>,
-    pub window: Window,
-    pub outbox: Outbox,
+    pub input: ReadBuffer,
+    pub output: WriteBuffer,
     /// Whether the line that has no end yet is too long, and its bytes are skipped.
     pub skips: bool,
 }
@@ -38,21 +38,21 @@ impl<K: Keeper> Reader<K> {
         ensures opened { IfOk result (λ reader. IsOpened (K.tables reader.office.keeper) reader.office.office) }
         ensures told { IfOk result (λ reader. Stays (K.tables keeper) (K.tables reader.office.keeper)) }
         ensures faultless { IfOk result (λ reader. K.faults reader.office.keeper ≡ K.faults keeper) }
-        ensures held { IfOk result (λ reader. Holds reader.skips reader.window []) }
-        ensures waits { IfOk result (λ reader. reader.outbox ≡ []) }
+        ensures held { IfOk result (λ reader. Holds reader.skips reader.input []) }
+        ensures waits { IfOk result (λ reader. reader.output ≡ []) }
         ensures refused { IfErr result (IsRefused standard K.tables) }
         ensures same { IfErr result (λ fault. Stays (K.tables keeper) (K.tables (keeper_back fault))) }
         ensures failed { IfErr result (λ fault. FaultRose (K.faults keeper) (K.faults (keeper_back fault)) fault) }
     {
-        let Ok((window, outbox)) = parts(alloc) else {
+        let Ok((input, output)) = parts(alloc) else {
             return Err(OpenFault::NoMemory(keeper));
         };
         let office = Office::open(rt, alloc, keeper, Limits::standard())?;
         Ok(Reader {
             alloc,
             office,
-            window,
-            outbox,
+            input,
+            output,
             skips: false,
         })
     }
@@ -65,7 +65,7 @@ impl<K: Keeper> Reader<K> {
         self.office.close()
     }
 
-    /// Answers the lines that end in the window, of which the first `seen` bytes were held before, and holds what
+    /// Answers the lines that end in the input, of which the first `seen` bytes were held before, and holds what
     /// follows them.
     pub fn take_in<R: Threads + Sync, W: Sink, C: Clock>(
         &mut self,
@@ -74,24 +74,24 @@ impl<K: Keeper> Reader<K> {
         clock: &mut C,
         out: &mut W,
     ) -> Result<(), SinkFault>
-        requires within { seen ≤ length self.old.window }
-        requires seen { HasNoEnd (take seen self.old.window) }
-        ensures answered { (part : List ℕ) → Holds self.old.skips (take seen self.old.window) part
-            → TakesIn part (drop seen self.old.window)
-            (progress self.old.office.office (K.faults self.old.office.keeper) self.old.outbox
+        requires within { seen ≤ length self.old.input }
+        requires seen { HasNoEnd (take seen self.old.input) }
+        ensures answered { (part : List ℕ) → Holds self.old.skips (take seen self.old.input) part
+            → TakesIn part (drop seen self.old.input)
+            (progress self.old.office.office (K.faults self.old.office.keeper) self.old.output
             (C.given clock.old) (W.written out.old)) result
-            (progress self.new.office.office (K.faults self.new.office.keeper) self.new.outbox
+            (progress self.new.office.office (K.faults self.new.office.keeper) self.new.output
             (C.given clock.new) (W.written out.new))
-            self.new.skips self.new.window }
+            self.new.skips self.new.input }
         ensures kept { ¬ (IsErrOf result SinkFault.Failed) → W.faults out.new ≡ W.faults out.old }
         ensures failed { IsErrOf result SinkFault.Failed → FailsLast W.written W.faults out.old out.new }
     {
         if self.skips {
-            if !self.window.skip_line() {
+            if !self.input.skip_line() {
                 return Ok(());
             }
             self.skips = false;
-            put_refusal(&mut self.outbox, out, Refusal::TooLong)?;
+            put_refusal(&mut self.output, out, Refusal::TooLong)?;
             return self.answer_whole(rt, 0, clock, out);
         }
         self.answer_whole(rt, seen, clock, out)
@@ -104,18 +104,18 @@ impl<K: Keeper> Reader<K> {
         clock: &mut C,
         out: &mut W,
     ) -> Result<(), SinkFault>
-        requires within { seen ≤ length self.old.window }
-        requires seen { HasNoEnd (take seen self.old.window) }
-        ensures answered { TakesIn [] self.old.window
-            (progress self.old.office.office (K.faults self.old.office.keeper) self.old.outbox
+        requires within { seen ≤ length self.old.input }
+        requires seen { HasNoEnd (take seen self.old.input) }
+        ensures answered { TakesIn [] self.old.input
+            (progress self.old.office.office (K.faults self.old.office.keeper) self.old.output
             (C.given clock.old) (W.written out.old)) result
-            (progress self.new.office.office (K.faults self.new.office.keeper) self.new.outbox
+            (progress self.new.office.office (K.faults self.new.office.keeper) self.new.output
             (C.given clock.new) (W.written out.new))
-            self.new.skips self.new.window }
+            self.new.skips self.new.input }
         ensures kept { ¬ (IsErrOf result SinkFault.Failed) → W.faults out.new ≡ W.faults out.old }
         ensures failed { IsErrOf result SinkFault.Failed → FailsLast W.written W.faults out.old out.new }
     {
-        let block = self.window.bytes();
+        let block = self.input.bytes();
         let used = answer_lines(
             rt,
             self.alloc,
@@ -123,13 +123,13 @@ impl<K: Keeper> Reader<K> {
             block,
             seen,
             clock,
-            &mut self.outbox,
+            &mut self.output,
             out,
         )?;
-        self.window.use_up(used);
-        self.skips = self.window.bytes().len() > MAX_LINE + 1;
+        self.input.use_up(used);
+        self.skips = self.input.bytes().len() > MAX_LINE + 1;
         if self.skips {
-            self.window.clear();
+            self.input.clear();
         }
         Ok(())
     }
@@ -141,36 +141,36 @@ impl<K: Keeper> Reader<K> {
         clock: &mut C,
         out: &mut W,
     ) -> Result<(), SinkFault>
-        ensures answered { (part : List ℕ) → Holds self.old.skips self.old.window part → GoesOn
-            (progress self.old.office.office (K.faults self.old.office.keeper) self.old.outbox
+        ensures answered { (part : List ℕ) → Holds self.old.skips self.old.input part → GoesOn
+            (progress self.old.office.office (K.faults self.old.office.keeper) self.old.output
             (C.given clock.old) (W.written out.old))
             (asks_of (part ∷ [])) result
-            (progress self.new.office.office (K.faults self.new.office.keeper) self.new.outbox
+            (progress self.new.office.office (K.faults self.new.office.keeper) self.new.output
             (C.given clock.new) (W.written out.new)) }
         ensures skips { self.new.skips ≡ self.old.skips }
-        ensures window { self.new.window ≡ self.old.window }
+        ensures input { self.new.input ≡ self.old.input }
         ensures kept { ¬ (IsErrOf result SinkFault.Failed) → W.faults out.new ≡ W.faults out.old }
         ensures failed { IsErrOf result SinkFault.Failed → FailsLast W.written W.faults out.old out.new }
     {
         if self.skips {
-            return put_refusal(&mut self.outbox, out, Refusal::TooLong);
+            return put_refusal(&mut self.output, out, Refusal::TooLong);
         }
-        let line = self.window.bytes();
+        let line = self.input.bytes();
         answer_line(
             rt,
             self.alloc,
             &mut self.office,
             line,
             clock,
-            &mut self.outbox,
+            &mut self.output,
             out,
         )
     }
 }
 
 // The bytes that wait to be answered, and those that wait to be written: none.
-fn parts(alloc: Global) -> Result<(Window, Outbox), NoMemory>
+fn parts(alloc: Global) -> Result<(ReadBuffer, WriteBuffer), NoMemory>
     ensures { IfOk result (λ made. (made.0 ≡ []) × (made.1 ≡ [])) }
 {
-    Ok((Window::new(alloc)?, Outbox::new(alloc)?))
+    Ok((ReadBuffer::new(alloc)?, WriteBuffer::new(alloc)?))
 }

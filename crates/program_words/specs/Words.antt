@@ -13,18 +13,18 @@ use Rattle.program_words.specs.declared.runs.WantedRun.{WantedRun}
 
 -- To answer the lines of the input, to answer over HTTP, to patch a copy of this sheet and form by a delta, to say whether
 -- a text is an LEI, to make the check digits of a text, or to make up a register of so many records.
-pub data Deed : Type 0 where
-  to_answer_lines : Deed
-  to_serve : Deed
-  to_patch : Sheet → Form → Deed
-  to_check : Text → Deed
-  to_make_digits : Text → Deed
-  to_make_up : ℕ → Deed
+pub data Invocation : Type 0 where
+  to_answer_lines : Invocation
+  to_serve : Invocation
+  to_patch : Sheet → Form → Invocation
+  to_check : Text → Invocation
+  to_make_digits : Text → Invocation
+  to_make_up : ℕ → Invocation
 
 -- What is to be done, and with what: the path of a store, those of a first and of a second file, and of a server its port,
 -- how many workers it has and how many connections each of them takes. A number that isn't asked for is 0.
 pub record Meant : Type 0 where
-  pub deed : Deed
+  pub invocation : Invocation
   pub store : Option Text
   pub first : Option Text
   pub second : Option Text
@@ -32,10 +32,10 @@ pub record Meant : Type 0 where
   pub workers : ℕ
   pub connections : ℕ
 
--- a deed for which nothing else is asked
-abbrev pub only : Deed → Meant
-only deed = record {
-  deed = deed;
+-- a invocation for which nothing else is asked
+abbrev pub only : Invocation → Meant
+only invocation = record {
+  invocation = invocation;
   store = None;
   first = None;
   second = None;
@@ -123,18 +123,18 @@ meant (name ∷ words) = meant_by name words
 -- ---- what is read of them
 
 -- what a command was read for
-abbrev pub deed_of : Command → Deed
-deed_of commands.Lines = to_answer_lines
-deed_of commands.Serve = to_serve
-deed_of (commands.Apply sheet form) = to_patch sheet form
-deed_of (commands.Check code) = to_check code.now
-deed_of (commands.Digits text) = to_make_digits text.now
-deed_of (commands.Demo records) = to_make_up records
+abbrev pub invocation_of : Command → Invocation
+invocation_of commands.Lines = to_answer_lines
+invocation_of commands.Serve = to_serve
+invocation_of (commands.Apply sheet form) = to_patch sheet form
+invocation_of (commands.Check code) = to_check code.now
+invocation_of (commands.Digits text) = to_make_digits text.now
+invocation_of (commands.Demo records) = to_make_up records
 
 -- what a run was read for
 abbrev pub meaning : WantedRun → Meant
 meaning run = record {
-  deed = deed_of run.command;
+  invocation = invocation_of run.command;
   store = option_map (λ path. path.now) run.store;
   first = option_map (λ path. path.now) run.first;
   second = option_map (λ path. path.now) run.second;

@@ -4,7 +4,7 @@ ghost use Rattle.clap.specs.Matches.{found_of};
 ghost use Rattle.clap.specs.Walk.{first_of, rows_of};
 ghost use Rattle.program_words.specs.Commands.{apply_app, check_app, demo_app, digits_app, lines_app, read_by, serve_app};
 ghost use Rattle.program_words.specs.Reading.{Finds};
-ghost use Rattle.program_words.specs.Words.{IsInRange, apply_meant, check_meant, connections_told, deed_of, demo_meant, digits_meant, lines_meant, meaning, meant, number_under, only, serve_meant};
+ghost use Rattle.program_words.specs.Words.{IsInRange, apply_meant, check_meant, connections_told, invocation_of, demo_meant, digits_meant, lines_meant, meaning, meant, number_under, only, serve_meant};
 
 use crate::commands::{
     apply_command, check_command, demo_command, digits_command, lines_command, read, serve_command,
@@ -129,7 +129,7 @@ fn wanted_demo<'a>(alloc: Global, words: &'a [String]) -> Result<WantedRun<'a>, 
 
 // A command for which nothing else is asked.
 fn only<'a>(command: Command<'a>) -> WantedRun<'a>
-    ensures meant { meaning result ≡ only (deed_of command.entry) }
+    ensures meant { meaning result ≡ only (invocation_of command.entry) }
     ensures command { result.command ≡ command.entry }
 {
     WantedRun {

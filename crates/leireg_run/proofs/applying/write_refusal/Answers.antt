@@ -1,6 +1,6 @@
 use Rattle.std.proofs.Common.{ℕ, List, [], ◌∷◌, ◌++◌, codes, subst, ◌∙◌}
 use Rattle.std.specs.Fmt.{decimal}
-use Rattle.line_reading.specs.Outbox.{IsWritten}
+use Rattle.line_reading.specs.WriteBuffer.{IsWritten}
 use Rattle.leireg_run.proofs.applying.write_refusal.Goals as goal
 
 pub returns-in-CopyNotRead-clause-written : goal.returns-in-CopyNotRead-clause-written

@@ -1,6 +1,6 @@
 use Rattle.std.proofs.Common.{◌∙◌, ℕ, [], List, take, flat_map, sym, subst, refl}
 use Rattle.std.proofs.lemmas.Result.{MatchResult-from_err}
-use Rattle.line_reading.specs.Outbox.{Sends}
+use Rattle.line_reading.specs.WriteBuffer.{Sends}
 use Rattle.line_reading.proofs.Sending.{Sends-nothing, pieces_more, refused, sent_then}
 use Rattle.leireg_run.proofs.codes.write_pieces.Goals as goal
 

@@ -1,5 +1,5 @@
 use Rattle.std.proofs.Common.{◌≡◌, [], take, flat_map}
-use Rattle.line_reading.specs.Outbox.{Sends}
+use Rattle.line_reading.specs.WriteBuffer.{Sends}
 use Rattle.leireg_run.proofs.codes.write_pieces.Given as goal
 
 abbrev pub invariant-loop-piece : goal.invariant-loop-piece

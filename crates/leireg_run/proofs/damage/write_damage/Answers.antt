@@ -1,6 +1,6 @@
 use Rattle.std.proofs.Common.{ℕ, List, ◌++◌, codes, subst, ◌∙◌}
 use Rattle.std.specs.Fmt.{decimal}
-use Rattle.line_reading.specs.Outbox.{IsWritten}
+use Rattle.line_reading.specs.WriteBuffer.{IsWritten}
 use Rattle.leireg_run.proofs.damage.write_damage.Goals as goal
 
 pub returns-clause-written : goal.returns-clause-written

@@ -68,7 +68,7 @@ returns-in_err-take_in-clause-runs g c kept keeps =
     let below : c.loop-held.read + c.in_ok-count.count < input_limit = omega
     (arith, fills.2, at.below, c.if-read-eq-MAX_INPUT.false) in
     let cause = sink_cause fault c.from_residual-in_err-take_in.result c.from_residual-in_err-take_in.ensures.1 in
-    stops_in _ _ _ _ kept _ _ _ _ _ _ _ c.take_in.new.self.skips _ _ c.take_in.new.self.window fault _ cause
+    stops_in _ _ _ _ kept _ _ _ _ _ _ _ c.take_in.new.self.skips _ _ c.take_in.new.self.input fault _ cause
     (ap length c.bytes-held.ensures) at fills below c.in_err-take_in.ensures.answered keeps
 
 pub returns-in_err-answer_last-clause-runs : goal.returns-in_err-answer_last-clause-runs

@@ -17,8 +17,8 @@ invariant-loop-held g l =
     record {
       midway : Midway l.fn.reader.office.office (outside (left l.fn.input) (given l.fn.clock) (written l.fn.out) (tables l.fn.reader.office.keeper)
           (keeper_faults l.fn.reader.office.keeper)) (left l.input) l.read
-          (progress l.reader.office.office (keeper_faults l.reader.office.keeper) l.reader.outbox (given l.clock)
-          (written l.out)) l.reader.skips l.reader.window;
+          (progress l.reader.office.office (keeper_faults l.reader.office.keeper) l.reader.output (given l.clock)
+          (written l.out)) l.reader.skips l.reader.input;
       input_kept : input_faults l.input ≡ input_faults l.fn.input;
       out_kept : out_faults l.out ≡ out_faults l.fn.out;
     }

@@ -13,8 +13,8 @@ returns-in_err-answer_line-clause-answered g c =
     let faults = g.K.Keeper.faults in
     let rest = c.loop-end.rest.now in
     let end = c.in-Some.end in
-    let mid = progress c.loop-end.office.office (faults c.loop-end.office.keeper) c.loop-end.outbox (given c.loop-end.clock) (written c.loop-end.out) in
-    let after = progress c.answer_line.new.office.office (faults c.answer_line.new.office.keeper) c.answer_line.new.outbox (given c.answer_line.new.clock)
+    let mid = progress c.loop-end.office.office (faults c.loop-end.office.keeper) c.loop-end.buffer (given c.loop-end.clock) (written c.loop-end.out) in
+    let after = progress c.answer_line.new.office.office (faults c.answer_line.new.office.keeper) c.answer_line.new.buffer (given c.answer_line.new.clock)
     (written c.answer_line.new.out) in
     let fault = c.in_err-answer_line.field-0.0 in
     let L : List ℕ → Type 0 = λ line. GoesOn {T = Unit {0}} {E = SinkFault} mid (asks_of (line ∷ [])) (Err fault) after in
@@ -30,9 +30,9 @@ loop-end-preserved g c =
     let faults = g.K.Keeper.faults in
     let rest = c.loop-end.rest.now in
     let end = c.in-Some.end in
-    let before = progress c.args.office.now.office (faults c.args.office.now.keeper) c.args.outbox.now (given c.args.clock.now) (written c.args.out.now) in
-    let mid = progress c.loop-end.office.office (faults c.loop-end.office.keeper) c.loop-end.outbox (given c.loop-end.clock) (written c.loop-end.out) in
-    let after = progress c.answer_line.new.office.office (faults c.answer_line.new.office.keeper) c.answer_line.new.outbox (given c.answer_line.new.clock)
+    let before = progress c.args.office.now.office (faults c.args.office.now.keeper) c.args.buffer.now (given c.args.clock.now) (written c.args.out.now) in
+    let mid = progress c.loop-end.office.office (faults c.loop-end.office.keeper) c.loop-end.buffer (given c.loop-end.clock) (written c.loop-end.out) in
+    let after = progress c.answer_line.new.office.office (faults c.answer_line.new.office.keeper) c.answer_line.new.buffer (given c.answer_line.new.clock)
     (written c.answer_line.new.out) in
     let done : Result (Unit {0}) SinkFault = Ok (tt {0}) in
     let L : List ℕ → Type 0 = λ line. GoesOn mid (asks_of (line ∷ [])) done after in

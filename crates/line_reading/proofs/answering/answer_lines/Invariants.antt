@@ -10,9 +10,9 @@ invariant-loop-end g l =
     let keeper_faults = g.K.Keeper.faults in
     let faults = g.W.Sink.faults in
     record {
-      walked : Walked l.block (progress l.fn.office.office (keeper_faults l.fn.office.keeper) l.fn.outbox (given l.fn.clock)
+      walked : Walked l.block (progress l.fn.office.office (keeper_faults l.fn.office.keeper) l.fn.buffer (given l.fn.clock)
           (written l.fn.out)) l.rest l.seen
-          (progress l.office.office (keeper_faults l.office.keeper) l.outbox (given l.clock) (written l.out));
+          (progress l.office.office (keeper_faults l.office.keeper) l.buffer (given l.clock) (written l.out));
       kept : faults l.out ≡ faults l.fn.out;
     }
 

@@ -12,7 +12,7 @@ returns-in_err-flush-clause-answered g c start all ran =
     let given = g.C.Clock.given in
     let written = g.W.Sink.written in
     let faults = g.K.Keeper.faults in
-    let now = progress c.args.office.now.office (faults c.args.office.now.keeper) c.args.outbox.now (given c.args.clock.now) (written c.args.out.now) in
+    let now = progress c.args.office.now.office (faults c.args.office.now.keeper) c.args.buffer.now (given c.args.clock.now) (written c.args.out.now) in
     MatchResult-from_err _ _ _ c.from_residual.ensures.0
     (λ _. flush_stops start now all (Ask c.args.request.now) c.flush.new.self (written c.flush.new.out) ran
     c.in_err-flush.ensures.err)
@@ -22,10 +22,10 @@ returns-clause-answered g c start all ran =
     let given = g.C.Clock.given in
     let written = g.W.Sink.written in
     let faults = g.K.Keeper.faults in
-    let now = progress c.args.office.now.office (faults c.args.office.now.keeper) c.args.outbox.now (given c.args.clock.now) (written c.args.out.now) in
+    let now = progress c.args.office.now.office (faults c.args.office.now.keeper) c.args.buffer.now (given c.args.clock.now) (written c.args.out.now) in
     let sent = progress c.args.office.now.office (faults c.args.office.now.keeper) c.flush.new.self (given c.args.clock.now)
     (written c.flush.new.out) in
-    let then = progress c.answer-reply.new.self.office (faults c.answer-reply.new.self.keeper) c.send_reply.new.outbox (given c.moment_of.new.clock)
+    let then = progress c.answer-reply.new.self.office (faults c.answer-reply.new.self.keeper) c.send_reply.new.buffer (given c.moment_of.new.clock)
     (written c.send_reply.new.out) in
     let m = c.moment_of.result in
     let none = c.in_ok-flush.ensures.empty in

@@ -1,20 +1,20 @@
 use Rattle.std.proofs.Common.{ℕ, ◌++◌, List, take, flat_map, sym, ap, ◌∙◌, refl, append_assoc, subst}
 use Rattle.std.proofs.lemmas.List.{append-nil}
 use Rattle.std.proofs.lemmas.Result.{MatchResult-from_err}
-use Rattle.line_reading.specs.Outbox.{Sends}
+use Rattle.line_reading.specs.WriteBuffer.{Sends}
 use Rattle.line_reading.proofs.Sending.{Sends-nothing, Sends-then, pieces_more, refused}
 use Rattle.line_reading.proofs.writing.put_all.Goals as goal
 
 pub loop-piece-init : goal.loop-piece-init
 loop-piece-init g c =
     let a = g.W.Sink.written c.args.out.now in
-    let S : List ℕ → Type 0 = λ all. Sends a a all c.args.outbox.now in
-    record { sent = subst S (sym (append-nil c.args.outbox.now)) (Sends-nothing a c.args.outbox.now); kept = refl }
+    let S : List ℕ → Type 0 = λ all. Sends a a all c.args.buffer.now in
+    record { sent = subst S (sym (append-nil c.args.buffer.now)) (Sends-nothing a c.args.buffer.now); kept = refl }
 
 pub loop-piece-preserved : goal.loop-piece-preserved
 loop-piece-preserved g c =
     let written = g.W.Sink.written in
-    let held = c.args.outbox.now in
+    let held = c.args.buffer.now in
     let done = flat_map (λ piece. piece.now) (take c.loop-piece.piece-index c.args.pieces.now) in
     let S : List ℕ → Type 0 = λ all. Sends (written c.args.out.now) (written c.put.new.out) all c.put.new.self in
     record {
@@ -22,7 +22,7 @@ loop-piece-preserved g c =
           ∙ ap (λ xs. held ++ xs)
           (sym (pieces_more c.args.pieces.now c.loop-piece.piece-index _ c.loop-piece-test.true)))
           (Sends-then (written c.args.out.now) (written c.loop-piece.out) (written c.put.new.out) (held ++ done)
-          c.loop-piece.outbox _ c.put.new.self c.loop-piece.invariant.sent c.in_ok-put.ensures.ok);
+          c.loop-piece.buffer _ c.put.new.self c.loop-piece.invariant.sent c.in_ok-put.ensures.ok);
       kept = c.in_ok-put.ensures.kept (λ is. cc) ∙ c.loop-piece.invariant.kept;
     }
 
@@ -31,5 +31,5 @@ returns-in_err-put-clause-puts g c =
     let written = g.W.Sink.written in
     MatchResult-from_err _ _ _ c.from_residual.ensures.0
     (λ _. refused (written c.args.out.now) (written c.loop-piece.out) (written c.put.new.out) c.args.pieces.now
-    c.loop-piece.piece-index _ c.args.outbox.now c.loop-piece.outbox c.loop-piece-test.true
+    c.loop-piece.piece-index _ c.args.buffer.now c.loop-piece.buffer c.loop-piece-test.true
     c.loop-piece.invariant.sent c.in_err-put.ensures.err)

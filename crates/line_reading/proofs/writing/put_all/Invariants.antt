@@ -1,5 +1,5 @@
 use Rattle.std.proofs.Common.{◌≡◌, ◌++◌, take, flat_map}
-use Rattle.line_reading.specs.Outbox.{Sends}
+use Rattle.line_reading.specs.WriteBuffer.{Sends}
 use Rattle.line_reading.proofs.writing.put_all.Given as goal
 
 abbrev pub invariant-loop-piece : goal.invariant-loop-piece
@@ -8,6 +8,6 @@ invariant-loop-piece g l =
     let faults = g.W.Sink.faults in
     record {
       sent : Sends (written l.fn.out) (written l.out)
-          (l.fn.outbox ++ flat_map (λ piece. piece.now) (take l.piece-index l.pieces)) l.outbox;
+          (l.fn.buffer ++ flat_map (λ piece. piece.now) (take l.piece-index l.pieces)) l.buffer;
       kept : faults l.out ≡ faults l.fn.out;
     }

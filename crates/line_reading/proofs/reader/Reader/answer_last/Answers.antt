@@ -5,5 +5,5 @@ use Rattle.line_reading.proofs.reader.Reader.answer_last.Goals as goal
 
 pub returns-then-self-clause-answered : goal.returns-then-self-clause-answered
 returns-then-self-clause-answered g c part holds =
-    last_long c.args.self.now.skips c.args.self.now.window part _ _ _ c.put_refusal.result c.if-self.true
+    last_long c.args.self.now.skips c.args.self.now.input part _ _ _ c.put_refusal.result c.if-self.true
     (c.put_refusal.ensures.puts (Refuse TooLong)) holds

@@ -2,7 +2,7 @@
 ghost use Rattle.std.specs.Prelude.{◌≡◌, ◌≤◌, ◌+◌, ◌++◌, [], length, vec_len, vec_capacity, IfOk, OnOk, OnErr, IsErrOf};
 ghost use Rattle.lei_outside.specs.Told.{Grows, WritesFront};
 ghost use Rattle.lei_outside.specs.Faults.{FailsLast};
-ghost use Rattle.line_reading.specs.Outbox.{Sends};
+ghost use Rattle.line_reading.specs.WriteBuffer.{Sends};
 
 use lei_outside::{NoMemory, Sink, SinkFault, write_all};
 use std::alloc::Global;
@@ -13,27 +13,27 @@ pub const BLOCK: usize = 65_536;
 
 /// Bytes that wait to be written, at most a block. Contracts see it as their list.
 #[derive(Drop)]
-pub struct Outbox {
+pub struct WriteBuffer {
     held: Vec<u8>,
 }
 
-impl Model for Outbox {
+impl Model for WriteBuffer {
     ghost use Rattle.std.specs.Prelude.{List, ℕ, ◌≤◌, vec_len, vec_capacity};
-    ghost use Rattle.line_reading.specs.declared.outbox.TheConstants.{BLOCK};
+    ghost use Rattle.line_reading.specs.declared.write_buffer.TheConstants.{BLOCK};
 
     ghost Value = { List ℕ };
 
-    ghost view = { λ outbox. outbox.held.items };
+    ghost view = { λ b. b.held.items };
 
-    ghost invariant = { λ outbox. (vec_len outbox.held ≤ BLOCK) × (BLOCK ≤ vec_capacity outbox.held) };
+    ghost invariant = { λ b. (vec_len b.held ≤ BLOCK) × (BLOCK ≤ vec_capacity b.held) };
 }
 
-impl Outbox {
+impl WriteBuffer {
     /// An empty box, with the memory that it will ever take.
     pub fn new(alloc: Global) -> Result<Self, NoMemory>
-        ensures { IfOk result (λ outbox. outbox ≡ []) }
+        ensures { IfOk result (λ b. b ≡ []) }
     {
-        Ok(Outbox {
+        Ok(WriteBuffer {
             held: Vec::with_capacity(alloc, BLOCK)?,
         })
     }

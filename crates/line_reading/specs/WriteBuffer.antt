@@ -1,4 +1,4 @@
--- What a box of waiting bytes does to an output.
+-- What a buffer of waiting bytes does to an output.
 use Rattle.std.specs.Prelude.{◌≡◌, ℕ, List, ◌++◌, Option, Result, MatchResult}
 use Rattle.lei_code.specs.Texts.{Text}
 use Rattle.lei_outside.specs.Told.{Grows, WritesFront}

@@ -3,7 +3,7 @@ use Rattle.std.proofs.lemmas.Result.{on_ok_weaker, on_err_weaker}
 use Rattle.std.proofs.lemmas.List.{append-nil}
 use Rattle.lei_outside.proofs.Told.{Grows-join}
 use Rattle.line_reading.proofs.Sending.{Grows-front}
-use Rattle.line_reading.proofs.outbox.Outbox.put.Goals as goal
+use Rattle.line_reading.proofs.write_buffer.WriteBuffer.put.Goals as goal
 
 pub returns-then-piece-gt-BLOCK-clause-ok : goal.returns-then-piece-gt-BLOCK-clause-ok
 returns-then-piece-gt-BLOCK-clause-ok g c =

@@ -1,42 +1,42 @@
 //! The bytes of the input that were read and not used up yet.
 ghost use Rattle.std.specs.Prelude.{◌≡◌, ◌≤◌, ◌<◌, ◌+◌, [], length, drop, take, vec_len, IfOk, OnOk, OnErr};
 ghost use Rattle.lei_outside.specs.Faults.{FailsLast};
-ghost use Rattle.line_reading.specs.Window.{Fills, Skips, StaysUnread};
+ghost use Rattle.line_reading.specs.ReadBuffer.{Fills, Skips, StaysUnread};
 
 use crate::answering::next_end;
-use crate::outbox::BLOCK;
 use crate::requests::MAX_LINE;
+use crate::write_buffer::BLOCK;
 use lei_outside::{Failed, NoMemory, Source};
 use std::alloc::Global;
 use std::marker::Model;
 
-/// The size of a window: a line of the greatest length with its end, and a block behind it.
-pub const WINDOW: usize = MAX_LINE + 1 + BLOCK;
+/// The size of a read buffer: a line of the greatest length with its end, and a block behind it.
+pub const CAPACITY: usize = MAX_LINE + 1 + BLOCK;
 
 /// Bytes that were read and not used up yet. Contracts see it as their list.
 #[derive(Drop)]
-pub struct Window {
+pub struct ReadBuffer {
     buffer: Vec<u8>,
     held: usize,
 }
 
-impl Model for Window {
+impl Model for ReadBuffer {
     ghost use Rattle.std.specs.Prelude.{◌≡◌, ◌≤◌, List, ℕ, take, vec_len};
-    ghost use Rattle.line_reading.specs.declared.window.TheConstants.{WINDOW};
+    ghost use Rattle.line_reading.specs.declared.read_buffer.TheConstants.{CAPACITY};
 
     ghost Value = { List ℕ };
 
-    ghost view = { λ window. take window.held window.buffer.items };
+    ghost view = { λ b. take b.held b.buffer.items };
 
-    ghost invariant = { λ window. (vec_len window.buffer ≡ WINDOW) × (window.held ≤ WINDOW) };
+    ghost invariant = { λ b. (vec_len b.buffer ≡ CAPACITY) × (b.held ≤ CAPACITY) };
 }
 
-impl Window {
-    /// An empty window, with the memory that it will ever take.
+impl ReadBuffer {
+    /// An empty read buffer, with the memory that it will ever take.
     pub fn new(alloc: Global) -> Result<Self, NoMemory>
-        ensures { IfOk result (λ window. window ≡ []) }
+        ensures { IfOk result (λ b. b ≡ []) }
     {
-        Ok(Window {
+        Ok(ReadBuffer {
             buffer: buffer(alloc)?,
             held: 0,
         })
@@ -63,7 +63,7 @@ impl Window {
         Ok(count)
     }
 
-    /// Drops this many bytes from the front, and moves the others there. A window that is used up to the end of
+    /// Drops this many bytes from the front, and moves the others there. A read buffer that is used up to the end of
     /// its last whole line alone moves no byte twice.
     pub fn use_up(&mut self, count: usize)
         requires { count ≤ length self.old }
@@ -122,9 +122,9 @@ pub fn read_behind<S: Source>(
     input.read(&mut buffer[held..end])
 }
 
-// The memory of a window.
+// The memory of a read buffer.
 fn buffer(alloc: Global) -> Result<Vec<u8>, NoMemory>
-    ensures { IfOk result (λ buffer. vec_len buffer ≡ WINDOW) }
+    ensures { IfOk result (λ buffer. vec_len buffer ≡ CAPACITY) }
 {
-    Ok(vec![in alloc; 0u8; WINDOW]?)
+    Ok(vec![in alloc; 0u8; CAPACITY]?)
 }
