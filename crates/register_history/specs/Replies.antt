@@ -12,6 +12,7 @@ use Rattle.lei_records.specs.Rows.{Row}
 use Rattle.lei_records.specs.Tables.{Table, row_at}
 use Rattle.lei_records.specs.declared.item.Item.{Item}
 use Rattle.lei_records.specs.declared.item.RawItem.{RawItem}
+use Rattle.register_judge.specs.Sittings.{sitting_of}
 use Rattle.register_judge.specs.Taking.{take}
 use Rattle.register_judge.specs.declared.outcome.Verdict.{Verdict}
 use Rattle.register_words.specs.declared.request.Call.{Call}
@@ -92,7 +93,8 @@ upload_entry history call moment verdicts =
 abbrev pub taken_upload : OfficeState → Call → ℤ → List RawItem → KeptEntry
 taken_upload office call moment raws =
     let table = after office.limits office.history in
-    let taken = take table office.limits.records (day_of moment) call.office (map ready raws) in
+    let sitting = sitting_of office.limits.records (day_of moment) call.office in
+    let taken = take table sitting (map ready raws) in
     upload_entry office.history call moment taken.verdicts
 
 -- how many rows of each sheet are published of a table: records, relationships and exceptions
