@@ -10,7 +10,7 @@ use Rattle.lei_records.specs.Tables.{Table}
 use Rattle.lei_records.specs.declared.item.RawItem.{RawItem}
 use Rattle.lei_records.specs.declared.item.Readied.{Readied}
 use Rattle.register_judge.specs.declared.sitting.Sitting.{Sitting}
-use Rattle.register_judge.specs.Sittings.{sitting_of}
+use Rattle.register_judge.specs.Sittings.{rules_of, sitting_by}
 use Rattle.register_judge.specs.Taking.{Taken, take}
 use Rattle.register_table.specs.Held.{Held, TableState, no_rows, rows}
 use Rattle.register_table.specs.Undos.{IsLater, WriteList, touch_all}
@@ -28,10 +28,10 @@ items_in (Err fault) = []
 abbrev pub items_of : KeptEntry → List Readied
 items_of e = items_in (upload e.body)
 
--- The sitting in which the items of an entry are judged: for the entry's issuer, on the day of its moment, under the limit
--- on records.
+-- The sitting in which the items of an entry are judged: by the entry's rules, for its issuer, on the day of its moment,
+-- and under the limit on records.
 abbrev pub entry_sitting : Limits → KeptEntry → Sitting
-entry_sitting limits e = sitting_of limits.records (day_of e.moment) e.office
+entry_sitting limits e = sitting_by (rules_of e.rules) limits.records (day_of e.moment) e.office
 
 -- what these items of an entry do to a table
 abbrev pub take_items : Limits → Table → KeptEntry → List Readied → Taken

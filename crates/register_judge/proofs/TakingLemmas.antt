@@ -41,7 +41,7 @@ use Rattle.register_judge.specs.declared.outcome.Verdict.{Verdict}
 use Rattle.register_judge.specs.declared.sitting.Rules.{Rules}
 use Rattle.register_judge.specs.declared.sitting.Sitting.{Sitting}
 use Rattle.register_judge.specs.Checks.{own_checks, held_checks, c16, c19, successor_checks, earlier_checks, limit_check, record_checks}
-use Rattle.register_judge.specs.Judging.{acceptance, check_held, check_key, check_named, check_record, check_successor, held_in, key_cell, judge_room, judge_record, outcome_by, judge_item, put_writes, cells_after, count_after, records_added, Judgement, before, judge_items}
+use Rattle.register_judge.specs.Judging.{acceptance, check_with_held, check_key, check_named, check_record, check_successor, value_seen, key_cell, judge_room, judge_record, outcome_by, judge_item, put_writes, cells_after, count_after, records_added, Judgement, before, judge_items}
 use Rattle.register_judge.specs.Outcomes.{Judges, Takes}
 use Rattle.register_judge.specs.Overlays.{put_record}
 use Rattle.register_judge.specs.Sittings.{is_at_limit}
@@ -95,7 +95,7 @@ record_by_cells table sitting item keyed holders =
     let of_held = held_checks held sitting item in
     let behind = successor_checks sitting.rules table item (successor_in item) ++ c19 (other_holder table item) item ∷ [] in
     ap (unless_failed (first_failing own))
-    (on_held held (CellKey.Rec (lei_in item)) (check_held (cells_of table) sitting item)
+    (on_held held (CellKey.Rec (lei_in item)) (check_with_held (cells_of table) sitting item)
     ∙ (ap (unless_failed (first_failing of_held)) (successor_by_table sitting.rules table item (successor_in item) keyed holders) ∙ chained of_held behind))
     ∙ chained own (of_held ++ behind)
 
@@ -123,7 +123,7 @@ at_limit : (table : Table) (sitting : Sitting) (limit count : ℕ) → IsCounted
 at_limit table sitting limit count counted =
     same_limit counted.base sitting.limit count limit (record_count table) counted.limit_is counted.count_is
 
-held_seen : {X : Type 0} (found : Option X) → held_in (seen found) ≡ found
+held_seen : {X : Type 0} (found : Option X) → value_seen (seen found) ≡ found
 held_seen None = refl
 held_seen (Some x) = refl
 
@@ -156,13 +156,13 @@ by_checks (Some check) = refl
 
 -- What is asked of a table so that its cells tell each check: its rows stand under their own keys, and no two live records
 -- have one authority key, nor two active relationships one start and type.
-pub record IsTold (table : Table) : Type 0 where
+pub record CellsTell (table : Table) : Type 0 where
   pub keyed : IsKeyed table
   pub holders : HasHolders table
   pub relations_keyed : AreRelationsKeyed table
   pub actives : HasActives table
 
-item_by_table : (table : Table) (sitting : Sitting) (limit count : ℕ) (item : Readied) → IsTold table → IsCounted table sitting limit count
+item_by_table : (table : Table) (sitting : Sitting) (limit count : ℕ) (item : Readied) → CellsTell table → IsCounted table sitting limit count
     → judge_item (cells_of table) (is_at_limit sitting count) sitting item ≡ Ok (outcome_on table (over_table sitting limit) item)
 item_by_table table sitting limit count (Readied.Bad check) told counted = refl
 item_by_table table sitting limit count (Readied.Good (Item.Record item)) told counted =
@@ -224,12 +224,12 @@ successors_pass table sitting item passes = (before_c20 table sitting item passe
 -- after these writes the table's cells tell each check, they are the cells with the writes put, and the table has so many
 -- records more
 record After (table : Table) (writes : List (RowKey × Option Item)) (added : ℕ) : Type 0 where
-  told : IsTold (put_all writes table)
+  told : CellsTell (put_all writes table)
   cells : put_writes writes (cells_of table) ≡ cells_of (put_all writes table)
   count : record_count (put_all writes table) ≡ record_count table + added
 
-unchanged : (table : Table) → IsTold table → After table [] 0
-unchanged table told = record { told = told; cells = refl; count = sym (add-zero (record_count table)) }
+after_none : (table : Table) → CellsTell table → After table [] 0
+after_none table told = record { told = told; cells = refl; count = sym (add-zero (record_count table)) }
 
 count_put : (table : Table) (item : Row) → record_count (put table (Item.Record item)) ≡ cond (is_some (row_at table (lei_in item))) (record_count table) (record_count table + 1)
 count_put table item = len-insert keys_total table.records (record_key (lei_in item)) item
@@ -239,9 +239,9 @@ count_added : (held : Option Row) (count : ℕ) → cond (is_some held) count (c
 count_added None count = refl
 count_added (Some row) count = sym (add-zero count)
 
-recorded : (table : Table) (sitting : Sitting) (item : Row) → IsTold table → Passes table sitting item
+after_record : (table : Table) (sitting : Sitting) (item : Row) → CellsTell table → Passes table sitting item
     → After table ((RowKey.Rec (lei_in item), Some (Item.Record item)) ∷ []) (records_added Verdict.Accepted (is_new_record table sitting (Readied.Good (Item.Record item))))
-recorded table sitting item told passes =
+after_record table sitting item told passes =
     let both = passed table sitting item passes in
     let free = free_if_passes table sitting item passes in
     let held = record_of table (lei_in item) in
@@ -263,9 +263,9 @@ recorded table sitting item told passes =
 pub passed_37 : (table : Table) (issuer : List ℕ) (row : Row) → first_failing (relation_checks table issuer row) ≡ None → (c37 (other_end table row) row).fails ≡ false
 passed_37 table issuer row passes = (all_pass (relation_checks table issuer row) passes).others.others.others.others.others.others.others.first
 
-related : (table : Table) (issuer : List ℕ) (row : Row) → IsTold table → first_failing (relation_checks table issuer row) ≡ None
+after_relation : (table : Table) (issuer : List ℕ) (row : Row) → CellsTell table → first_failing (relation_checks table issuer row) ≡ None
     → After table ((row_key (Item.Relation row), Some (Item.Relation row)) ∷ []) 0
-related table issuer row told passes =
+after_relation table issuer row told passes =
     let fits : IsFitting table row = fitting table row (passed_37 table issuer row passes) in
     record {
       told = record {
@@ -278,30 +278,30 @@ related table issuer row told passes =
       count = sym (add-zero (record_count table));
     }
 
-excepted : (table : Table) (row : Row) (withdraws : Bool) → IsTold table
+after_exception : (table : Table) (row : Row) (withdraws : Bool) → CellsTell table
     → After table ((row_key (Item.Exception (row, withdraws)), written (Item.Exception (row, withdraws))) ∷ []) 0
-excepted table row true told = record {
+after_exception table row true told = record {
   told = record { keyed = told.keyed; holders = told.holders; relations_keyed = told.relations_keyed; actives = told.actives };
   cells = cells-put_exception table row true;
   count = sym (add-zero (record_count table));
 }
-excepted table row false told = record {
+after_exception table row false told = record {
   told = record { keyed = told.keyed; holders = told.holders; relations_keyed = told.relations_keyed; actives = told.actives };
   cells = cells-put_exception table row false;
   count = sym (add-zero (record_count table));
 }
 
-by_verdict : (table : Table) (sitting : Sitting) (item : Item) (failed : Option FailedCheck) → IsTold table
+by_verdict : (table : Table) (sitting : Sitting) (item : Item) (failed : Option FailedCheck) → CellsTell table
     → first_failing (item_checks table sitting item) ≡ failed
     → After table (writes_of (verdict_of failed) (Readied.Good item)) (records_added (verdict_of failed) (is_new_record table sitting (Readied.Good item)))
-by_verdict table sitting item (Some check) told is = unchanged table told
-by_verdict table sitting (Item.Record row) None told is = recorded table sitting row told is
-by_verdict table sitting (Item.Relation row) None told is = related table sitting.issuer row told is
-by_verdict table sitting (Item.Exception item) None told is = excepted table item.0 item.1 told
+by_verdict table sitting item (Some check) told is = after_none table told
+by_verdict table sitting (Item.Record row) None told is = after_record table sitting row told is
+by_verdict table sitting (Item.Relation row) None told is = after_relation table sitting.issuer row told is
+by_verdict table sitting (Item.Exception item) None told is = after_exception table item.0 item.1 told
 
-after_item : (table : Table) (sitting : Sitting) (item : Readied) → IsTold table
+after_item : (table : Table) (sitting : Sitting) (item : Readied) → CellsTell table
     → After table (writes_of (verdict table sitting item) item) (records_added (verdict table sitting item) (is_new_record table sitting item))
-after_item table sitting (Readied.Bad check) told = unchanged table told
+after_item table sitting (Readied.Bad check) told = after_none table told
 after_item table sitting (Readied.Good item) told = by_verdict table sitting item (first_failing (item_checks table sitting item)) told refl
 
 -- the records that an item adds are counted
@@ -314,7 +314,7 @@ abbrev pub shown : Taken → Judgement
 shown taken = record { verdicts = taken.verdicts; writes = taken.writes; new_records = taken.new_records }
 
 -- over the cells of a table what is judged is what the items do to the table
-told-taken : (table : Table) (sitting : Sitting) (limit count : ℕ) (items : List Readied) → IsTold table → IsCounted table sitting limit count
+told-taken : (table : Table) (sitting : Sitting) (limit count : ℕ) (items : List Readied) → CellsTell table → IsCounted table sitting limit count
     → judge_items (cells_of table) count sitting items ≡ Ok (shown (take table (over_table sitting limit) items))
 unfolding judge_items
 told-taken table sitting limit count [] told counted = refl

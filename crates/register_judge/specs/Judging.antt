@@ -50,8 +50,8 @@ check_successor Rules.First cells item (Some successor) =
     on_seen (cells.record_cell successor) (CellKey.Rec successor) (check_named cells item successor)
 
 -- C10 to C19, with the record that is held under the item's LEI.
-abbrev pub check_held : Cells → Sitting → Row → Option RecCell → Checked
-check_held cells sitting item held =
+abbrev pub check_with_held : Cells → Sitting → Row → Option RecCell → Checked
+check_with_held cells sitting item held =
     unless_failed (first_failing (held_checks held sitting item))
     (check_successor sitting.rules cells item (successor_in item))
 
@@ -59,7 +59,7 @@ check_held cells sitting item held =
 unfoldable pub check_record : Cells → Sitting → Row → Checked
 check_record cells sitting item =
     unless_failed (first_failing (own_checks sitting item))
-    (on_seen (cells.record_cell (lei_in item)) (CellKey.Rec (lei_in item)) (check_held cells sitting item))
+    (on_seen (cells.record_cell (lei_in item)) (CellKey.Rec (lei_in item)) (check_with_held cells sitting item))
 
 -- ---- an item
 
@@ -82,15 +82,15 @@ outcome_by (Checked.Fails check) passed = Ok (rejection check)
 outcome_by (Checked.Missing key) passed = Err key
 
 -- What a cell has as far as the view knows.
-abbrev pub held_in : {X : Type 0} → Seen X → Option X
-held_in (Seen.Held x) = Some x
-held_in Seen.Empty = None
-held_in Seen.Missing = None
+abbrev pub value_seen : {X : Type 0} → Seen X → Option X
+value_seen (Seen.Held x) = Some x
+value_seen Seen.Empty = None
+value_seen Seen.Missing = None
 
 -- What comes of a record: C20 is asked last, with the record that is held under its LEI.
 abbrev pub judge_record : Cells → Bool → Sitting → Row → Result ItemOutcome CellKey
 judge_record cells full sitting item =
-    outcome_by (check_record cells sitting item) (judge_room (held_in (cells.record_cell (lei_in item))) full)
+    outcome_by (check_record cells sitting item) (judge_room (value_seen (cells.record_cell (lei_in item))) full)
 
 -- What comes of an item in a sitting, where a further record fits or not.
 abbrev pub judge_item : Cells → Bool → Sitting → Readied → Result ItemOutcome CellKey
@@ -144,7 +144,7 @@ before (Ok judged) item (Err key) = Err key
 before (Ok judged) item (Ok rest) = Ok (item_in_front judged item rest)
 
 -- What comes of items from the first to the last in a sitting, each judged on the cells with the accepted ones before it
--- put. So many of the records that the sitting's limit counts are there before them.
+-- put. The limit is asked of a count of records, which begins with this one and grows by each record that is added.
 unfoldable pub judge_items : Cells → ℕ → Sitting → List Readied → Result Judgement CellKey
 judge_items cells count sitting [] = Ok (record { verdicts = []; writes = []; new_records = 0 })
 judge_items cells count sitting (item ∷ items) =

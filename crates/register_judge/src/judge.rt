@@ -6,7 +6,7 @@ ghost use Rattle.register_judge.specs.Taking;
 
 use crate::checks::{own_check, room_check};
 use crate::outcome::{JudgeStop, Verdict};
-use crate::records::check_held;
+use crate::records::check_with_held;
 use crate::sitting::Sitting;
 use lei_records::{CellKey, Check, Item, Readied, RecCell, Record, Seen, View};
 use relation_rules::{Checked, exception_check, relation_check};
@@ -90,7 +90,7 @@ fn judge_record<V: View>(
         Seen::Empty => None,
         Seen::Missing => return Err(JudgeStop::NeedCell(CellKey::Rec(item.lei()))),
     };
-    let checked = check_held(alloc, view, &held, sitting, item)?;
+    let checked = check_with_held(alloc, view, &held, sitting, item)?;
     outcome_by(checked, judge_room(&held, full))
 }
 

@@ -1,10 +1,11 @@
 //! The verdicts on the items of an upload.
 ghost use Rattle.std.specs.Prelude.{◌≡◌, ◌<◌, ◌≤◌, ◌+◌, ◌∷◌, ◌++◌, ℕ, [], IfOk, OnOk, length, if◌then◌else◌};
 ghost use Rattle.lei_records.specs.Tables.{Table, IsSound, cells_of, record_count, row_key};
+ghost use Rattle.register_judge.specs.declared.sitting.Rules.{Rules};
 ghost use Rattle.register_judge.specs.Judging;
 ghost use Rattle.register_judge.specs.Outcomes.{Judges, Shows, Takes};
 ghost use Rattle.register_judge.specs.Overlays.{cells_in};
-ghost use Rattle.register_judge.specs.Sittings.{sitting_of};
+ghost use Rattle.register_judge.specs.Sittings.{sitting_by};
 ghost use Rattle.register_judge.specs.Taking;
 ghost use Rattle.register_judge.specs.Taking.{take, writes_of, written};
 
@@ -40,13 +41,13 @@ pub fn judge_all<V: View>(
     items: &[Readied],
 ) -> Result<Outcome, JudgeStop>
     requires { length items.now ≤ 5000 }
-    // In the sitting whose limit counts the records that are added.
+    // The records of the view aren't known, and so the limit is that of the ones that are added.
     ensures answers { Judges result
-        (Judging.judge_items (V.cells view.now) 0 (sitting_of room today issuer.now) items.now) }
+        (Judging.judge_items (V.cells view.now) 0 (sitting_by Rules.First room today issuer.now) items.now) }
 
     // Over the cells of a sound table, which has room for so many records more.
-    ensures over_tables { (table : Table) → IsSound table → V.cells view.now ≡ cells_of table
-        → Takes result (take table (sitting_of (record_count table + room) today issuer.now) items.now) }
+    ensures over_tables { (table : Table) → IsSound table → V.cells view.now ≡ cells_of table → Takes result
+        (take table (sitting_by Rules.First (record_count table + room) today issuer.now) items.now) }
 {
     let sitting = Sitting {
         rules: Rules::First,
@@ -57,7 +58,7 @@ pub fn judge_all<V: View>(
     judge_each(alloc, view, &sitting, items)
 }
 
-// The sitting's limit counts the records that are added.
+// In a sitting whose limit is that of the records that are added.
 fn judge_each<V: View>(
     alloc: Global,
     view: &V,

@@ -20,7 +20,7 @@ use std::alloc::Global;
 use successor_rules::{Walked, walk};
 
 /// From C10 on, with the record that is held under the item's LEI. The key of a cell that is lacking takes memory.
-pub fn check_held<V: View>(
+pub fn check_with_held<V: View>(
     alloc: Global,
     view: &V,
     held: &Option<RecCell>,
@@ -28,7 +28,7 @@ pub fn check_held<V: View>(
     item: &Record,
 ) -> Result<Checked, NoMemory>
     ensures { IfOk result (λ checked. checked
-        ≡ Judging.check_held (V.cells view.now) sitting.now item.now held.now) }
+        ≡ Judging.check_with_held (V.cells view.now) sitting.now item.now held.now) }
 {
     if let Some(check) = held_check(held, sitting, item) {
         return Ok(Checked::Fails(check));
