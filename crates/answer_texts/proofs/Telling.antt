@@ -1,5 +1,5 @@
 -- Each check that is told on an upload's items is one: there is a check of its number.
-use Rattle.std.proofs.Common.{◌≡◌, ℕ, ℤ, List, [], ◌∷◌, ◌++◌, map, true, false, cond, Option, Some, None, option_map, unwrap_or, refl, subst}
+use Rattle.std.proofs.Common.{◌≡◌, ℕ, List, [], ◌∷◌, ◌++◌, map, true, false, cond, Option, Some, None, option_map, unwrap_or, refl, subst}
 use Rattle.std.specs.List.{All}
 use Rattle.std.specs.Prelude.{IfSome}
 use Rattle.std.specs.Option.{option_or}

@@ -1,5 +1,5 @@
 -- The register after a history is sound and has no more records than the limit, and what an upload writes may be put.
-use Rattle.std.proofs.Common.{◌≡◌, ℕ, ◌+◌, ◌<◌, ◌≤◌, ℤ, List, [], ◌∷◌, map, fold, Bool, true, false, ◌&&◌, cond, nat_le, nat_lt, ◌==◌, length, Option, Some, None, is_some, is_none, find, option_map, option_and_then, Result, Ok, Err, MatchResult, refl, sym, ap, ◌∙◌, subst, arith, rules}
+use Rattle.std.proofs.Common.{◌≡◌, ℕ, ◌+◌, ◌<◌, ◌≤◌, List, [], ◌∷◌, map, fold, Bool, true, false, ◌&&◌, cond, nat_le, nat_lt, ◌==◌, length, Option, Some, None, is_some, is_none, find, option_map, option_and_then, Result, Ok, Err, MatchResult, refl, sym, ap, ◌∙◌, subst, arith, rules}
 use Rattle.std.specs.List.{Contains}
 use Rattle.std.specs.Option.{option_to_list}
 use Rattle.std.specs.FinMap.{get-empty, len-empty, len-insert}
@@ -19,7 +19,7 @@ use Rattle.lei_records.specs.Relations.{end_in, is_active_of}
 use Rattle.lei_records.specs.declared.fields.Kind.{Kind}
 use Rattle.lei_shapes.specs.declared.lists.RelationType.{RelationType}
 use Rattle.lei_records.specs.Rows.{Row}
-use Rattle.lei_records.specs.Tables.{Table, key_cmp, record_key, put, put_all, put_write, row_at, row_key, active_of, relations_of, record_of, record_count, IsSound}
+use Rattle.lei_records.specs.Tables.{Table, key_cmp, record_key, put, put_all, put_write, row_at, row_key, active_of, relations_of, record_count, IsSound}
 use Rattle.lei_records.specs.declared.item.Item.{Item}
 use Rattle.lei_records.specs.declared.item.RawItem.{RawItem}
 use Rattle.lei_records.specs.declared.item.Readied.{Readied}
@@ -41,7 +41,7 @@ use Rattle.register_judge.proofs.ChainLemmas.{take-chains}
 use Rattle.register_judge.proofs.ParentLemmas.{take-apart, take-parents}
 use Rattle.register_judge.proofs.TakingLemmas.{take-sound}
 use Rattle.register_table.specs.Held.{no_rows}
-use Rattle.register_table.specs.Undos.{WriteList, AreOwn, IsOwn, MayApply, StaysKept}
+use Rattle.register_table.specs.Undos.{AreOwn, IsOwn, StaysKept}
 use Rattle.upload_ledger.specs.declared.ledger.TheConstants.{UPLOAD}
 use Rattle.register_words.specs.declared.limits.Limits.{Limits}
 use Rattle.upload_ledger.specs.History.{History}

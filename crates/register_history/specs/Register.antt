@@ -28,8 +28,8 @@ items_in (Err fault) = []
 abbrev pub items_of : KeptEntry → List Readied
 items_of e = items_in (upload e.body)
 
--- The sitting in which the items of an entry are judged: by the entry's rules, for its issuer, on the day of its moment,
--- and under the limit on records.
+-- The sitting in which the items of an entry are judged: by the entry's rules, for its issuer, on the day of its
+-- moment, and under the limit on records.
 abbrev pub entry_sitting : Limits → KeptEntry → Sitting
 entry_sitting limits e = sitting_by (rules_of e.rules) limits.records (day_of e.moment) e.office
 

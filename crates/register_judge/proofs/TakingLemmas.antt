@@ -1,5 +1,5 @@
 -- What a view answers over the cells of a sound table is what the items do to that table.
-use Rattle.std.specs.Prelude.{◌≡◌, ℕ, ◌+◌, ◌-◌, ◌==◌, ℤ, List, [], ◌∷◌, ◌++◌, Bool, true, false, ◌&&◌, cond, if◌then◌else◌, nat_le, ◌<◌, Option, Some, None, is_some, is_none, option_map, Result, Ok, Err}
+use Rattle.std.specs.Prelude.{◌≡◌, ℕ, ◌+◌, List, [], ◌∷◌, ◌++◌, Bool, true, false, ◌&&◌, cond, if◌then◌else◌, nat_le, Option, Some, None, is_some, is_none, option_map, Result, Ok, Err}
 use Rattle.std.specs.FinMap.{len-insert}
 use Rattle.std.specs.Option.{option_or}
 use Rattle.std.specs.Str.{bytes_eq}
@@ -14,13 +14,13 @@ use Rattle.lei_records.specs.declared.view.CellKey.{CellKey}
 use Rattle.lei_records.specs.declared.view.RecCell.{RecCell}
 use Rattle.lei_records.specs.declared.view.RowKey.{RowKey}
 use Rattle.lei_records.specs.declared.view.Seen.{Seen}
-use Rattle.lei_records.specs.Cells.{Cells, lei_in, successor_in, rec_cell, is_live, akey, holds}
+use Rattle.lei_records.specs.Cells.{lei_in, successor_in, rec_cell, is_live, akey, holds}
 use Rattle.lei_records.specs.Checks.{Finding, code_detail, fails_if, first_failing}
 use Rattle.lei_records.specs.Rows.{Row}
 use Rattle.lei_records.specs.Tables.{Table, record_key, put, put_write, put_all, row_at, record_of, record_count, holder_of, other_holder, seen, cells_of, row_key, IsKeyed, HasHolders, AreRelationsKeyed, HasActives, IsSound}
 use Rattle.lei_records.proofs.OptionLemmas.{none_where}
 use Rattle.lei_records.proofs.PassLemmas.{all_pass, first_failing-append}
-use Rattle.authority_rules.specs.Taken.{unless_own, taken, IsFree}
+use Rattle.authority_rules.specs.Taken.{taken, IsFree}
 use Rattle.authority_rules.proofs.HolderLemmas.{keys_total, some_apart, taken-cells}
 use Rattle.authority_rules.proofs.SoundLemmas.{IsSound-put_exception}
 use Rattle.authority_rules.proofs.PutLemmas.{record_of-put, holder_of-put, IsKeyed-put, HasHolders-put, IsSound-put, other_than}

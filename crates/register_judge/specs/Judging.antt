@@ -143,8 +143,8 @@ before (Err key) item rest = Err key
 before (Ok judged) item (Err key) = Err key
 before (Ok judged) item (Ok rest) = Ok (item_in_front judged item rest)
 
--- What comes of items from the first to the last in a sitting, each judged on the cells with the accepted ones before it
--- put. The limit is asked of a count of records, which begins with this one and grows by each record that is added.
+-- What comes of items from the first to the last in a sitting, each judged on the cells with the accepted ones before
+-- it put. The limit is asked of a count of records, which begins with this one and grows by each record that is added.
 unfoldable pub judge_items : Cells → ℕ → Sitting → List Readied → Result Judgement CellKey
 judge_items cells count sitting [] = Ok (record { verdicts = []; writes = []; new_records = 0 })
 judge_items cells count sitting (item ∷ items) =

@@ -4,8 +4,8 @@ use Rattle.lei_code.specs.Texts.{Lei}
 use Rattle.register_judge.specs.declared.sitting.Rules.{Rules}
 use Rattle.register_judge.specs.declared.sitting.Sitting.{Sitting}
 
--- The rules that an entry of the register names by this number. There are only the first ones yet, so every number stands
--- for them.
+-- The rules that an entry of the register names by this number. There are only the first ones yet, so every number
+-- stands for them.
 abbrev pub rules_of : ℕ → Rules
 rules_of number = Rules.First
 

@@ -12,8 +12,8 @@ use lei_records::{CellKey, Check, Item, Readied, RecCell, Record, Seen, View};
 use relation_rules::{Checked, exception_check, relation_check};
 use std::alloc::Global;
 
-/// What comes of an item: the verdict on it, and whether it came to the check of the room while no record of its LEI
-/// was held.
+/// What comes of an item: the verdict on it, and whether it came to the check of the room while no record
+/// of its LEI was held.
 #[derive(Debug, Drop)]
 pub struct ItemOutcome {
     pub verdict: Verdict,

@@ -119,7 +119,8 @@ fn accept<'a, V: View>(
 ) -> Result<(), NoMemory>
     ensures cells { OnOk result (cells_in V.cells overlay.new
         ≡ Judging.put_writes ((row_key item.now, written item.now) ∷ []) (cells_in V.cells overlay.old)) }
-    ensures writes { OnOk result (writes.new.items ≡ writes.old.items ++ (row_key item.now, written item.now) ∷ []) }
+    ensures writes { OnOk result
+        (writes.new.items ≡ writes.old.items ++ (row_key item.now, written item.now) ∷ []) }
 {
     overlay.put(alloc, item)?;
     writes.push((row_key(item), written(item)?))?;
@@ -140,10 +141,13 @@ fn written(item: &Item) -> Result<Option<Item>, NoMemory>
 fn add(progress: &mut Progress, judged: ItemOutcome) -> Result<(), NoMemory>
     requires new_records { progress.old.new_records < 5000 }
     requires added { progress.old.added < 5000 }
-    ensures verdicts { OnOk result (progress.new.verdicts.items ≡ progress.old.verdicts.items ++ judged.verdict ∷ []) }
+    ensures verdicts { OnOk result
+        (progress.new.verdicts.items ≡ progress.old.verdicts.items ++ judged.verdict ∷ []) }
     ensures writes { progress.new.writes ≡ progress.old.writes }
-    ensures new_records { progress.new.new_records ≡ progress.old.new_records + (if judged.new then 1 else 0) }
-    ensures added { progress.new.added ≡ progress.old.added + Judging.records_added judged.verdict judged.new }
+    ensures new_records {
+        progress.new.new_records ≡ progress.old.new_records + (if judged.new then 1 else 0) }
+    ensures added {
+        progress.new.added ≡ progress.old.added + Judging.records_added judged.verdict judged.new }
 {
     progress.added += records_added(&judged.verdict, judged.new);
     progress.new_records += u32::from(judged.new);

@@ -32,8 +32,8 @@ pub fn judge(
     requires fits { record_count (rows table.now.held) ≤ records }
     ensures { IfOk result (λ outcome.
         ShowsTaken outcome
-            (take (rows table.now.held) (sitting_by Rules.First records (day_of moment) issuer.now)
-                (map ready_of raws.now))) }
+        (take (rows table.now.held) (sitting_by Rules.First records (day_of moment) issuer.now)
+        (map ready_of raws.now))) }
 {
     let items = ready_all(alloc, raws)?;
     let room = records.saturating_sub(table.held());
