@@ -1,5 +1,5 @@
 -- Each check that is told on an upload's items is one: there is a check of its number.
-use Rattle.std.proofs.Common.{◌≡◌, ℕ, ℤ, List, [], ◌∷◌, ◌++◌, map, true, false, cond, Option, Some, None, option_map, unwrap_or, refl, subst}
+use Rattle.std.proofs.Common.{◌≡◌, ℕ, List, [], ◌∷◌, ◌++◌, map, true, false, cond, Option, Some, None, option_map, unwrap_or, refl, subst}
 use Rattle.std.specs.List.{All}
 use Rattle.std.specs.Prelude.{IfSome}
 use Rattle.std.specs.Option.{option_or}
@@ -15,7 +15,9 @@ use Rattle.lei_records.specs.declared.item.Item.{Item}
 use Rattle.lei_records.specs.declared.item.RawItem.{RawItem}
 use Rattle.lei_records.specs.declared.item.Readied.{Readied}
 use Rattle.lei_records.specs.declared.view.RecCell.{RecCell}
-use Rattle.register_judge.specs.Checks.{c19, c20, held_checks, is_full, own_checks, successor_checks}
+use Rattle.register_judge.specs.declared.sitting.Rules.{Rules}
+use Rattle.register_judge.specs.declared.sitting.Sitting.{Sitting}
+use Rattle.register_judge.specs.Checks.{c19, held_checks, limit_check, own_checks, successor_checks}
 use Rattle.register_judge.specs.Taking.{item_checks, take, verdict, verdict_of, writes_of}
 use Rattle.answer_texts.specs.Answers.{IsTold}
 
@@ -42,13 +44,13 @@ first-numbered (finding ∷ findings) check numbered is =
 
 -- ---- the checks on a table
 
-held-numbered : (held : Option RecCell) (today : ℤ) (issuer : Lei) (row : Row) → AreNumbered (held_checks held today issuer row)
-held-numbered None today issuer row = (refl, (refl, (refl, (refl, (refl, (refl, tt))))))
-held-numbered (Some held) today issuer row = (refl, (refl, (refl, (refl, (refl, (refl, tt))))))
+held-numbered : (held : Option RecCell) (sitting : Sitting) (row : Row) → AreNumbered (held_checks held sitting row)
+held-numbered None sitting row = (refl, (refl, (refl, (refl, (refl, (refl, tt))))))
+held-numbered (Some held) sitting row = (refl, (refl, (refl, (refl, (refl, (refl, tt))))))
 
-successor-numbered : (table : Table) (row : Row) (successor : Option Lei) → AreNumbered (successor_checks table row successor)
-successor-numbered table row None = tt
-successor-numbered table row (Some successor) = (refl, (refl, (refl, tt)))
+successor-numbered : (rules : Rules) (table : Table) (row : Row) (successor : Option Lei) → AreNumbered (successor_checks rules table row successor)
+successor-numbered rules table row None = tt
+successor-numbered Rules.First table row (Some successor) = (refl, (refl, (refl, tt)))
 
 parts-numbered : (own held followed taken full : List Finding) → AreNumbered own → AreNumbered held → AreNumbered followed → AreNumbered taken → AreNumbered full
     → AreNumbered ((own ++ held ++ followed ++ taken) ++ full)
@@ -56,15 +58,15 @@ parts-numbered own held followed taken full of_own of_held of_followed of_taken 
     both-numbered (own ++ held ++ followed ++ taken) full
     (both-numbered (own ++ held ++ followed) taken (both-numbered (own ++ held) followed (both-numbered own held of_own of_held) of_followed) of_taken) of_full
 
-item-numbered : (table : Table) (limit : ℕ) (today : ℤ) (issuer : Lei) (item : Item) → AreNumbered (item_checks table limit today issuer item)
-item-numbered table limit today issuer (Item.Record row) =
+item-numbered : (table : Table) (sitting : Sitting) (item : Item) → AreNumbered (item_checks table sitting item)
+item-numbered table sitting (Item.Record row) =
     let held = record_of table (lei_in row) in
     let taken = c19 (other_holder table row) row ∷ [] in
-    let full = c20 held (is_full table limit) ∷ [] in
-    parts-numbered (own_checks today issuer row) (held_checks held today issuer row) (successor_checks table row (successor_in row)) taken full
-    (refl, (refl, (refl, (refl, (refl, tt))))) (held-numbered held today issuer row) (successor-numbered table row (successor_in row)) (refl, tt) (refl, tt)
-item-numbered table limit today issuer (Item.Relation row) = (refl, (refl, (refl, (refl, (refl, (refl, (refl, (refl, (refl, (refl, (refl, tt)))))))))))
-item-numbered table limit today issuer (Item.Exception item) = (refl, (refl, (refl, (refl, tt))))
+    let full = limit_check table sitting row ∷ [] in
+    parts-numbered (own_checks sitting row) (held_checks held sitting row) (successor_checks sitting.rules table row (successor_in row)) taken full
+    (refl, (refl, (refl, (refl, (refl, tt))))) (held-numbered held sitting row) (successor-numbered sitting.rules table row (successor_in row)) (refl, tt) (refl, tt)
+item-numbered table sitting (Item.Relation row) = (refl, (refl, (refl, (refl, (refl, (refl, (refl, (refl, (refl, (refl, (refl, tt)))))))))))
+item-numbered table sitting (Item.Exception item) = (refl, (refl, (refl, (refl, tt))))
 
 -- ---- the checks of fields
 
@@ -96,26 +98,26 @@ of_failed : (failed : Option FailedCheck) → ((check : FailedCheck) → failed 
 of_failed None numbered = tt
 of_failed (Some check) numbered = numbered check refl
 
-of_item : (table : Table) (limit : ℕ) (today : ℤ) (issuer : Lei) (item : Item) → IsTold (verdict table limit today issuer (Readied.Good item))
-of_item table limit today issuer item =
-    let findings = item_checks table limit today issuer item in
-    of_failed (first_failing findings) (λ check is. first-numbered findings check (item-numbered table limit today issuer item) is)
+of_item : (table : Table) (sitting : Sitting) (item : Item) → IsTold (verdict table sitting (Readied.Good item))
+of_item table sitting item =
+    let findings = item_checks table sitting item in
+    of_failed (first_failing findings) (λ check is. first-numbered findings check (item-numbered table sitting item) is)
 
-of_readied : (table : Table) (limit : ℕ) (today : ℤ) (issuer : Lei) (kind : Kind) (pairs : List (Text × Text)) (failed : Option FailedCheck) → failed_check kind pairs ≡ failed
-    → IsTold (verdict table limit today issuer (readied kind pairs failed))
-of_readied table limit today issuer kind pairs None is = of_item table limit today issuer (item_of kind (is_withdrawal pairs) (row_of kind pairs))
-of_readied table limit today issuer kind pairs (Some check) is = fields-numbered kind pairs check is
+of_readied : (table : Table) (sitting : Sitting) (kind : Kind) (pairs : List (Text × Text)) (failed : Option FailedCheck) → failed_check kind pairs ≡ failed
+    → IsTold (verdict table sitting (readied kind pairs failed))
+of_readied table sitting kind pairs None is = of_item table sitting (item_of kind (is_withdrawal pairs) (row_of kind pairs))
+of_readied table sitting kind pairs (Some check) is = fields-numbered kind pairs check is
 
-of_raw : (table : Table) (limit : ℕ) (today : ℤ) (issuer : Lei) (raw : RawItem) → IsTold (verdict table limit today issuer (ready raw))
-of_raw table limit today issuer (RawItem.Record pairs) = of_readied table limit today issuer Kind.Record pairs (failed_check Kind.Record pairs) refl
-of_raw table limit today issuer (RawItem.Relation pairs) = of_readied table limit today issuer Kind.Relation pairs (failed_check Kind.Relation pairs) refl
-of_raw table limit today issuer (RawItem.Exception pairs) = of_readied table limit today issuer Kind.Exception pairs (failed_check Kind.Exception pairs) refl
+of_raw : (table : Table) (sitting : Sitting) (raw : RawItem) → IsTold (verdict table sitting (ready raw))
+of_raw table sitting (RawItem.Record pairs) = of_readied table sitting Kind.Record pairs (failed_check Kind.Record pairs) refl
+of_raw table sitting (RawItem.Relation pairs) = of_readied table sitting Kind.Relation pairs (failed_check Kind.Relation pairs) refl
+of_raw table sitting (RawItem.Exception pairs) = of_readied table sitting Kind.Exception pairs (failed_check Kind.Exception pairs) refl
 
-pub all_told : (table : Table) (limit : ℕ) (today : ℤ) (issuer : Lei) (raws : List RawItem) → All IsTold (take table limit today issuer (map ready raws)).verdicts
-all_told table limit today issuer [] = All-nil IsTold
-all_told table limit today issuer (raw ∷ raws) =
-    let given = verdict table limit today issuer (ready raw) in
-    All-cons IsTold given _ (of_raw table limit today issuer raw) (all_told (put_all (writes_of given (ready raw)) table) limit today issuer raws)
+pub all_told : (table : Table) (sitting : Sitting) (raws : List RawItem) → All IsTold (take table sitting (map ready raws)).verdicts
+all_told table sitting [] = All-nil IsTold
+all_told table sitting (raw ∷ raws) =
+    let given = verdict table sitting (ready raw) in
+    All-cons IsTold given _ (of_raw table sitting raw) (all_told (put_all (writes_of given (ready raw)) table) sitting raws)
 
 -- a text that there is
 pub told_text : (told : Option Text) (text bytes : Text) → told ≡ Some text → IfSome told (λ written. bytes ≡ written) → bytes ≡ unwrap_or told []

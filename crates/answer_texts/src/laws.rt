@@ -1,14 +1,14 @@
 //! A law of the definitions: the contract of a function that does nothing.
-ghost use Rattle.std.specs.Prelude.{ℕ, ℤ, List, All, map};
-ghost use Rattle.lei_code.specs.Texts.{Lei};
+ghost use Rattle.std.specs.Prelude.{List, All, map};
 ghost use Rattle.lei_records.specs.Items.{ready};
 ghost use Rattle.lei_records.specs.Tables.{Table};
 ghost use Rattle.lei_records.specs.declared.item.RawItem.{RawItem};
+ghost use Rattle.register_judge.specs.declared.sitting.Sitting.{Sitting};
 ghost use Rattle.register_judge.specs.Taking.{take};
 ghost use Rattle.answer_texts.specs.Answers.{IsTold};
 
 /// Each check that is told of an item of an upload has a number that a check has, and so a text.
 pub fn verdicts_are_told()
-    ensures { (table : Table) (limit : ℕ) (today : ℤ) (issuer : Lei) (raws : List RawItem) →
-        All IsTold (take table limit today issuer (map ready raws)).verdicts }
+    ensures { (table : Table) (sitting : Sitting) (raws : List RawItem) →
+        All IsTold (take table sitting (map ready raws)).verdicts }
 {}

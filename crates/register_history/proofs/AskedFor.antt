@@ -20,7 +20,7 @@ use Rattle.register_words.specs.declared.request.Request.{Request}
 use Rattle.register_words.specs.declared.request.Request.TheVariants.{Accredit, Publish, Upload}
 use Rattle.register_history.specs.Legal.{IsNext, request_of}
 use Rattle.register_words.specs.Requests.{IsRequest, IsUploadNumber}
-use Rattle.register_history.specs.Replies.{Outcome, accredit_outcome, accreditation, adds, body_outcome, is_full, is_too_much, outcome, outcome_at, place_outcome, stays, taken_upload, upload_outcome}
+use Rattle.register_history.specs.Replies.{accredit_outcome, accreditation, adds, body_outcome, is_full, is_too_much, outcome, outcome_at, place_outcome, stays, taken_upload, upload_outcome}
 use Rattle.register_history.specs.State.{OfficeState, office_of}
 use Rattle.register_words.specs.Refusals.{reply_words}
 use Rattle.register_history.proofs.Histories.{publish_adds}

@@ -1,5 +1,5 @@
 -- What an accepted record says of the table that it was judged on, and of the office that sent it.
-use Rattle.std.proofs.Common.{◌≡◌, ℕ, ℤ, List, [], ◌∷◌, ◌++◌, fold, Bool, true, false, not, cond, bytes_eq, Option, Some, None, is_none, option_map, refl, sym, ap, ◌∙◌}
+use Rattle.std.proofs.Common.{◌≡◌, List, [], ◌∷◌, ◌++◌, fold, Bool, true, false, not, cond, bytes_eq, Option, Some, None, is_none, option_map, refl, sym, ap, ◌∙◌}
 use Rattle.std.specs.List.{All}
 use Rattle.std.specs.Option.{option_map_or}
 use Rattle.std.proofs.lemmas.List.Elements.{All-append, All-cons, All-nil}
@@ -8,7 +8,6 @@ use Rattle.std.proofs.lemmas.Slice.Eq.{bytes_eq-Decides}
 use Rattle.lei_code.specs.Texts.{Lei}
 use Rattle.lei_outside.specs.declared.entry.KeptEntry.{KeptEntry}
 use Rattle.lei_shapes.specs.declared.lists.RecordStatus.{RecordStatus}
-use Rattle.lei_shapes.specs.Moment.{day_of}
 use Rattle.lei_records.specs.Cells.{lei_in, manager_in, receiver_in, rec_cell, status_in}
 use Rattle.lei_records.specs.Rows.{Row}
 use Rattle.lei_records.specs.Tables.{Table, put_all, row_at}
@@ -18,14 +17,15 @@ use Rattle.lei_records.specs.Checks.{FailedCheck, Finding, first_failing}
 use Rattle.status_rules.specs.Statuses.{is_issued}
 use Rattle.status_rules.specs.Transitions.{party}
 use Rattle.status_rules.specs.declared.transitions.Party.{Party}
-use Rattle.register_judge.specs.Checks.{checks, is_another, c09, c10, c11, c12}
+use Rattle.register_judge.specs.Checks.{record_checks, is_another, c09, c10, c11, c12}
+use Rattle.register_judge.specs.declared.sitting.Sitting.{Sitting}
 use Rattle.register_judge.specs.Taking.{take, verdict, verdict_of, writes_of}
 use Rattle.register_judge.specs.declared.outcome.Verdict.{Verdict}
 use Rattle.register_table.specs.Held.{no_rows}
 use Rattle.register_words.specs.declared.limits.Limits.{Limits}
 use Rattle.upload_ledger.specs.History.{History, is_upload}
 use Rattle.register_history.specs.Parties.{Change, ChangesArePermitted, ChangesMakeRecords, IsPermitted, changed, changes, changes_by, changes_from, entry_changes, item_changes}
-use Rattle.register_history.specs.Register.{after, after_entry, items_of, take_items}
+use Rattle.register_history.specs.Register.{after, after_entry, entry_sitting, items_of, take_items}
 use Rattle.register_history.specs.State.{OfficeState}
 
 -- a check passes, and the others do
@@ -92,31 +92,31 @@ by_held : (held : Option Row) (row : Row) (issuer : Lei) → (c09 issuer row).fa
 by_held None row issuer own new change asked = record { who = Party.New; permitted = new-is_issued (status_in row) new; is_issuer = ap Some (same_issuer (manager_in row) issuer own) }
 by_held (Some held) row issuer own new change asked = by_party held row issuer (party (Some (status_in held)) (status_in row)) refl own change asked
 
-permitted : (table : Table) (limit : ℕ) (today : ℤ) (issuer : Lei) (row : Row) → first_failing (checks table limit today issuer row) ≡ None → IsPermitted (change_of (row_at table (lei_in row)) row issuer)
-permitted table limit today issuer row none =
-    let from_c09 = (passing (checks table limit today issuer row) none).others.others.others.others in
-    by_held (row_at table (lei_in row)) row issuer from_c09.first from_c09.others.first from_c09.others.others.first from_c09.others.others.others.first
+permitted : (table : Table) (sitting : Sitting) (row : Row) → first_failing (record_checks table sitting row) ≡ None → IsPermitted (change_of (row_at table (lei_in row)) row sitting.issuer)
+permitted table sitting row none =
+    let from_c09 = (passing (record_checks table sitting row) none).others.others.others.others in
+    by_held (row_at table (lei_in row)) row sitting.issuer from_c09.first from_c09.others.first from_c09.others.others.first from_c09.others.others.others.first
 
 -- ---- each of a history's changes
 
-by_verdict : (table : Table) (limit : ℕ) (today : ℤ) (issuer : Lei) (given : Verdict) (item : Readied) → verdict table limit today issuer item ≡ given → All IsPermitted (changes_by table issuer given item)
-by_verdict table limit today issuer (Verdict.Rejected check) item is = All-nil IsPermitted
-by_verdict table limit today issuer Verdict.Accepted (Readied.Bad check) is = All-nil IsPermitted
-by_verdict table limit today issuer Verdict.Accepted (Readied.Good (Item.Relation row)) is = All-nil IsPermitted
-by_verdict table limit today issuer Verdict.Accepted (Readied.Good (Item.Exception item)) is = All-nil IsPermitted
-by_verdict table limit today issuer Verdict.Accepted (Readied.Good (Item.Record row)) is =
-    All-cons IsPermitted _ [] (permitted table limit today issuer row (accepted-none (first_failing (checks table limit today issuer row)) is)) (All-nil IsPermitted)
+by_verdict : (table : Table) (sitting : Sitting) (given : Verdict) (item : Readied) → verdict table sitting item ≡ given → All IsPermitted (changes_by table sitting.issuer given item)
+by_verdict table sitting (Verdict.Rejected check) item is = All-nil IsPermitted
+by_verdict table sitting Verdict.Accepted (Readied.Bad check) is = All-nil IsPermitted
+by_verdict table sitting Verdict.Accepted (Readied.Good (Item.Relation row)) is = All-nil IsPermitted
+by_verdict table sitting Verdict.Accepted (Readied.Good (Item.Exception item)) is = All-nil IsPermitted
+by_verdict table sitting Verdict.Accepted (Readied.Good (Item.Record row)) is =
+    All-cons IsPermitted _ [] (permitted table sitting row (accepted-none (first_failing (record_checks table sitting row)) is)) (All-nil IsPermitted)
 
-items_permitted : (table : Table) (limit : ℕ) (today : ℤ) (issuer : Lei) (items : List Readied) → All IsPermitted (item_changes table limit today issuer items)
-items_permitted table limit today issuer [] = All-nil IsPermitted
-items_permitted table limit today issuer (item ∷ items) =
-    let given = verdict table limit today issuer item in
-    All-append IsPermitted _ _ (by_verdict table limit today issuer given item refl) (items_permitted (put_all (writes_of given item) table) limit today issuer items)
+items_permitted : (table : Table) (sitting : Sitting) (items : List Readied) → All IsPermitted (item_changes table sitting items)
+items_permitted table sitting [] = All-nil IsPermitted
+items_permitted table sitting (item ∷ items) =
+    let given = verdict table sitting item in
+    All-append IsPermitted _ _ (by_verdict table sitting given item refl) (items_permitted (put_all (writes_of given item) table) sitting items)
 
 entry_permitted : (limits : Limits) (table : Table) (e : KeptEntry) → All IsPermitted (entry_changes limits table e)
 entry_permitted limits table e =
-    elim (is_upload e) as (λ b. All IsPermitted (cond b (item_changes table limits.records (day_of e.moment) e.office (items_of e)) [])) [
-      | true ↦ items_permitted table limits.records (day_of e.moment) e.office (items_of e)
+    elim (is_upload e) as (λ b. All IsPermitted (cond b (item_changes table (entry_sitting limits e) (items_of e)) [])) [
+      | true ↦ items_permitted table (entry_sitting limits e) (items_of e)
       | false ↦ All-nil IsPermitted
     ]
 
@@ -138,20 +138,20 @@ verdict_records table issuer Verdict.Accepted (Readied.Good (Item.Relation row))
 verdict_records table issuer Verdict.Accepted (Readied.Good (Item.Exception (row, true))) = refl
 verdict_records table issuer Verdict.Accepted (Readied.Good (Item.Exception (row, false))) = refl
 
-items_records : (table : Table) (limit : ℕ) (today : ℤ) (issuer : Lei) (items : List Readied) → (take table limit today issuer items).table.records ≡ fold changed table.records (item_changes table limit today issuer items)
-items_records table limit today issuer [] = refl
-items_records table limit today issuer (item ∷ items) =
-    let given = verdict table limit today issuer item in
+items_records : (table : Table) (sitting : Sitting) (items : List Readied) → (take table sitting items).table.records ≡ fold changed table.records (item_changes table sitting items)
+items_records table sitting [] = refl
+items_records table sitting (item ∷ items) =
+    let given = verdict table sitting item in
     let after_it = put_all (writes_of given item) table in
-    let rest = item_changes after_it limit today issuer items in
-    items_records after_it limit today issuer items
-    ∙ (ap (λ rows. fold changed rows rest) (verdict_records table issuer given item) ∙ sym (fold-append changed table.records (changes_by table issuer given item) rest))
+    let rest = item_changes after_it sitting items in
+    items_records after_it sitting items
+    ∙ (ap (λ rows. fold changed rows rest) (verdict_records table sitting.issuer given item) ∙ sym (fold-append changed table.records (changes_by table sitting.issuer given item) rest))
 
 entry_records : (limits : Limits) (table : Table) (e : KeptEntry) → (after_entry limits table e).records ≡ fold changed table.records (entry_changes limits table e)
 entry_records limits table e =
     elim (is_upload e) as (λ b. (cond b (take_items limits table e (items_of e)).table table).records
-    ≡ fold changed table.records (cond b (item_changes table limits.records (day_of e.moment) e.office (items_of e)) [])) [
-      | true ↦ items_records table limits.records (day_of e.moment) e.office (items_of e)
+    ≡ fold changed table.records (cond b (item_changes table (entry_sitting limits e) (items_of e)) [])) [
+      | true ↦ items_records table (entry_sitting limits e) (items_of e)
       | false ↦ refl
     ]
 

@@ -1,5 +1,5 @@
 -- The register after a history is sound and has no more records than the limit, and what an upload writes may be put.
-use Rattle.std.proofs.Common.{◌≡◌, ℕ, ◌+◌, ◌<◌, ◌≤◌, ℤ, List, [], ◌∷◌, map, fold, Bool, true, false, ◌&&◌, cond, nat_le, nat_lt, ◌==◌, length, Option, Some, None, is_some, is_none, find, option_map, option_and_then, Result, Ok, Err, MatchResult, refl, sym, ap, ◌∙◌, subst, arith, rules}
+use Rattle.std.proofs.Common.{◌≡◌, ℕ, ◌+◌, ◌<◌, ◌≤◌, List, [], ◌∷◌, map, fold, Bool, true, false, ◌&&◌, cond, nat_le, nat_lt, ◌==◌, length, Option, Some, None, is_some, is_none, find, option_map, option_and_then, Result, Ok, Err, MatchResult, refl, sym, ap, ◌∙◌, subst, arith, rules}
 use Rattle.std.specs.List.{Contains}
 use Rattle.std.specs.Option.{option_to_list}
 use Rattle.std.specs.FinMap.{get-empty, len-empty, len-insert}
@@ -7,7 +7,6 @@ use Rattle.std.specs.Cmp.{IsTotalOrder}
 use Rattle.std.proofs.lemmas.Bool.Decides.{nat_tests}
 use Rattle.std.proofs.lemmas.Cmp.{lists_total, nat_list_cmp_total}
 use Rattle.lei_outside.specs.declared.entry.KeptEntry.{KeptEntry}
-use Rattle.lei_shapes.specs.Moment.{day_of}
 use Rattle.serde_json.specs.Data.{Data}
 use Rattle.std.proofs.lemmas.Bool.{ltb-false}
 use Rattle.upload_format.specs.Bodies as bodies
@@ -20,7 +19,7 @@ use Rattle.lei_records.specs.Relations.{end_in, is_active_of}
 use Rattle.lei_records.specs.declared.fields.Kind.{Kind}
 use Rattle.lei_shapes.specs.declared.lists.RelationType.{RelationType}
 use Rattle.lei_records.specs.Rows.{Row}
-use Rattle.lei_records.specs.Tables.{Table, key_cmp, record_key, put, put_all, put_write, row_at, row_key, active_of, relations_of, record_of, record_count, IsSound}
+use Rattle.lei_records.specs.Tables.{Table, key_cmp, record_key, put, put_all, put_write, row_at, row_key, active_of, relations_of, record_count, IsSound}
 use Rattle.lei_records.specs.declared.item.Item.{Item}
 use Rattle.lei_records.specs.declared.item.RawItem.{RawItem}
 use Rattle.lei_records.specs.declared.item.Readied.{Readied}
@@ -33,19 +32,20 @@ use Rattle.relation_rules.specs.Parents.{AreApart, HasParents}
 use Rattle.authority_rules.proofs.MapLemmas.{find-values}
 use Rattle.successor_rules.specs.Chains.{EndsIn}
 use Rattle.successor_rules.specs.Successors.{HasChains}
-use Rattle.register_judge.specs.Checks.{earlier_checks, checks, is_full, c20}
-use Rattle.register_judge.specs.Taking.{Taken, take, in_front, is_new, verdict_of, written, writes_of, item_checks, HasRow, HaveRows}
+use Rattle.register_judge.specs.Checks.{earlier_checks, limit_check, record_checks}
+use Rattle.register_judge.specs.declared.sitting.Sitting.{Sitting}
+use Rattle.register_judge.specs.Taking.{Taken, take, in_front, is_new_record, verdict_of, written, writes_of, item_checks, HasRow, HaveRows}
 use Rattle.register_judge.specs.declared.outcome.JudgeStop.{JudgeStop}
 use Rattle.register_judge.specs.declared.outcome.Outcome.{Outcome}
 use Rattle.register_judge.proofs.ChainLemmas.{take-chains}
 use Rattle.register_judge.proofs.ParentLemmas.{take-apart, take-parents}
 use Rattle.register_judge.proofs.TakingLemmas.{take-sound}
 use Rattle.register_table.specs.Held.{no_rows}
-use Rattle.register_table.specs.Undos.{WriteList, AreOwn, IsOwn, MayApply, StaysKept}
+use Rattle.register_table.specs.Undos.{AreOwn, IsOwn, StaysKept}
 use Rattle.upload_ledger.specs.declared.ledger.TheConstants.{UPLOAD}
 use Rattle.register_words.specs.declared.limits.Limits.{Limits}
 use Rattle.upload_ledger.specs.History.{History}
-use Rattle.register_history.specs.Register.{after, after_entry, items_in, items_of, take_items}
+use Rattle.register_history.specs.Register.{after, after_entry, entry_sitting, items_in, items_of, take_items}
 use Rattle.register_history.proofs.Passing.{passing, passing_behind}
 
 keys_total : IsTotalOrder key_cmp
@@ -77,11 +77,11 @@ abbrev with_item : Table → Item → Table
 with_item table item = put_write table (row_key item, written item)
 
 -- is sound
-item-sound : (table : Table) (limit : ℕ) (today : ℤ) (office : List ℕ) (item : Item) → IsSound table → HasRow item
-    → first_failing (item_checks table limit today office item) ≡ None → IsSound (with_item table item)
-item-sound table limit today office item sound row passes =
+item-sound : (table : Table) (sitting : Sitting) (item : Item) → IsSound table → HasRow item
+    → first_failing (item_checks table sitting item) ≡ None → IsSound (with_item table item)
+item-sound table sitting item sound row passes =
     let P : Option FailedCheck → Type 0 = λ failed. IsSound (put_all (writes_of (verdict_of failed) (Readied.Good item)) table) in
-    subst P passes (take-sound table limit today office (Readied.Good item ∷ []) sound (row, tt))
+    subst P passes (take-sound table sitting (Readied.Good item ∷ []) sound (row, tt))
 
 -- it is written under its own key
 item-own : (item : Item) → IsOwn (row_key item, written item)
@@ -95,20 +95,20 @@ fits_with : (held : Option Row) (count limit next : ℕ) → count ≤ limit →
 fits_with None count limit next fits is room = let below : count < limit = grind (arith, nat_tests) in omega arith
 fits_with (Some row) count limit next fits is room = omega arith
 
-put-fits : (table : Table) (limit : ℕ) (today : ℤ) (office : List ℕ) (item : Row) → record_count table ≤ limit → first_failing (checks table limit today office item) ≡ None
-    → record_count (put table (Item.Record item)) ≤ limit
-put-fits table limit today office item fits passes =
-    let from_c20 = passing_behind (earlier_checks table today office item) (c20 (record_of table (lei_in item)) (is_full table limit) ∷ [])
-    (passing (checks table limit today office item) passes) in
-    fits_with (row_at table (lei_in item)) (record_count table) limit (record_count (put table (Item.Record item))) fits (len-insert keys_total table.records (record_key (lei_in item)) item) from_c20.first
+put-fits : (table : Table) (sitting : Sitting) (item : Row) → record_count table ≤ sitting.limit → first_failing (record_checks table sitting item) ≡ None
+    → record_count (put table (Item.Record item)) ≤ sitting.limit
+put-fits table sitting item fits passes =
+    let from_c20 = passing_behind (earlier_checks table sitting item) (limit_check table sitting item ∷ [])
+    (passing (record_checks table sitting item) passes) in
+    fits_with (row_at table (lei_in item)) (record_count table) sitting.limit (record_count (put table (Item.Record item))) fits (len-insert keys_total table.records (record_key (lei_in item)) item) from_c20.first
 
 -- a relationship and an exception leave the number of records as it is
-item-fits : (table : Table) (limit : ℕ) (today : ℤ) (office : List ℕ) (item : Item) → record_count table ≤ limit
-    → first_failing (item_checks table limit today office item) ≡ None → record_count (with_item table item) ≤ limit
-item-fits table limit today office (Item.Record row) fits passes = put-fits table limit today office row fits passes
-item-fits table limit today office (Item.Relation row) fits passes = fits
-item-fits table limit today office (Item.Exception (row, true)) fits passes = fits
-item-fits table limit today office (Item.Exception (row, false)) fits passes = fits
+item-fits : (table : Table) (sitting : Sitting) (item : Item) → record_count table ≤ sitting.limit
+    → first_failing (item_checks table sitting item) ≡ None → record_count (with_item table item) ≤ sitting.limit
+item-fits table sitting (Item.Record row) fits passes = put-fits table sitting row fits passes
+item-fits table sitting (Item.Relation row) fits passes = fits
+item-fits table sitting (Item.Exception (row, true)) fits passes = fits
+item-fits table sitting (Item.Exception (row, false)) fits passes = fits
 
 -- ---- the items of an upload
 
@@ -119,31 +119,31 @@ pub record MayPut (table : Table) (limit : ℕ) (taken : Taken) : Type 0 where
   pub fits : record_count taken.table ≤ limit
 
 -- the item and those behind it, where this check of the item failed or none
-abbrev with_first : Table → ℕ → ℤ → List ℕ → Item → List Readied → Option FailedCheck → Taken
-with_first table limit today office item items failed =
+abbrev with_first : Table → Sitting → Item → List Readied → Option FailedCheck → Taken
+with_first table sitting item items failed =
     let writes = writes_of (verdict_of failed) (Readied.Good item) in
-    in_front (verdict_of failed) writes (is_new table today office (Readied.Good item)) (take (put_all writes table) limit today office items)
+    in_front (verdict_of failed) writes (is_new_record table sitting (Readied.Good item)) (take (put_all writes table) sitting items)
 
-pub may_put : (table : Table) (limit : ℕ) (today : ℤ) (office : List ℕ) (items : List Readied) → IsSound table → record_count table ≤ limit → HaveRows items
-    → MayPut table limit (take table limit today office items)
-may_put table limit today office [] sound fits rows = record { own = tt; kept = λ bound. tt; fits = fits }
-may_put table limit today office (Readied.Bad check ∷ items) sound fits rows =
-    let rest = may_put table limit today office items sound fits rows in
+pub may_put : (table : Table) (sitting : Sitting) (items : List Readied) → IsSound table → record_count table ≤ sitting.limit → HaveRows items
+    → MayPut table sitting.limit (take table sitting items)
+may_put table sitting [] sound fits rows = record { own = tt; kept = λ bound. tt; fits = fits }
+may_put table sitting (Readied.Bad check ∷ items) sound fits rows =
+    let rest = may_put table sitting items sound fits rows in
     record { own = rest.own; kept = rest.kept; fits = rest.fits }
-may_put table limit today office (Readied.Good item ∷ items) sound fits rows =
-    elim (first_failing (item_checks table limit today office item)) as (λ failed. first_failing (item_checks table limit today office item) ≡ failed
-    → MayPut table limit (with_first table limit today office item items failed)) [
+may_put table sitting (Readied.Good item ∷ items) sound fits rows =
+    elim (first_failing (item_checks table sitting item)) as (λ failed. first_failing (item_checks table sitting item) ≡ failed
+    → MayPut table sitting.limit (with_first table sitting item items failed)) [
       | None ↦ λ passes.
-          let sound_with = item-sound table limit today office item sound rows.0 passes in
-          let fits_now = item-fits table limit today office item fits passes in
-          let rest = may_put (with_item table item) limit today office items sound_with fits_now rows.1 in
+          let sound_with = item-sound table sitting item sound rows.0 passes in
+          let fits_now = item-fits table sitting item fits passes in
+          let rest = may_put (with_item table item) sitting items sound_with fits_now rows.1 in
           record {
             own = (item-own item, rest.own);
             kept = λ bound. (record { sound = sound_with; count = omega (arith, bound, fits_now) }, rest.kept bound);
             fits = rest.fits;
           }
       | Some check ↦ λ fails.
-          let rest = may_put table limit today office items sound fits rows.1 in
+          let rest = may_put table sitting items sound fits rows.1 in
           record { own = rest.own; kept = rest.kept; fits = rest.fits }
     ] refl
 
@@ -161,11 +161,11 @@ entry-fit limits table e fit =
     let rows = read-rows (upload e.body) in
     elim (e.kind == UPLOAD) as (λ b. IsFit limits.records (cond b (take_items limits table e (items_of e)).table table)) [
       | true ↦ record {
-        sound = take-sound table limits.records (day_of e.moment) e.office (items_of e) fit.sound rows;
-        fits = (may_put table limits.records (day_of e.moment) e.office (items_of e) fit.sound fit.fits rows).fits;
-        chains = take-chains table limits.records (day_of e.moment) e.office (items_of e) fit.chains;
-        parents = take-parents table limits.records (day_of e.moment) e.office (items_of e) fit.sound fit.parents rows;
-        apart = take-apart table limits.records (day_of e.moment) e.office (items_of e) fit.sound fit.apart rows;
+        sound = take-sound table (entry_sitting limits e) (items_of e) fit.sound rows;
+        fits = (may_put table (entry_sitting limits e) (items_of e) fit.sound fit.fits rows).fits;
+        chains = take-chains table (entry_sitting limits e) (items_of e) fit.chains;
+        parents = take-parents table (entry_sitting limits e) (items_of e) fit.sound fit.parents rows;
+        apart = take-apart table (entry_sitting limits e) (items_of e) fit.sound fit.apart rows;
       }
       | false ↦ fit
     ]
@@ -235,16 +235,6 @@ no_cell_wanted P (Err stop) key takes is =
     let same : stop ≡ JudgeStop.NeedCell key = cc in
     let clash : JudgeStop.NoMemory ≡ JudgeStop.NeedCell key = sym takes ∙ same in
     cc
-
--- what the items of a body write may be put into the table after a history
-pub writes-apply : (limits : Limits) (history : History) (table : Table) (today : ℤ) (office : List ℕ) (raws : List RawItem) (writes : WriteList) → limits.records ≤ 4294967295
-    → table ≡ after limits history → writes ≡ (take table limits.records today office (map ready raws)).writes → MayApply writes table
-writes-apply limits history table today office raws writes bound is same =
-    let F : Table → Type 0 = λ t. IsFit limits.records t in
-    let fit = subst F (sym is) (after-fit limits history) in
-    let may = may_put table limits.records today office (map ready raws) fit.sound fit.fits (ready-rows raws) in
-    let P : WriteList → Type 0 = λ w. MayApply w table in
-    subst P (sym same) (record { own = may.own; kept = may.kept bound })
 
 -- ---- an upload has at most 5,000 items
 

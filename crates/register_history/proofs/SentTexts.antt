@@ -19,7 +19,7 @@ use Rattle.lei_code.specs.Texts.{Text}
 use Rattle.lei_outside.specs.declared.entry.KeptEntry.{KeptEntry}
 use Rattle.lei_shapes.specs.declared.shapes.Shape.{Shape}
 use Rattle.lei_shapes.specs.Clock.{moment_text}
-use Rattle.lei_shapes.specs.Moment.{IsMoment, is_moment, moment_of_instant, read_moment, whole_seconds, day_of}
+use Rattle.lei_shapes.specs.Moment.{IsMoment, is_moment, moment_of_instant, read_moment, whole_seconds}
 use Rattle.lei_shapes.proofs.MomentLemmas.{IsAscii-moment_text}
 use Rattle.lei_records.specs.Checks.{FailedCheck, first_failing}
 use Rattle.lei_records.specs.Fields.{Field, row_fields}
@@ -33,7 +33,8 @@ use Rattle.lei_records.specs.declared.item.Item.{Item}
 use Rattle.lei_records.specs.declared.item.RawItem.{RawItem}
 use Rattle.lei_records.specs.declared.item.Readied.{Readied}
 use Rattle.lei_records.specs.declared.view.RowKey.{RowKey}
-use Rattle.register_judge.specs.Taking.{Taken, in_front, is_new, item_checks, take, verdict_of, writes_of, written}
+use Rattle.register_judge.specs.declared.sitting.Sitting.{Sitting}
+use Rattle.register_judge.specs.Taking.{Taken, in_front, is_new_record, item_checks, take, verdict_of, writes_of, written}
 use Rattle.register_table.specs.Held.{Cell, Held, cell_key, rows}
 use Rattle.register_table.specs.Undos.{WriteList, cell_of, touch, touch_all, row_of as item_row}
 use Rattle.upload_format.specs.Bodies as bodies
@@ -42,7 +43,7 @@ use Rattle.register_words.specs.declared.malformed.Malformed.{Malformed}
 use Rattle.register_words.specs.declared.malformed.Malformed.TheVariants.{NoItems, TooManyItems}
 use Rattle.upload_ledger.specs.History.{History}
 use Rattle.register_words.specs.declared.limits.Limits.{Limits}
-use Rattle.register_history.specs.Register.{entry_writes, held_after, held_after_entry, items_in, items_of, take_items}
+use Rattle.register_history.specs.Register.{entry_sitting, entry_writes, held_after, held_after_entry, items_in, items_of, take_items}
 use Rattle.upload_format.proofs.JsonTexts.{AreTexts, If, ItemsAreTexts, MembersAreTexts, read-texts}
 
 -- ---- items as they were sent
@@ -287,26 +288,26 @@ written-textual (Item.Relation row) is = is
 written-textual (Item.Exception (row, true)) is = tt
 written-textual (Item.Exception (row, false)) is = is
 
-with_first : Table → ℕ → ℤ → List ℕ → Item → List Readied → Option FailedCheck → Taken
-with_first table limit today office item items failed =
+with_first : Table → Sitting → Item → List Readied → Option FailedCheck → Taken
+with_first table sitting item items failed =
     let writes = writes_of (verdict_of failed) (Readied.Good item) in
-    in_front (verdict_of failed) writes (is_new table today office (Readied.Good item)) (take (put_all writes table) limit today office items)
+    in_front (verdict_of failed) writes (is_new_record table sitting (Readied.Good item)) (take (put_all writes table) sitting items)
 
-take-written : (table : Table) (limit : ℕ) (today : ℤ) (office : List ℕ) (items : List Readied) → AllByRecursion IsTextual items
-    → AllByRecursion IsWritten (take table limit today office items).writes
+take-written : (table : Table) (sitting : Sitting) (items : List Readied) → AllByRecursion IsTextual items
+    → AllByRecursion IsWritten (take table sitting items).writes
 unfolding with_first
-take-written table limit today office [] are = tt
-take-written table limit today office (Readied.Bad check ∷ items) are = take-written table limit today office items are.1
-take-written table limit today office (Readied.Good item ∷ items) are =
-    elim (first_failing (item_checks table limit today office item)) as (λ failed. AllByRecursion IsWritten (with_first table limit today office item items failed).writes) [
-      | None ↦ (written-textual item are.0, take-written (put_write table (row_key item, written item)) limit today office items are.1)
-      | Some check ↦ take-written table limit today office items are.1
+take-written table sitting [] are = tt
+take-written table sitting (Readied.Bad check ∷ items) are = take-written table sitting items are.1
+take-written table sitting (Readied.Good item ∷ items) are =
+    elim (first_failing (item_checks table sitting item)) as (λ failed. AllByRecursion IsWritten (with_first table sitting item items failed).writes) [
+      | None ↦ (written-textual item are.0, take-written (put_write table (row_key item, written item)) sitting items are.1)
+      | Some check ↦ take-written table sitting items are.1
     ]
 
 entry-written : (limits : Limits) (table : Table) (e : KeptEntry) → AllByRecursion IsWritten (entry_writes limits table e)
 entry-written limits table e =
     elim (e.kind == 2) as (λ b. AllByRecursion IsWritten (cond b (take_items limits table e (items_of e)).writes [])) [
-      | true ↦ take-written table limits.records (day_of e.moment) e.office (items_of e) (read-textual (upload e.body) (upload-sent e.body))
+      | true ↦ take-written table (entry_sitting limits e) (items_of e) (read-textual (upload e.body) (upload-sent e.body))
       | false ↦ tt
     ]
 

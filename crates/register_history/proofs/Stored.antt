@@ -1,17 +1,17 @@
 -- The cells of a register stand under keys of rows, and were touched by its entries.
-use Rattle.std.proofs.Common.{◌≡◌, ℕ, ◌≤◌, ◌+◌, ℤ, List, [], ◌∷◌, ◌++◌, fold, length, true, false, cond, ◌==◌, Option, Some, None, refl, sym, ap, subst, ◌∙◌, arith, append-nil, append_assoc, length-append}
+use Rattle.std.proofs.Common.{◌≡◌, ℕ, ◌≤◌, ◌+◌, List, [], ◌∷◌, ◌++◌, fold, length, true, false, cond, ◌==◌, Option, Some, None, refl, sym, ap, subst, ◌∙◌, arith, append-nil, append_assoc, length-append}
 use Rattle.std.specs.FinMap.{empty, get, get-empty, get-insert}
 use Rattle.std.specs.List.{AllByRecursion}
 use Rattle.std.specs.Ordering.{eq_by_cmp}
 use Rattle.authority_rules.proofs.HolderLemmas.{keys_total, same_key, some_apart}
 use Rattle.lei_outside.specs.declared.entry.KeptEntry.{KeptEntry}
-use Rattle.lei_shapes.specs.Moment.{day_of}
 use Rattle.lei_records.specs.Checks.{FailedCheck, first_failing}
 use Rattle.lei_records.specs.Tables.{Table, key_cmp, put_all, put_write, row_key}
 use Rattle.lei_records.specs.declared.item.Item.{Item}
 use Rattle.lei_records.specs.declared.item.Readied.{Readied}
 use Rattle.lei_records.specs.declared.view.RowKey.{RowKey}
-use Rattle.register_judge.specs.Taking.{HasRow, HaveRows, Taken, in_front, is_new, item_checks, take, verdict_of, writes_of, written}
+use Rattle.register_judge.specs.declared.sitting.Sitting.{Sitting}
+use Rattle.register_judge.specs.Taking.{HasRow, HaveRows, Taken, in_front, is_new_record, item_checks, take, verdict_of, writes_of, written}
 use Rattle.register_table.specs.Held.{Held, cell_key, rows}
 use Rattle.register_table.specs.Undos.{WriteList, cell_of, touch, touch_all}
 use Rattle.upload_format.specs.Bodies.{upload}
@@ -19,7 +19,7 @@ use Rattle.upload_ledger.specs.History.{History}
 use Rattle.register_words.specs.declared.limits.Limits.{Limits}
 use Rattle.register_history.specs.Kept.{IsKey}
 use Rattle.register_history.specs.Legal.{Legal, LegalAfter}
-use Rattle.register_history.specs.Register.{entry_writes, held_after, held_after_entry, items_of, take_items}
+use Rattle.register_history.specs.Register.{entry_sitting, entry_writes, held_after, held_after_entry, items_of, take_items}
 use Rattle.register_history.specs.State.{office_of}
 use Rattle.register_history.proofs.AskedFor.{next-seq}
 use Rattle.register_history.specs.Standing.{AllStand, Stands}
@@ -34,25 +34,25 @@ row-key (Item.Exception item) is = is.lei
 abbrev AreKeys : WriteList → Type 0
 AreKeys writes = AllByRecursion (λ write. IsKey write.0) writes
 
-with_first : Table → ℕ → ℤ → List ℕ → Item → List Readied → Option FailedCheck → Taken
-with_first table limit today office item items failed =
+with_first : Table → Sitting → Item → List Readied → Option FailedCheck → Taken
+with_first table sitting item items failed =
     let writes = writes_of (verdict_of failed) (Readied.Good item) in
-    in_front (verdict_of failed) writes (is_new table today office (Readied.Good item)) (take (put_all writes table) limit today office items)
+    in_front (verdict_of failed) writes (is_new_record table sitting (Readied.Good item)) (take (put_all writes table) sitting items)
 
-take-keys : (table : Table) (limit : ℕ) (today : ℤ) (office : List ℕ) (items : List Readied) → HaveRows items → AreKeys (take table limit today office items).writes
+take-keys : (table : Table) (sitting : Sitting) (items : List Readied) → HaveRows items → AreKeys (take table sitting items).writes
 unfolding with_first
-take-keys table limit today office [] rows = tt
-take-keys table limit today office (Readied.Bad check ∷ items) rows = take-keys table limit today office items rows
-take-keys table limit today office (Readied.Good item ∷ items) rows =
-    elim (first_failing (item_checks table limit today office item)) as (λ failed. AreKeys (with_first table limit today office item items failed).writes) [
-      | None ↦ (row-key item rows.0, take-keys (put_write table (row_key item, written item)) limit today office items rows.1)
-      | Some check ↦ take-keys table limit today office items rows.1
+take-keys table sitting [] rows = tt
+take-keys table sitting (Readied.Bad check ∷ items) rows = take-keys table sitting items rows
+take-keys table sitting (Readied.Good item ∷ items) rows =
+    elim (first_failing (item_checks table sitting item)) as (λ failed. AreKeys (with_first table sitting item items failed).writes) [
+      | None ↦ (row-key item rows.0, take-keys (put_write table (row_key item, written item)) sitting items rows.1)
+      | Some check ↦ take-keys table sitting items rows.1
     ]
 
 entry-keys : (limits : Limits) (table : Table) (e : KeptEntry) → AreKeys (entry_writes limits table e)
 entry-keys limits table e =
     elim (e.kind == 2) as (λ b. AreKeys (cond b (take_items limits table e (items_of e)).writes [])) [
-      | true ↦ take-keys table limits.records (day_of e.moment) e.office (items_of e) (read-rows (upload e.body))
+      | true ↦ take-keys table (entry_sitting limits e) (items_of e) (read-rows (upload e.body))
       | false ↦ tt
     ]
 

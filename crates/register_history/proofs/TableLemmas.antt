@@ -11,7 +11,6 @@ use Rattle.lei_code.specs.Code.{IsValid}
 use Rattle.lei_outside.specs.Keeping.{KeptTables, last_number, nothing_kept, number_of}
 use Rattle.lei_outside.specs.declared.entry.KeptEntry.{KeptEntry}
 use Rattle.lei_records.specs.Tables.{Table, put_all}
-use Rattle.lei_shapes.specs.Moment.{day_of}
 use Rattle.register_judge.proofs.TakingLemmas.{take-written}
 use Rattle.register_table.specs.Held.{Held, TableState, no_rows, rows}
 use Rattle.register_table.specs.Undos.{AreOwn, IsLater, MayApply, StaysKept, WriteList, touch_all}
@@ -28,7 +27,7 @@ use Rattle.register_words.specs.Limits.{AreLimits}
 use Rattle.register_history.specs.Replies.{accreditation, is_full, is_too_much, upload_entry}
 use Rattle.register_history.proofs.KeptLemmas.{nothing-of}
 use Rattle.register_history.proofs.PlaceLemmas.{lei_ascii}
-use Rattle.register_history.specs.Register.{CellsHaveTheRows, IsKeptAfter, after, after_entry, entry_writes, held_after, held_after_entry, items_of, take_items}
+use Rattle.register_history.specs.Register.{CellsHaveTheRows, IsKeptAfter, after, after_entry, entry_sitting, entry_writes, held_after, held_after_entry, items_of, take_items}
 use Rattle.register_history.specs.State.{OfficeState, office_of}
 use Rattle.register_history.proofs.Histories.{after-push, last_entry-push}
 use Rattle.register_history.proofs.Registers.{IsFit, after-fit, entry-fit, may_put, none-fit, read-rows}
@@ -38,21 +37,21 @@ use Rattle.register_history.proofs.Registers.{IsFit, after-fit, entry-fit, may_p
 entry-put : (limits : Limits) (table : Table) (e : KeptEntry) → put_all (entry_writes limits table e) table ≡ after_entry limits table e
 entry-put limits table e =
     elim (e.kind == 2) as (λ b. put_all (cond b (take_items limits table e (items_of e)).writes []) table ≡ cond b (take_items limits table e (items_of e)).table table) [
-      | true ↦ sym (take-written table limits.records (day_of e.moment) e.office (items_of e))
+      | true ↦ sym (take-written table (entry_sitting limits e) (items_of e))
       | false ↦ refl
     ]
 
 entry-own : (limits : Limits) (table : Table) (e : KeptEntry) → IsFit limits.records table → AreOwn (entry_writes limits table e)
 entry-own limits table e fit =
     elim (e.kind == 2) as (λ b. AreOwn (cond b (take_items limits table e (items_of e)).writes [])) [
-      | true ↦ (may_put table limits.records (day_of e.moment) e.office (items_of e) fit.sound fit.fits (read-rows (upload e.body))).own
+      | true ↦ (may_put table (entry_sitting limits e) (items_of e) fit.sound fit.fits (read-rows (upload e.body))).own
       | false ↦ tt
     ]
 
 entry-kept : (limits : Limits) (table : Table) (e : KeptEntry) → limits.records ≤ 4294967295 → IsFit limits.records table → StaysKept (entry_writes limits table e) table
 entry-kept limits table e bound fit =
     elim (e.kind == 2) as (λ b. StaysKept (cond b (take_items limits table e (items_of e)).writes []) table) [
-      | true ↦ (may_put table limits.records (day_of e.moment) e.office (items_of e) fit.sound fit.fits (read-rows (upload e.body))).kept bound
+      | true ↦ (may_put table (entry_sitting limits e) (items_of e) fit.sound fit.fits (read-rows (upload e.body))).kept bound
       | false ↦ tt
     ]
 

@@ -1,10 +1,9 @@
 -- Who changed the register's records: each change was permitted to the issuer that sent it.
-use Rattle.std.specs.Prelude.{◌≡◌, ℕ, ℤ, List, [], ◌∷◌, ◌++◌, fold, if◌then◌else◌, Option, Some, None, option_map}
+use Rattle.std.specs.Prelude.{◌≡◌, List, [], ◌∷◌, ◌++◌, fold, if◌then◌else◌, Option, Some, None, option_map}
 use Rattle.std.specs.FinMap.{insert}
 use Rattle.std.specs.List.{All}
 use Rattle.lei_code.specs.Texts.{Lei}
 use Rattle.lei_outside.specs.declared.entry.KeptEntry.{KeptEntry}
-use Rattle.lei_shapes.specs.Moment.{day_of}
 use Rattle.lei_records.specs.Cells.{lei_in, manager_in, receiver_in, status_in}
 use Rattle.lei_records.specs.Rows.{Row}
 use Rattle.lei_records.specs.Tables.{Rows, Table, put_all, record_key, row_at}
@@ -12,12 +11,13 @@ use Rattle.lei_records.specs.declared.item.Item.{Item}
 use Rattle.lei_records.specs.declared.item.Readied.{Readied}
 use Rattle.status_rules.specs.Transitions.{party}
 use Rattle.status_rules.specs.declared.transitions.Party.{Party}
+use Rattle.register_judge.specs.declared.sitting.Sitting.{Sitting}
 use Rattle.register_judge.specs.Taking.{verdict, writes_of}
 use Rattle.register_judge.specs.declared.outcome.Verdict.{Verdict}
 use Rattle.register_table.specs.Held.{no_rows}
 use Rattle.register_words.specs.declared.limits.Limits.{Limits}
 use Rattle.upload_ledger.specs.History.{History, is_upload}
-use Rattle.register_history.specs.Register.{after, after_entry, items_of}
+use Rattle.register_history.specs.Register.{after, after_entry, entry_sitting, items_of}
 use Rattle.register_history.specs.State.{OfficeState}
 
 -- A change of a record: the row that was held under its LEI, if any, the row that took its place, and the issuer that
@@ -35,17 +35,17 @@ changes_by table issuer Verdict.Accepted (Readied.Good (Item.Record row)) =
     (record { held = row_at table (lei_in row); row = row; issuer = issuer }) ∷ []
 changes_by table issuer verdict item = []
 
--- the changes that items make, from left to right, each judged on the table that those before it left
-abbrev pub item_changes : Table → ℕ → ℤ → Lei → List Readied → List Change
-item_changes table limit today issuer [] = []
-item_changes table limit today issuer (item ∷ items) =
-    let given = verdict table limit today issuer item in
-    changes_by table issuer given item ++ item_changes (put_all (writes_of given item) table) limit today issuer items
+-- the changes that items make in a sitting, from left to right, each judged on the table that those before it left
+abbrev pub item_changes : Table → Sitting → List Readied → List Change
+item_changes table sitting [] = []
+item_changes table sitting (item ∷ items) =
+    let given = verdict table sitting item in
+    changes_by table sitting.issuer given item ++ item_changes (put_all (writes_of given item) table) sitting items
 
 -- the changes that an entry makes: those of its items where it is an upload, and none else
 abbrev pub entry_changes : Limits → Table → KeptEntry → List Change
 entry_changes limits table e =
-    if is_upload e then item_changes table limits.records (day_of e.moment) e.office (items_of e) else []
+    if is_upload e then item_changes table (entry_sitting limits e) (items_of e) else []
 
 -- the changes that entries make, each on the table that those before it left
 abbrev pub changes_from : Limits → Table → History → List Change

@@ -9,6 +9,8 @@ use Rattle.lei_records.specs.Items.{ready}
 use Rattle.lei_records.specs.Tables.{Table}
 use Rattle.lei_records.specs.declared.item.RawItem.{RawItem}
 use Rattle.lei_records.specs.declared.item.Readied.{Readied}
+use Rattle.register_judge.specs.declared.sitting.Sitting.{Sitting}
+use Rattle.register_judge.specs.Sittings.{rules_of, sitting_by}
 use Rattle.register_judge.specs.Taking.{Taken, take}
 use Rattle.register_table.specs.Held.{Held, TableState, no_rows, rows}
 use Rattle.register_table.specs.Undos.{IsLater, WriteList, touch_all}
@@ -26,10 +28,14 @@ items_in (Err fault) = []
 abbrev pub items_of : KeptEntry → List Readied
 items_of e = items_in (upload e.body)
 
--- What these items of an entry do to a table: they are judged for the entry's issuer, on the day of its moment,
--- where the table may hold so many records.
+-- The sitting in which the items of an entry are judged: by the entry's rules, for its issuer, on the day of its
+-- moment, and under the limit on records.
+abbrev pub entry_sitting : Limits → KeptEntry → Sitting
+entry_sitting limits e = sitting_by (rules_of e.rules) limits.records (day_of e.moment) e.office
+
+-- what these items of an entry do to a table
 abbrev pub take_items : Limits → Table → KeptEntry → List Readied → Taken
-take_items limits table e items = take table limits.records (day_of e.moment) e.office items
+take_items limits table e items = take table (entry_sitting limits e) items
 
 -- the table after an entry: an upload takes its items, and every other entry leaves it
 abbrev pub after_entry : Limits → Table → KeptEntry → Table

@@ -12,6 +12,8 @@ use Rattle.lei_records.specs.Rows.{Row}
 use Rattle.lei_records.specs.Tables.{Table, row_at}
 use Rattle.lei_records.specs.declared.item.Item.{Item}
 use Rattle.lei_records.specs.declared.item.RawItem.{RawItem}
+use Rattle.register_judge.specs.declared.sitting.Rules.{Rules}
+use Rattle.register_judge.specs.Sittings.{sitting_by}
 use Rattle.register_judge.specs.Taking.{take}
 use Rattle.register_judge.specs.declared.outcome.Verdict.{Verdict}
 use Rattle.register_words.specs.declared.request.Call.{Call}
@@ -88,11 +90,12 @@ upload_entry history call moment verdicts =
       answer = upload_text number call.office call.number verdicts;
     }
 
--- the items are judged on the table after the history, on the day of the moment
+-- the items are judged by rules 1 on the table after the history, on the day of the moment
 abbrev pub taken_upload : OfficeState → Call → ℤ → List RawItem → KeptEntry
 taken_upload office call moment raws =
     let table = after office.limits office.history in
-    let taken = take table office.limits.records (day_of moment) call.office (map ready raws) in
+    let sitting = sitting_by Rules.First office.limits.records (day_of moment) call.office in
+    let taken = take table sitting (map ready raws) in
     upload_entry office.history call moment taken.verdicts
 
 -- how many rows of each sheet are published of a table: records, relationships and exceptions

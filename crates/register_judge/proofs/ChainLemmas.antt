@@ -1,5 +1,5 @@
 -- A record whose successor passes its checks leaves each successor held and each chain ending.
-use Rattle.std.specs.Prelude.{◌≡◌, ◌≢◌, ℕ, ℤ, Bool, true, false, cond, List, [], ◌∷◌, if◌then◌else◌, Option, Some, None, IsSome, option_map, option_and_then}
+use Rattle.std.specs.Prelude.{◌≡◌, ℕ, Bool, true, false, cond, List, [], ◌∷◌, if◌then◌else◌, Option, Some, None, IsSome, option_map, option_and_then}
 use Rattle.std.specs.List.{Contains}
 use Rattle.std.specs.Option.{option_to_list}
 use Rattle.std.specs.Str.{bytes_eq}
@@ -24,6 +24,8 @@ use Rattle.lei_records.specs.Walks.{is_met, is_long}
 use Rattle.successor_rules.specs.Walks.{walked}
 use Rattle.successor_rules.proofs.ChainLemmas.{keeps_ends}
 use Rattle.successor_rules.proofs.WalkLemmas.{ended_walk_keeps_ends}
+use Rattle.register_judge.specs.declared.sitting.Rules.{Rules}
+use Rattle.register_judge.specs.declared.sitting.Sitting.{Sitting}
 use Rattle.register_judge.specs.Checks.{c16, successor_checks}
 use Rattle.register_judge.specs.Taking.{item_checks, verdict_of, verdict, writes_of, take}
 use Rattle.register_judge.proofs.TakingLemmas.{put-written, successors_pass}
@@ -39,12 +41,12 @@ held_and_ends (Some cell) false true e = absurd (some_apart _ e)
 held_and_ends (Some cell) false false e = (refl, refl)
 
 -- the checks of the successor pass
-abbrev Pass : Table → Row → Option (List ℕ) → Type 0
-Pass table row successor = first_failing (successor_checks table row successor) ≡ None
+abbrev Pass : Rules → Table → Row → Option (List ℕ) → Type 0
+Pass rules table row successor = first_failing (successor_checks rules table row successor) ≡ None
 
-passed : (table : Table) (row : Row) (successor : List ℕ) → Pass table row (Some successor)
+passed : (rules : Rules) (table : Table) (row : Row) (successor : List ℕ) → Pass rules table row (Some successor)
     → IsSome (record_of table successor) × (walked (successor_of table) (lei_in row) successor ≡ Walked.Ends)
-passed table row successor passes =
+passed Rules.First table row successor passes =
     held_and_ends (record_of table successor) (is_met (successor_of table) (lei_in row) successor) (is_long (successor_of table) successor) passes
 
 -- ---- each successor is held
@@ -53,26 +55,26 @@ row_held : (row : Option Row) → IsSome (option_map rec_cell row) → IsSome ro
 row_held None held = held
 row_held (Some row) held = refl
 
-named_held : (table : Table) (row : Row) (successor : Option (List ℕ)) → Pass table row successor
+named_held : (rules : Rules) (table : Table) (row : Row) (successor : Option (List ℕ)) → Pass rules table row successor
     → (next : List ℕ) → successor ≡ Some next → IsSome (row_at table next)
-named_held table row None passes next is = absurd (some_apart next (sym is))
-named_held table row (Some successor) passes next is =
+named_held rules table row None passes next is = absurd (some_apart next (sym is))
+named_held rules table row (Some successor) passes next is =
     let same : successor ≡ next = cc in
-    subst (λ lei. IsSome (row_at table lei)) same (row_held (row_at table successor) (passed table row successor passes).0)
+    subst (λ lei. IsSome (row_at table lei)) same (row_held (row_at table successor) (passed rules table row successor passes).0)
 
 stays_held : (table : Table) (row : Row) (lei : List ℕ) → IsSome (row_at table lei) → IsSome (row_at (put table (Item.Record row)) lei)
 stays_held table row lei held =
     subst IsSome (sym (row_at-put table row lei))
     (elim (bytes_eq lei (lei_in row)) as (λ b. IsSome (cond b (Some row) (row_at table lei))) [ true ↦ refl | false ↦ held ])
 
-all_held : (table : Table) (row : Row) → HasChains table → Pass table row (successor_in row)
+all_held : (rules : Rules) (table : Table) (row : Row) → HasChains table → Pass rules table row (successor_in row)
     → (lei : List ℕ) (other : Row) (next : List ℕ) → row_at (put table (Item.Record row)) lei ≡ Some other → successor_in other ≡ Some next
     → IsSome (row_at (put table (Item.Record row)) next)
-all_held table row chains passes lei other next at names =
+all_held rules table row chains passes lei other next at names =
     let known : cond (bytes_eq lei (lei_in row)) (Some row) (row_at table lei) ≡ Some other = sym (row_at-put table row lei) ∙ at in
     stays_held table row next
     (elim (bytes_eq lei (lei_in row)) as (λ b. cond b (Some row) (row_at table lei) ≡ Some other → IsSome (row_at table next)) [
-      | true ↦ λ is. let same : row ≡ other = cc in named_held table row (successor_in row) passes next (ap successor_in same ∙ names)
+      | true ↦ λ is. let same : row ≡ other = cc in named_held rules table row (successor_in row) passes next (ap successor_in same ∙ names)
       | false ↦ λ is. chains.held lei other next is names
     ] known)
 
@@ -94,41 +96,41 @@ turned table row successor names =
 none_of : (lei : List ℕ) → Contains [] lei → ⊥
 none_of lei at = search rules
 
-all_end : (table : Table) (row : Row) (successor : Option (List ℕ)) → HasChains table → successor_in row ≡ successor → Pass table row successor
+all_end : (rules : Rules) (table : Table) (row : Row) (successor : Option (List ℕ)) → HasChains table → successor_in row ≡ successor → Pass rules table row successor
     → AllEnd (successors_of (put table (Item.Record row)))
-all_end table row None chains names passes =
+all_end rules table row None chains names passes =
     keeps_ends (successors_of table) (successors_of (put table (Item.Record row))) (lei_in row) [] 0 chains.ends (turned table row None names)
     (λ lei at. absurd (none_of lei at))
-all_end table row (Some successor) chains names passes =
+all_end rules table row (Some successor) chains names passes =
     ended_walk_keeps_ends (successor_of table) (successors_of (put table (Item.Record row))) (lei_in row) successor chains.ends
-    (turned table row (Some successor) names) (passed table row successor passes).1
+    (turned table row (Some successor) names) (passed rules table row successor passes).1
 
 -- ---- a record, and items
 
-pub chains-put : (table : Table) (row : Row) → HasChains table → Pass table row (successor_in row) → HasChains (put table (Item.Record row))
-chains-put table row chains passes = record {
-  held = all_held table row chains passes;
-  ends = all_end table row (successor_in row) chains refl passes;
+pub chains-put : (rules : Rules) (table : Table) (row : Row) → HasChains table → Pass rules table row (successor_in row) → HasChains (put table (Item.Record row))
+chains-put rules table row chains passes = record {
+  held = all_held rules table row chains passes;
+  ends = all_end rules table row (successor_in row) chains refl passes;
 }
 
 -- an accepted item leaves each successor held and each chain ending: a relationship and an exception leave the records
-accepted_chains : (table : Table) (limit : ℕ) (today : ℤ) (issuer : List ℕ) (item : Item) → HasChains table
-    → first_failing (item_checks table limit today issuer item) ≡ None → HasChains (put table item)
-accepted_chains table limit today issuer (Item.Record row) chains passes = chains-put table row chains (successors_pass table limit today issuer row passes)
-accepted_chains table limit today issuer (Item.Relation row) chains passes = record { held = chains.held; ends = chains.ends }
-accepted_chains table limit today issuer (Item.Exception item) chains passes = record { held = chains.held; ends = chains.ends }
+accepted_chains : (table : Table) (sitting : Sitting) (item : Item) → HasChains table
+    → first_failing (item_checks table sitting item) ≡ None → HasChains (put table item)
+accepted_chains table sitting (Item.Record row) chains passes = chains-put sitting.rules table row chains (successors_pass table sitting row passes)
+accepted_chains table sitting (Item.Relation row) chains passes = record { held = chains.held; ends = chains.ends }
+accepted_chains table sitting (Item.Exception item) chains passes = record { held = chains.held; ends = chains.ends }
 
-item_chains : (table : Table) (limit : ℕ) (today : ℤ) (issuer : List ℕ) (item : Item) (failed : Option FailedCheck) → HasChains table
-    → first_failing (item_checks table limit today issuer item) ≡ failed
+item_chains : (table : Table) (sitting : Sitting) (item : Item) (failed : Option FailedCheck) → HasChains table
+    → first_failing (item_checks table sitting item) ≡ failed
     → HasChains (put_all (writes_of (verdict_of failed) (Readied.Good item)) table)
-item_chains table limit today issuer item None chains is = put-written HasChains table item (accepted_chains table limit today issuer item chains is)
-item_chains table limit today issuer item (Some check) chains is = chains
+item_chains table sitting item None chains is = put-written HasChains table item (accepted_chains table sitting item chains is)
+item_chains table sitting item (Some check) chains is = chains
 
-pub take-chains : (table : Table) (limit : ℕ) (today : ℤ) (issuer : List ℕ) (items : List Readied) → HasChains table
-    → HasChains (take table limit today issuer items).table
-take-chains table limit today issuer [] chains = chains
-take-chains table limit today issuer (Readied.Bad check ∷ items) chains = take-chains table limit today issuer items chains
-take-chains table limit today issuer (Readied.Good item ∷ items) chains =
-    let given = verdict table limit today issuer (Readied.Good item) in
-    take-chains (put_all (writes_of given (Readied.Good item)) table) limit today issuer items
-    (item_chains table limit today issuer item (first_failing (item_checks table limit today issuer item)) chains refl)
+pub take-chains : (table : Table) (sitting : Sitting) (items : List Readied) → HasChains table
+    → HasChains (take table sitting items).table
+take-chains table sitting [] chains = chains
+take-chains table sitting (Readied.Bad check ∷ items) chains = take-chains table sitting items chains
+take-chains table sitting (Readied.Good item ∷ items) chains =
+    let given = verdict table sitting (Readied.Good item) in
+    take-chains (put_all (writes_of given (Readied.Good item)) table) sitting items
+    (item_chains table sitting item (first_failing (item_checks table sitting item)) chains refl)

@@ -1,5 +1,5 @@
 -- What items leave of the chains of direct parents, and of exceptions beside them.
-use Rattle.std.specs.Prelude.{◌≡◌, ℕ, ℤ, List, [], ◌∷◌, Option, Some, None}
+use Rattle.std.specs.Prelude.{◌≡◌, List, [], ◌∷◌, Option, Some, None}
 use Rattle.std.proofs.Common.{refl}
 use Rattle.lei_records.specs.Checks.{FailedCheck}
 use Rattle.lei_records.specs.declared.item.Item.{Item}
@@ -9,6 +9,7 @@ use Rattle.lei_records.specs.Tables.{IsSound, Table, put, put_all}
 use Rattle.relation_rules.specs.Parents.{AreApart, HasParents}
 use Rattle.relation_rules.proofs.ApartLemmas.{exceptions_keep_apart, relations_keep_apart}
 use Rattle.relation_rules.proofs.ChainLemmas.{keeps_parents}
+use Rattle.register_judge.specs.declared.sitting.Sitting.{Sitting}
 use Rattle.register_judge.specs.Taking.{HaveRows, item_checks, take, verdict, verdict_of, writes_of}
 use Rattle.register_judge.proofs.TakingLemmas.{next_sound, put-written}
 
@@ -16,40 +17,40 @@ use Rattle.register_judge.proofs.TakingLemmas.{next_sound, put-written}
 
 -- an accepted item keeps this of a sound table
 abbrev Keeps : (Table → Type 0) → Type 0
-Keeps P = (table : Table) (limit : ℕ) (today : ℤ) (issuer : List ℕ) (item : Item) → IsSound table → P table
-    → first_failing (item_checks table limit today issuer item) ≡ None → P (put table item)
+Keeps P = (table : Table) (sitting : Sitting) (item : Item) → IsSound table → P table
+    → first_failing (item_checks table sitting item) ≡ None → P (put table item)
 
-item_keeps : (P : Table → Type 0) → Keeps P → (table : Table) (limit : ℕ) (today : ℤ) (issuer : List ℕ) (item : Item) (failed : Option FailedCheck) → IsSound table → P table
-    → first_failing (item_checks table limit today issuer item) ≡ failed
+item_keeps : (P : Table → Type 0) → Keeps P → (table : Table) (sitting : Sitting) (item : Item) (failed : Option FailedCheck) → IsSound table → P table
+    → first_failing (item_checks table sitting item) ≡ failed
     → P (put_all (writes_of (verdict_of failed) (Readied.Good item)) table)
-item_keeps P keeps table limit today issuer item None sound has is = put-written P table item (keeps table limit today issuer item sound has is)
-item_keeps P keeps table limit today issuer item (Some check) sound has is = has
+item_keeps P keeps table sitting item None sound has is = put-written P table item (keeps table sitting item sound has is)
+item_keeps P keeps table sitting item (Some check) sound has is = has
 
-take_keeps : (P : Table → Type 0) → Keeps P → (table : Table) (limit : ℕ) (today : ℤ) (issuer : List ℕ) (items : List Readied) → IsSound table → P table → HaveRows items
-    → P (take table limit today issuer items).table
-take_keeps P keeps table limit today issuer [] sound has rows = has
-take_keeps P keeps table limit today issuer (Readied.Bad check ∷ items) sound has rows = take_keeps P keeps table limit today issuer items sound has rows
-take_keeps P keeps table limit today issuer (Readied.Good item ∷ items) sound has rows =
-    let given = verdict table limit today issuer (Readied.Good item) in
-    take_keeps P keeps (put_all (writes_of given (Readied.Good item)) table) limit today issuer items (next_sound table limit today issuer item sound rows.0)
-    (item_keeps P keeps table limit today issuer item (first_failing (item_checks table limit today issuer item)) sound has refl) rows.1
+take_keeps : (P : Table → Type 0) → Keeps P → (table : Table) (sitting : Sitting) (items : List Readied) → IsSound table → P table → HaveRows items
+    → P (take table sitting items).table
+take_keeps P keeps table sitting [] sound has rows = has
+take_keeps P keeps table sitting (Readied.Bad check ∷ items) sound has rows = take_keeps P keeps table sitting items sound has rows
+take_keeps P keeps table sitting (Readied.Good item ∷ items) sound has rows =
+    let given = verdict table sitting (Readied.Good item) in
+    take_keeps P keeps (put_all (writes_of given (Readied.Good item)) table) sitting items (next_sound table sitting item sound rows.0)
+    (item_keeps P keeps table sitting item (first_failing (item_checks table sitting item)) sound has refl) rows.1
 
 -- ---- parents, and exceptions beside them
 
 parents_kept : Keeps HasParents
-parents_kept table limit today issuer (Item.Record row) sound has passes = record { ends = has.ends }
-parents_kept table limit today issuer (Item.Relation row) sound has passes = keeps_parents table issuer row sound has passes
-parents_kept table limit today issuer (Item.Exception item) sound has passes = record { ends = has.ends }
+parents_kept table sitting (Item.Record row) sound has passes = record { ends = has.ends }
+parents_kept table sitting (Item.Relation row) sound has passes = keeps_parents table sitting.issuer row sound has passes
+parents_kept table sitting (Item.Exception item) sound has passes = record { ends = has.ends }
 
 apart_kept : Keeps AreApart
-apart_kept table limit today issuer (Item.Record row) sound apart passes = apart
-apart_kept table limit today issuer (Item.Relation row) sound apart passes = relations_keep_apart table issuer row sound apart passes
-apart_kept table limit today issuer (Item.Exception item) sound apart passes = exceptions_keep_apart table issuer item.0 item.1 apart passes
+apart_kept table sitting (Item.Record row) sound apart passes = apart
+apart_kept table sitting (Item.Relation row) sound apart passes = relations_keep_apart table sitting.issuer row sound apart passes
+apart_kept table sitting (Item.Exception item) sound apart passes = exceptions_keep_apart table sitting.issuer item.0 item.1 apart passes
 
-pub take-parents : (table : Table) (limit : ℕ) (today : ℤ) (issuer : List ℕ) (items : List Readied) → IsSound table → HasParents table → HaveRows items
-    → HasParents (take table limit today issuer items).table
+pub take-parents : (table : Table) (sitting : Sitting) (items : List Readied) → IsSound table → HasParents table → HaveRows items
+    → HasParents (take table sitting items).table
 take-parents = take_keeps HasParents parents_kept
 
-pub take-apart : (table : Table) (limit : ℕ) (today : ℤ) (issuer : List ℕ) (items : List Readied) → IsSound table → AreApart table → HaveRows items
-    → AreApart (take table limit today issuer items).table
+pub take-apart : (table : Table) (sitting : Sitting) (items : List Readied) → IsSound table → AreApart table → HaveRows items
+    → AreApart (take table sitting items).table
 take-apart = take_keeps AreApart apart_kept

@@ -1,19 +1,17 @@
 -- What a relationship and an exception do to the cells of a table. Of the table this asks that its rows stand under their
 -- own keys and that no two active relationships have one start and type, and not that its rows are those of items.
-use Rattle.std.specs.Prelude.{◌≡◌, ℕ, List, [], ◌∷◌, Bool, true, false, not, ◌&&◌, cond, Option, Some, None, is_some, option_map}
+use Rattle.std.specs.Prelude.{◌≡◌, ℕ, List, Bool, true, false, not, ◌&&◌, cond, Option, Some, None, is_some, option_map}
 use Rattle.std.specs.FinMap.{get-insert, get-remove}
-use Rattle.std.specs.Ordering.{eq_by_cmp}
 use Rattle.std.specs.Str.{bytes_eq}
 use Rattle.std.proofs.Common.{refl, sym, ap, ◌∙◌}
 use Rattle.lei_shapes.specs.declared.lists.ExceptionCategory.{ExceptionCategory}
 use Rattle.lei_shapes.specs.declared.lists.RelationType.{RelationType}
-use Rattle.lei_shapes.specs.Lists.{exception_category_text, relation_type_text}
 use Rattle.lei_records.specs.declared.item.Item.{Item}
 use Rattle.lei_records.specs.declared.view.Seen.{Seen}
 use Rattle.lei_records.specs.Exceptions.{exception_category_in, subject_in, is_same_category}
-use Rattle.lei_records.specs.Relations.{end_in, is_active, is_active_of, kind_in, rel_cell, start_in}
+use Rattle.lei_records.specs.Relations.{end_in, is_active, is_active_of, rel_cell}
 use Rattle.lei_records.specs.Rows.{Row}
-use Rattle.lei_records.specs.Tables.{AreRelationsKeyed, HasActives, KeyTexts, Table, active_of, cells_of, exception_key, exception_key_in, exception_row, has_exception, key_cmp, put, relation_key, relation_key_in, relation_of, relation_row, seen, seen_fact}
+use Rattle.lei_records.specs.Tables.{AreRelationsKeyed, HasActives, Table, active_of, cells_of, exception_key, exception_key_in, exception_row, has_exception, put, relation_key, relation_key_in, relation_of, relation_row, seen, seen_fact}
 use Rattle.authority_rules.specs.Taken.{unless_own}
 use Rattle.authority_rules.proofs.HolderLemmas.{keys_total}
 use Rattle.authority_rules.proofs.KeyLemmas.{tied-exception_key, tied-relation_key}

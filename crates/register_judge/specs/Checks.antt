@@ -1,5 +1,5 @@
 -- The checks of a record that is brought to a table, C05 to C20. This project's profile.
-use Rattle.std.specs.Prelude.{ℕ, ℤ, List, [], ◌∷◌, ◌++◌, Bool, false, not, ◌&&◌, ◌||◌, int_lt, nat_le, Option, Some, None, is_some, is_none}
+use Rattle.std.specs.Prelude.{ℤ, List, [], ◌∷◌, ◌++◌, Bool, false, not, ◌&&◌, ◌||◌, int_lt, Option, Some, None, is_some, is_none}
 use Rattle.std.specs.Option.{option_map_or}
 use Rattle.std.specs.Ordering.{int_eq}
 use Rattle.std.specs.Str.{bytes_eq}
@@ -16,6 +16,9 @@ use Rattle.lei_records.specs.Walks.{Next, is_long, is_met, successor_of}
 use Rattle.status_rules.specs.declared.transitions.Party.{Party}
 use Rattle.status_rules.specs.Statuses.{entity_fits, renewal_fits, is_issued, is_retired, is_duplicate}
 use Rattle.status_rules.specs.Transitions.{party}
+use Rattle.register_judge.specs.declared.sitting.Rules.{Rules}
+use Rattle.register_judge.specs.declared.sitting.Sitting.{Sitting}
+use Rattle.register_judge.specs.Sittings.{is_at_limit}
 
 -- ---- the item alone, and the issuer that uploads it
 
@@ -117,32 +120,32 @@ c20 held full = fails_if (is_none held && full) 20 Detail.None
 -- ---- the checks in the order of their numbers
 
 -- The checks of the item alone and of the issuer that uploads it: C05 to C09.
-abbrev pub own_checks : ℤ → Lei → Row → List Finding
-own_checks today issuer item = c05 item ∷ c06 item ∷ c07 today item ∷ c08 item ∷ c09 issuer item ∷ []
+abbrev pub own_checks : Sitting → Row → List Finding
+own_checks sitting item = c05 item ∷ c06 item ∷ c07 sitting.today item ∷ c08 item ∷ c09 sitting.issuer item ∷ []
 
 -- The checks beside the record that is held under the item's LEI: C10 to C15.
-abbrev pub held_checks : Option RecCell → ℤ → Lei → Row → List Finding
-held_checks held today issuer item =
-    c10 held item ∷ c11 held item ∷ c12 held issuer item ∷ c13 held item ∷ c14 held item ∷ c15 today item ∷ []
+abbrev pub held_checks : Option RecCell → Sitting → Row → List Finding
+held_checks held sitting item =
+    c10 held item ∷ c11 held item ∷ c12 held sitting.issuer item ∷ c13 held item ∷ c14 held item
+    ∷ c15 sitting.today item ∷ []
 
--- The checks of the item's successor, C16 to C18: none where it has no successor. The walk goes by the records of the
--- table.
-abbrev pub successor_checks : Table → Row → Option Lei → List Finding
-successor_checks table item None = []
-successor_checks table item (Some successor) =
+-- The checks of the item's successor by the rules, C16 to C18: none where it has no successor. The walk goes by the
+-- records of the table.
+abbrev pub successor_checks : Rules → Table → Row → Option Lei → List Finding
+successor_checks rules table item None = []
+successor_checks Rules.First table item (Some successor) =
     c16 (record_of table successor) ∷ c17 (successor_of table) item successor ∷ c18 (successor_of table) successor ∷ []
 
--- All checks before C20 of a record on a table, for an issuer and a day.
-abbrev pub earlier_checks : Table → ℤ → Lei → Row → List Finding
-earlier_checks table today issuer item =
-    own_checks today issuer item ++ held_checks (record_of table (lei_in item)) today issuer item
-    ++ successor_checks table item (successor_in item) ++ c19 (other_holder table item) item ∷ []
+-- All checks before C20 of a record on a table, in a sitting.
+abbrev pub earlier_checks : Table → Sitting → Row → List Finding
+earlier_checks table sitting item =
+    own_checks sitting item ++ held_checks (record_of table (lei_in item)) sitting item
+    ++ successor_checks sitting.rules table item (successor_in item) ++ c19 (other_holder table item) item ∷ []
 
--- The table holds as many records as the limit.
-abbrev pub is_full : Table → ℕ → Bool
-is_full table limit = nat_le limit (record_count table)
+-- C20 of a record on a table.
+abbrev pub limit_check : Table → Sitting → Row → Finding
+limit_check table sitting item = c20 (record_of table (lei_in item)) (is_at_limit sitting (record_count table))
 
--- All checks of a record on a table, for an issuer and a day, where the table may hold so many records.
-abbrev pub checks : Table → ℕ → ℤ → Lei → Row → List Finding
-checks table limit today issuer item =
-    earlier_checks table today issuer item ++ c20 (record_of table (lei_in item)) (is_full table limit) ∷ []
+-- All checks of a record on a table, in a sitting.
+abbrev pub record_checks : Table → Sitting → Row → List Finding
+record_checks table sitting item = earlier_checks table sitting item ++ limit_check table sitting item ∷ []

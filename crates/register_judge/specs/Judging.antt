@@ -1,5 +1,5 @@
 -- Judging over any view: what a view's cells make of items, or the first cell that they need and the view lacks.
-use Rattle.std.specs.Prelude.{ℕ, ◌+◌, ◌-◌, ◌==◌, ℤ, List, [], ◌∷◌, ◌++◌, Bool, true, false, if◌then◌else◌, Option, Some, None, is_none, Result, Ok, Err}
+use Rattle.std.specs.Prelude.{ℕ, ◌+◌, List, [], ◌∷◌, ◌++◌, Bool, true, false, if◌then◌else◌, Option, Some, None, is_none, Result, Ok, Err}
 use Rattle.lei_code.specs.Texts.{Lei, Text}
 use Rattle.lei_records.specs.declared.item.Item.{Item}
 use Rattle.lei_records.specs.declared.item.Readied.{Readied}
@@ -14,10 +14,13 @@ use Rattle.authority_rules.specs.Taken.{taken}
 use Rattle.successor_rules.specs.Successors.{walk}
 use Rattle.relation_rules.specs.declared.checked.Checked.{Checked}
 use Rattle.relation_rules.specs.Checking.{check_exception, check_relation, check_walked, checked_of, on_seen, unless_failed}
-use Rattle.register_judge.specs.declared.judge.Judged.{Judged}
+use Rattle.register_judge.specs.declared.judge.ItemOutcome.{ItemOutcome}
 use Rattle.register_judge.specs.declared.outcome.Verdict.{Verdict}
+use Rattle.register_judge.specs.declared.sitting.Rules.{Rules}
+use Rattle.register_judge.specs.declared.sitting.Sitting.{Sitting}
 use Rattle.register_judge.specs.Checks.{own_checks, held_checks, c16, c19, c20}
 use Rattle.register_judge.specs.Overlays.{put_cells}
+use Rattle.register_judge.specs.Sittings.{is_at_limit}
 use Rattle.register_judge.specs.Taking.{verdict_of, writes_of}
 
 -- ---- a record, from C05 to C19
@@ -40,62 +43,63 @@ check_named cells item successor found =
     unless_failed (first_failing (c16 found ∷ []))
     (check_walked 17 18 (walk cells (lei_in item) successor) (check_key cells item))
 
--- The same by the successor: an item without one has nothing to ask of it.
-abbrev pub check_successor : Cells → Row → Option Lei → Checked
-check_successor cells item None = check_key cells item
-check_successor cells item (Some successor) =
+-- The same by the rules and the successor: an item without one has nothing to ask of it.
+abbrev pub check_successor : Rules → Cells → Row → Option Lei → Checked
+check_successor rules cells item None = check_key cells item
+check_successor Rules.First cells item (Some successor) =
     on_seen (cells.record_cell successor) (CellKey.Rec successor) (check_named cells item successor)
 
 -- C10 to C19, with the record that is held under the item's LEI.
-abbrev pub check_held : Cells → ℤ → Lei → Row → Option RecCell → Checked
-check_held cells today issuer item held =
-    unless_failed (first_failing (held_checks held today issuer item)) (check_successor cells item (successor_in item))
+abbrev pub check_with_held : Cells → Sitting → Row → Option RecCell → Checked
+check_with_held cells sitting item held =
+    unless_failed (first_failing (held_checks held sitting item))
+    (check_successor sitting.rules cells item (successor_in item))
 
--- What the checks C05 to C19 of a record that an issuer uploads on a day come to over a view.
-unfoldable pub check_record : Cells → ℤ → Lei → Row → Checked
-check_record cells today issuer item =
-    unless_failed (first_failing (own_checks today issuer item))
-    (on_seen (cells.record_cell (lei_in item)) (CellKey.Rec (lei_in item)) (check_held cells today issuer item))
+-- What the checks C05 to C19 of a record come to over a view, in a sitting.
+unfoldable pub check_record : Cells → Sitting → Row → Checked
+check_record cells sitting item =
+    unless_failed (first_failing (own_checks sitting item))
+    (on_seen (cells.record_cell (lei_in item)) (CellKey.Rec (lei_in item)) (check_with_held cells sitting item))
 
 -- ---- an item
 
 -- An item is rejected by a check.
-abbrev pub rejected : FailedCheck → Judged
-rejected check = record { verdict = Verdict.Rejected check; new = false }
+abbrev pub rejection : FailedCheck → ItemOutcome
+rejection check = record { verdict = Verdict.Rejected check; new = false }
 
 -- An item that takes up no room is accepted.
-abbrev pub accepted : Judged
-accepted = record { verdict = Verdict.Accepted; new = false }
+abbrev pub acceptance : ItemOutcome
+acceptance = record { verdict = Verdict.Accepted; new = false }
 
 -- A record came to C20: it fails or not, and the record is new where none is held.
-abbrev pub judge_room : Option RecCell → Bool → Judged
+abbrev pub judge_room : Option RecCell → Bool → ItemOutcome
 judge_room held full = record { verdict = verdict_of (first_failing (c20 held full ∷ [])); new = is_none held }
 
 -- What comes of an item by what its checks come to, and by what comes of it where they pass.
-abbrev pub judged_by : Checked → Judged → Result Judged CellKey
-judged_by Checked.Passes passed = Ok passed
-judged_by (Checked.Fails check) passed = Ok (rejected check)
-judged_by (Checked.Missing key) passed = Err key
+abbrev pub outcome_by : Checked → ItemOutcome → Result ItemOutcome CellKey
+outcome_by Checked.Passes passed = Ok passed
+outcome_by (Checked.Fails check) passed = Ok (rejection check)
+outcome_by (Checked.Missing key) passed = Err key
 
 -- What a cell has as far as the view knows.
-abbrev pub held_in : {X : Type 0} → Seen X → Option X
-held_in (Seen.Held x) = Some x
-held_in Seen.Empty = None
-held_in Seen.Missing = None
+abbrev pub value_seen : {X : Type 0} → Seen X → Option X
+value_seen (Seen.Held x) = Some x
+value_seen Seen.Empty = None
+value_seen Seen.Missing = None
 
 -- What comes of a record: C20 is asked last, with the record that is held under its LEI.
-abbrev pub judge_record : Cells → Bool → ℤ → Lei → Row → Result Judged CellKey
-judge_record cells full today issuer item =
-    judged_by (check_record cells today issuer item) (judge_room (held_in (cells.record_cell (lei_in item))) full)
+abbrev pub judge_record : Cells → Bool → Sitting → Row → Result ItemOutcome CellKey
+judge_record cells full sitting item =
+    outcome_by (check_record cells sitting item) (judge_room (value_seen (cells.record_cell (lei_in item))) full)
 
--- What comes of an item that an issuer uploads on a day, where a further record fits or not.
-abbrev pub judge_item : Cells → Bool → ℤ → Lei → Readied → Result Judged CellKey
-judge_item cells full today issuer (Readied.Bad check) = Ok (rejected check)
-judge_item cells full today issuer (Readied.Good (Item.Record item)) = judge_record cells full today issuer item
-judge_item cells full today issuer (Readied.Good (Item.Relation item)) =
-    judged_by (check_relation cells issuer item) accepted
-judge_item cells full today issuer (Readied.Good (Item.Exception item)) =
-    judged_by (check_exception cells issuer item) accepted
+-- What comes of an item in a sitting, where a further record fits or not.
+abbrev pub judge_item : Cells → Bool → Sitting → Readied → Result ItemOutcome CellKey
+judge_item cells full sitting (Readied.Bad check) = Ok (rejection check)
+judge_item cells full sitting (Readied.Good (Item.Record item)) = judge_record cells full sitting item
+judge_item cells full sitting (Readied.Good (Item.Relation item)) =
+    outcome_by (check_relation cells sitting.issuer item) acceptance
+judge_item cells full sitting (Readied.Good (Item.Exception item)) =
+    outcome_by (check_exception cells sitting.issuer item) acceptance
 
 -- ---- items from the first to the last
 
@@ -105,19 +109,19 @@ put_writes [] cells = cells
 put_writes (write ∷ writes) cells = put_writes writes (put_cells cells write)
 
 -- The cells after an item, by what came of it.
-abbrev pub cells_after : Result Judged CellKey → Readied → Cells → Cells
+abbrev pub cells_after : Result ItemOutcome CellKey → Readied → Cells → Cells
 cells_after (Err key) item cells = cells
 cells_after (Ok judged) item cells = put_writes (writes_of judged.verdict item) cells
 
--- How much room an item takes up: that of one record where it is accepted and new.
-abbrev pub room_taken : Verdict → Bool → ℕ
-room_taken Verdict.Accepted true = 1
-room_taken verdict new = 0
+-- How many records an item adds: one where it is accepted and new.
+abbrev pub records_added : Verdict → Bool → ℕ
+records_added Verdict.Accepted true = 1
+records_added verdict new = 0
 
--- The room that is left after an item, by what came of it.
-abbrev pub room_after : Result Judged CellKey → ℕ → ℕ
-room_after (Err key) room = room
-room_after (Ok judged) room = room - room_taken judged.verdict judged.new
+-- How many records there are after an item, by what came of it.
+abbrev pub count_after : Result ItemOutcome CellKey → ℕ → ℕ
+count_after (Err key) count = count
+count_after (Ok judged) count = count + records_added judged.verdict judged.new
 
 -- A judgement: verdicts, writes, and how many items were new.
 pub record Judgement : Type 0 where
@@ -126,7 +130,7 @@ pub record Judgement : Type 0 where
   pub new_records : ℕ
 
 -- The judgement of one item in front of those behind it.
-abbrev pub item_in_front : Judged → Readied → Judgement → Judgement
+abbrev pub item_in_front : ItemOutcome → Readied → Judgement → Judgement
 item_in_front judged item rest = record {
   verdicts = judged.verdict ∷ rest.verdicts;
   writes = writes_of judged.verdict item ++ rest.writes;
@@ -134,15 +138,15 @@ item_in_front judged item rest = record {
 }
 
 -- The same where a cell may be lacking: then the first such cell is what comes of all.
-abbrev pub before : Result Judged CellKey → Readied → Result Judgement CellKey → Result Judgement CellKey
+abbrev pub before : Result ItemOutcome CellKey → Readied → Result Judgement CellKey → Result Judgement CellKey
 before (Err key) item rest = Err key
 before (Ok judged) item (Err key) = Err key
 before (Ok judged) item (Ok rest) = Ok (item_in_front judged item rest)
 
--- What comes of items from the first to the last, each judged on the cells with the accepted ones before it put, where
--- so many further records fit.
-unfoldable pub judge_items : Cells → ℕ → ℤ → Lei → List Readied → Result Judgement CellKey
-judge_items cells room today issuer [] = Ok (record { verdicts = []; writes = []; new_records = 0 })
-judge_items cells room today issuer (item ∷ items) =
-    let judged = judge_item cells (room == 0) today issuer item in
-    before judged item (judge_items (cells_after judged item cells) (room_after judged room) today issuer items)
+-- What comes of items from the first to the last in a sitting, each judged on the cells with the accepted ones before
+-- it put. The limit is asked of a count of records, which begins with this one and grows by each record that is added.
+unfoldable pub judge_items : Cells → ℕ → Sitting → List Readied → Result Judgement CellKey
+judge_items cells count sitting [] = Ok (record { verdicts = []; writes = []; new_records = 0 })
+judge_items cells count sitting (item ∷ items) =
+    let judged = judge_item cells (is_at_limit sitting count) sitting item in
+    before judged item (judge_items (cells_after judged item cells) (count_after judged count) sitting items)

@@ -2,4 +2,5 @@ pub mod Checks
 pub mod Judging
 pub mod Outcomes
 pub mod Overlays
+pub mod Sittings
 pub mod Taking

@@ -3,7 +3,7 @@ use Rattle.std.specs.Prelude.{◌≡◌, ℕ, List, [], Option, Result, Ok, Err,
 use Rattle.lei_records.specs.declared.item.Item.{Item}
 use Rattle.lei_records.specs.declared.view.CellKey.{CellKey}
 use Rattle.lei_records.specs.declared.view.RowKey.{RowKey}
-use Rattle.register_judge.specs.declared.judge.Judged.{Judged}
+use Rattle.register_judge.specs.declared.judge.ItemOutcome.{ItemOutcome}
 use Rattle.register_judge.specs.declared.outcome.JudgeStop.{JudgeStop}
 use Rattle.register_judge.specs.declared.outcome.Outcome.{Outcome}
 use Rattle.register_judge.specs.declared.outcome.Verdict.{Verdict}
@@ -37,5 +37,5 @@ Judges result judged = MatchResult result
     (λ stop. Stops stop judged)
 
 -- The same of one item.
-abbrev pub JudgesItem : Result Judged JudgeStop → Result Judged CellKey → Type 0
+abbrev pub JudgesItem : Result ItemOutcome JudgeStop → Result ItemOutcome CellKey → Type 0
 JudgesItem result judged = MatchResult result (λ j. judged ≡ Ok j) (λ stop. Stops stop judged)

@@ -1,6 +1,5 @@
 -- Taking an upload: what its items do to a table, from the first to the last.
-use Rattle.std.specs.Prelude.{ℕ, ◌+◌, ℤ, List, [], ◌∷◌, ◌++◌, Bool, false, ◌&&◌, if◌then◌else◌, Option, Some, None, is_none, ⊤}
-use Rattle.lei_code.specs.Texts.{Lei}
+use Rattle.std.specs.Prelude.{ℕ, ◌+◌, List, [], ◌∷◌, ◌++◌, Bool, false, ◌&&◌, if◌then◌else◌, Option, Some, None, is_none, ⊤}
 use Rattle.lei_records.specs.declared.item.Item.{Item}
 use Rattle.lei_records.specs.declared.item.Readied.{Readied}
 use Rattle.lei_records.specs.declared.view.RowKey.{RowKey}
@@ -10,25 +9,25 @@ use Rattle.lei_records.specs.Spelled.{IsExceptionRow, IsRelationRow, IsRow}
 use Rattle.lei_records.specs.Tables.{Table, record_of, put_all, row_key}
 use Rattle.relation_rules.specs.Checks.{relation_checks, exception_checks}
 use Rattle.register_judge.specs.declared.outcome.Verdict.{Verdict}
-use Rattle.register_judge.specs.Checks.{earlier_checks, checks}
+use Rattle.register_judge.specs.declared.sitting.Sitting.{Sitting}
+use Rattle.register_judge.specs.Checks.{earlier_checks, record_checks}
 
 -- The verdict by a check that failed, or by none.
 abbrev pub verdict_of : Option FailedCheck → Verdict
 verdict_of None = Verdict.Accepted
 verdict_of (Some check) = Verdict.Rejected check
 
--- The checks of an item on a table: C05 to C20 of a record, C30 to C40 of a relationship, C50 to C53 of an exception.
-abbrev pub item_checks : Table → ℕ → ℤ → Lei → Item → List Finding
-item_checks table limit today issuer (Item.Record row) = checks table limit today issuer row
-item_checks table limit today issuer (Item.Relation row) = relation_checks table issuer row
-item_checks table limit today issuer (Item.Exception item) = exception_checks table issuer item
+-- The checks of an item on a table, in a sitting: C05 to C20 of a record, C30 to C40 of a relationship, C50 to C53 of an exception.
+abbrev pub item_checks : Table → Sitting → Item → List Finding
+item_checks table sitting (Item.Record row) = record_checks table sitting row
+item_checks table sitting (Item.Relation row) = relation_checks table sitting.issuer row
+item_checks table sitting (Item.Exception item) = exception_checks table sitting.issuer item
 
 -- The verdict on an item: the first of its checks that fails, or that it is accepted. C01 to C04 were asked before,
 -- since they need no table.
-abbrev pub verdict : Table → ℕ → ℤ → Lei → Readied → Verdict
-verdict table limit today issuer (Readied.Bad check) = Verdict.Rejected check
-verdict table limit today issuer (Readied.Good item) =
-    verdict_of (first_failing (item_checks table limit today issuer item))
+abbrev pub verdict : Table → Sitting → Readied → Verdict
+verdict table sitting (Readied.Bad check) = Verdict.Rejected check
+verdict table sitting (Readied.Good item) = verdict_of (first_failing (item_checks table sitting item))
 
 -- What is held under an item's key where it is accepted: the item, and nothing where it is a withdrawal.
 abbrev pub written : Item → Option Item
@@ -42,10 +41,10 @@ writes_of Verdict.Accepted (Readied.Good item) = (row_key item, written item) �
 writes_of verdict item = []
 
 -- The item is a record that comes to C20 while none of its LEI is held.
-abbrev pub is_new : Table → ℤ → Lei → Readied → Bool
-is_new table today issuer (Readied.Good (Item.Record item)) =
-    is_none (record_of table (lei_in item)) && is_none (first_failing (earlier_checks table today issuer item))
-is_new table today issuer item = false
+abbrev pub is_new_record : Table → Sitting → Readied → Bool
+is_new_record table sitting (Readied.Good (Item.Record item)) =
+    is_none (record_of table (lei_in item)) && is_none (first_failing (earlier_checks table sitting item))
+is_new_record table sitting item = false
 
 -- What came of items: the table behind them, a verdict for each, what the accepted ones wrote, and how many of them were
 -- new.
@@ -64,14 +63,14 @@ in_front verdict writes new rest = record {
   new_records = (if new then 1 else 0) + rest.new_records;
 }
 
--- Items that an issuer uploads on a day are taken from left to right, where the table may hold so many records: each is
--- judged on the table so far, and an accepted one is put, or withdrawn.
-abbrev pub take : Table → ℕ → ℤ → Lei → List Readied → Taken
-take table limit today issuer [] = record { table = table; verdicts = []; writes = []; new_records = 0 }
-take table limit today issuer (item ∷ items) =
-    let given = verdict table limit today issuer item in
+-- The items of an upload are taken from left to right in one sitting: each is judged on the table so far, and an
+-- accepted one is put, or withdrawn.
+abbrev pub take : Table → Sitting → List Readied → Taken
+take table sitting [] = record { table = table; verdicts = []; writes = []; new_records = 0 }
+take table sitting (item ∷ items) =
+    let given = verdict table sitting item in
     let writes = writes_of given item in
-    in_front given writes (is_new table today issuer item) (take (put_all writes table) limit today issuer items)
+    in_front given writes (is_new_record table sitting item) (take (put_all writes table) sitting items)
 
 -- The row of an item is that of a record, a relationship or an exception, as the item says.
 abbrev pub HasRow : Item → Type 0

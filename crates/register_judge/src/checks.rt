@@ -1,11 +1,12 @@
 //! The checks of a record that is brought to a table, each as a test. This project's profile.
-ghost use Rattle.std.specs.Prelude.{◌≡◌, ℕ, List, [], ◌∷◌, false, Some, None};
+ghost use Rattle.std.specs.Prelude.{◌≡◌, [], ◌∷◌, false, Some, None};
 ghost use Rattle.std.specs.Option.{option_map_or};
 ghost use Rattle.std.specs.Str.{bytes_eq};
 ghost use Rattle.lei_records.specs.Checks.{first_failing};
 ghost use Rattle.status_rules.specs.Statuses;
 ghost use Rattle.register_judge.specs.Checks;
 
+use crate::sitting::Sitting;
 use lei_code::Lei;
 use lei_records::numbers::{
     DATE_FUTURE, DATES_ORDER, INITIAL_DATE_CHANGED, MANAGER_NOT_UPLOADER, NOT_ISSUED, NOT_MANAGER,
@@ -17,8 +18,8 @@ use relation_rules::plain;
 use status_rules::{Party, entity_fits, renewal_fits, transition};
 
 /// C05 to C09: the item alone, and the issuer that uploads it.
-pub fn own_check(issuer: &Lei, today: i32, item: &Record) -> Option<Check>
-    ensures { result ≡ first_failing (Checks.own_checks today issuer.now item.now) }
+pub fn own_check(sitting: &Sitting, item: &Record) -> Option<Check>
+    ensures { result ≡ first_failing (Checks.own_checks sitting.now item.now) }
 {
     if has_wrong_entity_status(item) {
         return Some(plain(STATUS_ENTITY));
@@ -26,13 +27,13 @@ pub fn own_check(issuer: &Lei, today: i32, item: &Record) -> Option<Check>
     if has_early_dates(item) {
         return Some(plain(DATES_ORDER));
     }
-    if has_late_dates(today, item) {
+    if has_late_dates(sitting.today, item) {
         return Some(plain(DATE_FUTURE));
     }
     if has_wrong_successor(item) {
         return Some(plain(SUCCESSOR_SHAPE));
     }
-    if item.manager() != *issuer {
+    if item.manager() != sitting.issuer {
         return Some(plain(MANAGER_NOT_UPLOADER));
     }
     None
@@ -89,31 +90,31 @@ fn misfits(status: RecordStatus, stands: bool) -> bool
 }
 
 /// C10 to C15: the record that is held under the item's LEI, if there is one, and the day.
-pub fn held_check(held: &Option<RecCell>, issuer: &Lei, today: i32, item: &Record) -> Option<Check>
-    ensures { result ≡ first_failing (Checks.held_checks held.now today issuer.now item.now) }
+pub fn held_check(held: &Option<RecCell>, sitting: &Sitting, item: &Record) -> Option<Check>
+    ensures { result ≡ first_failing (Checks.held_checks held.now sitting.now item.now) }
 {
     match held {
-        None => first_check(today, item),
-        Some(held) => change_check(held, issuer, today, item),
+        None => first_check(sitting, item),
+        Some(held) => change_check(held, sitting, item),
     }
 }
 
 // Where no record is held: C10 and C15.
-fn first_check(today: i32, item: &Record) -> Option<Check>
-    ensures { (issuer : List ℕ) → result ≡ first_failing (Checks.held_checks None today issuer item.now) }
+fn first_check(sitting: &Sitting, item: &Record) -> Option<Check>
+    ensures { result ≡ first_failing (Checks.held_checks None sitting.now item.now) }
 {
     if !is_issued(item.status()) {
         return Some(plain(NOT_ISSUED));
     }
-    if has_wrong_renewal(today, item) {
+    if has_wrong_renewal(sitting.today, item) {
         return Some(plain(RENEWAL_DATE));
     }
     None
 }
 
 // Where one is held: C11 to C15.
-fn change_check(held: &RecCell, issuer: &Lei, today: i32, item: &Record) -> Option<Check>
-    ensures { result ≡ first_failing (Checks.held_checks (Some held.now) today issuer.now item.now) }
+fn change_check(held: &RecCell, sitting: &Sitting, item: &Record) -> Option<Check>
+    ensures { result ≡ first_failing (Checks.held_checks (Some held.now) sitting.now item.now) }
 {
     let party = transition(Some(held.status), item.status());
     if party.is_none() {
@@ -122,7 +123,7 @@ fn change_check(held: &RecCell, issuer: &Lei, today: i32, item: &Record) -> Opti
             detail: Detail::Status(held.status),
         });
     }
-    if is_another(held, issuer, party) {
+    if is_another(held, &sitting.issuer, party) {
         return Some(plain(NOT_MANAGER));
     }
     if held.initial != item.initial() {
@@ -131,7 +132,7 @@ fn change_check(held: &RecCell, issuer: &Lei, today: i32, item: &Record) -> Opti
     if item.updated() < held.updated {
         return Some(plain(UPDATE_EARLIER));
     }
-    if has_wrong_renewal(today, item) {
+    if has_wrong_renewal(sitting.today, item) {
         return Some(plain(RENEWAL_DATE));
     }
     None

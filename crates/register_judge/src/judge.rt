@@ -6,69 +6,68 @@ ghost use Rattle.register_judge.specs.Taking;
 
 use crate::checks::{own_check, room_check};
 use crate::outcome::{JudgeStop, Verdict};
-use crate::records::check_held;
-use lei_code::Lei;
+use crate::records::check_with_held;
+use crate::sitting::Sitting;
 use lei_records::{CellKey, Check, Item, Readied, RecCell, Record, Seen, View};
 use relation_rules::{Checked, exception_check, relation_check};
 use std::alloc::Global;
 
-/// The verdict on an item, and whether it came to the check of the room while no record of its LEI
-/// was held.
+/// What comes of an item: the verdict on it, and whether it came to the check of the room while no record
+/// of its LEI was held.
 #[derive(Debug, Drop)]
-pub struct Judged {
+pub struct ItemOutcome {
     pub verdict: Verdict,
     pub new: bool,
 }
 
-fn rejected(check: Check) -> Judged
-    ensures { result ≡ Judging.rejected check }
+fn rejection(check: Check) -> ItemOutcome
+    ensures { result ≡ Judging.rejection check }
 {
-    Judged {
+    ItemOutcome {
         verdict: Verdict::Rejected(check),
         new: false,
     }
 }
 
 // An item that takes up no room.
-fn accepted() -> Judged
-    ensures { result ≡ Judging.accepted }
+fn acceptance() -> ItemOutcome
+    ensures { result ≡ Judging.acceptance }
 {
-    Judged {
+    ItemOutcome {
         verdict: Verdict::Accepted,
         new: false,
     }
 }
 
-/// What an item comes to over a view, where no further record fits if `full` is true.
+/// What comes of an item over a view, where no further record fits if `full` is true.
 pub fn judge_item<V: View>(
     alloc: Global,
     view: &V,
     full: bool,
-    issuer: &Lei,
-    today: i32,
+    sitting: &Sitting,
     item: &Readied,
-) -> Result<Judged, JudgeStop>
-    ensures { JudgesItem result (Judging.judge_item (V.cells view.now) full today issuer.now item.now) }
+) -> Result<ItemOutcome, JudgeStop>
+    ensures { JudgesItem result (Judging.judge_item (V.cells view.now) full sitting.now item.now) }
 {
     match item {
-        Readied::Bad(check) => Ok(rejected(check.copy(alloc)?)),
-        Readied::Good(Item::Record(item)) => judge_record(alloc, view, full, issuer, today, item),
+        Readied::Bad(check) => Ok(rejection(check.copy(alloc)?)),
+        Readied::Good(Item::Record(item)) => judge_record(alloc, view, full, sitting, item),
         Readied::Good(Item::Relation(item)) => {
-            judged_by(relation_check(view, issuer, item), accepted())
+            outcome_by(relation_check(view, &sitting.issuer, item), acceptance())
         }
         Readied::Good(Item::Exception(item)) => {
-            judged_by(exception_check(view, issuer, item), accepted())
+            outcome_by(exception_check(view, &sitting.issuer, item), acceptance())
         }
     }
 }
 
 // By what an item's checks come to, and what it comes to where they pass.
-fn judged_by(checked: Checked, passed: Judged) -> Result<Judged, JudgeStop>
-    ensures { JudgesItem result (Judging.judged_by checked passed) }
+fn outcome_by(checked: Checked, passed: ItemOutcome) -> Result<ItemOutcome, JudgeStop>
+    ensures { JudgesItem result (Judging.outcome_by checked passed) }
 {
     match checked {
         Checked::Passes => Ok(passed),
-        Checked::Fails(check) => Ok(rejected(check)),
+        Checked::Fails(check) => Ok(rejection(check)),
         Checked::Missing(key) => Err(JudgeStop::NeedCell(key)),
     }
 }
@@ -78,29 +77,28 @@ fn judge_record<V: View>(
     alloc: Global,
     view: &V,
     full: bool,
-    issuer: &Lei,
-    today: i32,
+    sitting: &Sitting,
     item: &Record,
-) -> Result<Judged, JudgeStop>
-    ensures { JudgesItem result (Judging.judge_record (V.cells view.now) full today issuer.now item.now) }
+) -> Result<ItemOutcome, JudgeStop>
+    ensures { JudgesItem result (Judging.judge_record (V.cells view.now) full sitting.now item.now) }
 {
-    if let Some(check) = own_check(issuer, today, item) {
-        return Ok(rejected(check));
+    if let Some(check) = own_check(sitting, item) {
+        return Ok(rejection(check));
     }
     let held = match view.record_cell(&item.lei()) {
         Seen::Held(held) => Some(held),
         Seen::Empty => None,
         Seen::Missing => return Err(JudgeStop::NeedCell(CellKey::Rec(item.lei()))),
     };
-    let checked = check_held(alloc, view, &held, issuer, today, item)?;
-    judged_by(checked, judge_room(&held, full))
+    let checked = check_with_held(alloc, view, &held, sitting, item)?;
+    outcome_by(checked, judge_room(&held, full))
 }
 
 // C20.
-fn judge_room(held: &Option<RecCell>, full: bool) -> Judged
+fn judge_room(held: &Option<RecCell>, full: bool) -> ItemOutcome
     ensures { result ≡ Judging.judge_room held.now full }
 {
-    Judged {
+    ItemOutcome {
         verdict: verdict_of(room_check(held, full)),
         new: held.is_none(),
     }

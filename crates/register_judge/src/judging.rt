@@ -1,16 +1,19 @@
 //! The verdicts on the items of an upload.
-ghost use Rattle.std.specs.Prelude.{◌≡◌, ◌==◌, ◌<◌, ◌≤◌, ◌+◌, ◌-◌, ◌∷◌, ◌++◌, ℕ, [], IfOk, OnOk, length, if◌then◌else◌};
+ghost use Rattle.std.specs.Prelude.{◌≡◌, ◌<◌, ◌≤◌, ◌+◌, ◌∷◌, ◌++◌, ℕ, [], IfOk, OnOk, length, if◌then◌else◌};
 ghost use Rattle.lei_records.specs.Tables.{Table, IsSound, cells_of, record_count, row_key};
+ghost use Rattle.register_judge.specs.declared.sitting.Rules.{Rules};
 ghost use Rattle.register_judge.specs.Judging;
 ghost use Rattle.register_judge.specs.Outcomes.{Judges, Shows, Takes};
 ghost use Rattle.register_judge.specs.Overlays.{cells_in};
+ghost use Rattle.register_judge.specs.Sittings.{sitting_by};
 ghost use Rattle.register_judge.specs.Taking;
 ghost use Rattle.register_judge.specs.Taking.{take, writes_of, written};
 
-use crate::judge::{Judged, judge_item};
+use crate::judge::{ItemOutcome, judge_item};
 use crate::keys::row_key;
 use crate::outcome::{JudgeStop, Outcome, Verdict};
 use crate::overlay::Overlay;
+use crate::sitting::{Rules, Sitting};
 use lei_code::Lei;
 use lei_outside::{List, NoMemory};
 use lei_records::{Item, Readied, RowKey, View};
@@ -22,13 +25,13 @@ struct Progress {
     verdicts: Vec<Verdict>,
     writes: Vec<(RowKey, Option<Item>)>,
     new_records: u32,
-    // How many further records fit.
-    room: u32,
+    // How many records were added.
+    added: u32,
 }
 
-/// Judges the items of an upload from left to right, each on what the view answers with the accepted
-/// items before it put. `room` is the number of further records that fit, `issuer` uploads them, and
-/// `today` is the day, counted from 1970-01-01.
+/// Judges the items of an upload by rules 1 from left to right, each on what the view answers with the
+/// accepted items before it put. `room` is the number of further records that fit, `issuer` uploads
+/// them, and `today` is the day, counted from 1970-01-01.
 pub fn judge_all<V: View>(
     alloc: Global,
     view: &V,
@@ -38,36 +41,43 @@ pub fn judge_all<V: View>(
     items: &[Readied],
 ) -> Result<Outcome, JudgeStop>
     requires { length items.now ≤ 5000 }
-    ensures answers { Judges result (Judging.judge_items (V.cells view.now) room today issuer.now items.now) }
+    // The records of the view aren't known, and so the limit is that of the ones that are added.
+    ensures answers { Judges result
+        (Judging.judge_items (V.cells view.now) 0 (sitting_by Rules.First room today issuer.now) items.now) }
 
     // Over the cells of a sound table, which has room for so many records more.
-    ensures over_tables { (table : Table) → IsSound table → V.cells view.now ≡ cells_of table
-        → Takes result (take table (record_count table + room) today issuer.now items.now) }
+    ensures over_tables { (table : Table) → IsSound table → V.cells view.now ≡ cells_of table → Takes result
+        (take table (sitting_by Rules.First (record_count table + room) today issuer.now) items.now) }
 {
-    judge_each(alloc, view, room, issuer, today, items)
+    let sitting = Sitting {
+        rules: Rules::First,
+        limit: room,
+        today,
+        issuer: *issuer,
+    };
+    judge_each(alloc, view, &sitting, items)
 }
 
+// In a sitting whose limit is that of the records that are added.
 fn judge_each<V: View>(
     alloc: Global,
     view: &V,
-    room: u32,
-    issuer: &Lei,
-    today: i32,
+    sitting: &Sitting,
     items: &[Readied],
 ) -> Result<Outcome, JudgeStop>
     requires { length items.now ≤ 5000 }
-    ensures { Judges result (Judging.judge_items (V.cells view.now) room today issuer.now items.now) }
+    ensures { Judges result (Judging.judge_items (V.cells view.now) 0 sitting.now items.now) }
 {
     let mut overlay = Overlay::new(alloc, view);
     let mut progress = Progress {
         verdicts: Vec::with_capacity(alloc, items.len())?,
         writes: Vec::with_capacity(alloc, items.len())?,
         new_records: 0,
-        room,
+        added: 0,
     };
     for item in items {
-        let full = progress.room == 0;
-        let judged = match judge_item(alloc, &overlay, full, issuer, today, item) {
+        let full = sitting.limit <= progress.added;
+        let judged = match judge_item(alloc, &overlay, full, sitting, item) {
             Ok(judged) => judged,
             Err(stop) => return Err(stop),
         };
@@ -109,7 +119,8 @@ fn accept<'a, V: View>(
 ) -> Result<(), NoMemory>
     ensures cells { OnOk result (cells_in V.cells overlay.new
         ≡ Judging.put_writes ((row_key item.now, written item.now) ∷ []) (cells_in V.cells overlay.old)) }
-    ensures writes { OnOk result (writes.new.items ≡ writes.old.items ++ (row_key item.now, written item.now) ∷ []) }
+    ensures writes { OnOk result
+        (writes.new.items ≡ writes.old.items ++ (row_key item.now, written item.now) ∷ []) }
 {
     overlay.put(alloc, item)?;
     writes.push((row_key(item), written(item)?))?;
@@ -127,24 +138,26 @@ fn written(item: &Item) -> Result<Option<Item>, NoMemory>
 }
 
 // Adds a verdict to what was judged.
-fn add(progress: &mut Progress, judged: Judged) -> Result<(), NoMemory>
-    requires { progress.old.new_records < 5000 }
-    ensures verdicts { OnOk result (progress.new.verdicts.items ≡ progress.old.verdicts.items ++ judged.verdict ∷ []) }
+fn add(progress: &mut Progress, judged: ItemOutcome) -> Result<(), NoMemory>
+    requires new_records { progress.old.new_records < 5000 }
+    requires added { progress.old.added < 5000 }
+    ensures verdicts { OnOk result
+        (progress.new.verdicts.items ≡ progress.old.verdicts.items ++ judged.verdict ∷ []) }
     ensures writes { progress.new.writes ≡ progress.old.writes }
-    ensures new_records { progress.new.new_records ≡ progress.old.new_records + (if judged.new then 1 else 0) }
-    ensures room { progress.new.room ≡ progress.old.room - Judging.room_taken judged.verdict judged.new }
+    ensures new_records {
+        progress.new.new_records ≡ progress.old.new_records + (if judged.new then 1 else 0) }
+    ensures added {
+        progress.new.added ≡ progress.old.added + Judging.records_added judged.verdict judged.new }
 {
-    progress.room = progress
-        .room
-        .saturating_sub(room_taken(&judged.verdict, judged.new));
+    progress.added += records_added(&judged.verdict, judged.new);
     progress.new_records += u32::from(judged.new);
     progress.verdicts.push(judged.verdict)?;
     Ok(())
 }
 
-// The room that an item takes up: that of a record where it is accepted and new.
-fn room_taken(verdict: &Verdict, new: bool) -> u32
-    ensures { result ≡ Judging.room_taken verdict.now new }
+// How many records an item adds: one where it is accepted and new.
+fn records_added(verdict: &Verdict, new: bool) -> u32
+    ensures { result ≡ Judging.records_added verdict.now new }
 {
     match verdict {
         Verdict::Accepted if new => 1,

@@ -1,6 +1,5 @@
 //! Laws of what items do to a table, each as the contract of an empty function.
-ghost use Rattle.std.specs.Prelude.{◌≡◌, ℕ, ℤ, List, None};
-ghost use Rattle.lei_code.specs.Texts.{Lei};
+ghost use Rattle.std.specs.Prelude.{◌≡◌, List, None};
 ghost use Rattle.lei_records.specs.declared.item.Item.{Item};
 ghost use Rattle.lei_records.specs.declared.item.Readied.{Readied};
 ghost use Rattle.lei_records.specs.Cells.{successor_in};
@@ -8,44 +7,46 @@ ghost use Rattle.lei_records.specs.Checks.{first_failing};
 ghost use Rattle.lei_records.specs.Rows.{Row};
 ghost use Rattle.lei_records.specs.Tables.{Table, IsSound, put, put_all};
 ghost use Rattle.relation_rules.specs.Parents.{AreApart, HasParents};
+ghost use Rattle.register_judge.specs.declared.sitting.Rules.{Rules};
+ghost use Rattle.register_judge.specs.declared.sitting.Sitting.{Sitting};
 ghost use Rattle.register_judge.specs.Checks.{successor_checks};
 ghost use Rattle.register_judge.specs.Taking.{take, HaveRows};
 ghost use Rattle.successor_rules.specs.Successors.{HasChains};
 
 /// Items leave a sound table sound.
 pub fn items_keep_tables_sound()
-    ensures { (table : Table) (limit : ℕ) (today : ℤ) (issuer : Lei) (items : List Readied)
-        → IsSound table → HaveRows items → IsSound (take table limit today issuer items).table }
+    ensures { (table : Table) (sitting : Sitting) (items : List Readied)
+        → IsSound table → HaveRows items → IsSound (take table sitting items).table }
 {}
 
 /// The table behind items is the one before them with what the accepted ones wrote.
 pub fn writes_make_the_table()
-    ensures { (table : Table) (limit : ℕ) (today : ℤ) (issuer : Lei) (items : List Readied)
-        → (take table limit today issuer items).table ≡ put_all (take table limit today issuer items).writes table }
+    ensures { (table : Table) (sitting : Sitting) (items : List Readied)
+        → (take table sitting items).table ≡ put_all (take table sitting items).writes table }
 {}
 
 /// Where each successor that a table's records name is held and each chain ends, this still holds after a record was put
 /// that passes the checks of its successor.
 pub fn accepted_successors_keep_chains()
-    ensures { (table : Table) (row : Row) → HasChains table
-        → first_failing (successor_checks table row (successor_in row)) ≡ None
+    ensures { (rules : Rules) (table : Table) (row : Row) → HasChains table
+        → first_failing (successor_checks rules table row (successor_in row)) ≡ None
         → HasChains (put table (Item.Record row)) }
 {}
 
 /// It still holds behind items, whatever they are.
 pub fn items_keep_chains()
-    ensures { (table : Table) (limit : ℕ) (today : ℤ) (issuer : Lei) (items : List Readied)
-        → HasChains table → HasChains (take table limit today issuer items).table }
+    ensures { (table : Table) (sitting : Sitting) (items : List Readied)
+        → HasChains table → HasChains (take table sitting items).table }
 {}
 
 /// Items leave each chain of direct parents of a sound table with an end.
 pub fn items_keep_parents()
-    ensures { (table : Table) (limit : ℕ) (today : ℤ) (issuer : Lei) (items : List Readied)
-        → IsSound table → HasParents table → HaveRows items → HasParents (take table limit today issuer items).table }
+    ensures { (table : Table) (sitting : Sitting) (items : List Readied)
+        → IsSound table → HasParents table → HaveRows items → HasParents (take table sitting items).table }
 {}
 
 /// They leave no active parent of a sound table beside the exception of its category.
 pub fn items_keep_apart()
-    ensures { (table : Table) (limit : ℕ) (today : ℤ) (issuer : Lei) (items : List Readied)
-        → IsSound table → AreApart table → HaveRows items → AreApart (take table limit today issuer items).table }
+    ensures { (table : Table) (sitting : Sitting) (items : List Readied)
+        → IsSound table → AreApart table → HaveRows items → AreApart (take table sitting items).table }
 {}

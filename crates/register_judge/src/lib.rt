@@ -11,6 +11,7 @@ mod laws;
 mod outcome;
 mod overlay;
 mod records;
+mod sitting;
 
 pub use judging::judge_all;
 pub use laws::{
@@ -18,3 +19,4 @@ pub use laws::{
     items_keep_tables_sound, writes_make_the_table,
 };
 pub use outcome::{JudgeStop, Outcome, Verdict};
+pub use sitting::{Rules, Sitting};

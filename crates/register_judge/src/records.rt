@@ -2,10 +2,12 @@
 ghost use Rattle.std.specs.Prelude.{◌≡◌, Some, IfOk};
 ghost use Rattle.lei_records.specs.Cells.{akey, lei_in};
 ghost use Rattle.register_judge.specs.Judging;
+ghost use Rattle.register_judge.specs.declared.sitting.Rules.{Rules};
 ghost use Rattle.relation_rules.specs.Checking;
 ghost use Rattle.successor_rules.specs.Successors;
 
 use crate::checks::held_check;
+use crate::sitting::{Rules, Sitting};
 use authority_rules::{is_live, key_of, taken};
 use lei_code::Lei;
 use lei_outside::{NoMemory, Text};
@@ -18,27 +20,26 @@ use std::alloc::Global;
 use successor_rules::{Walked, walk};
 
 /// From C10 on, with the record that is held under the item's LEI. The key of a cell that is lacking takes memory.
-pub fn check_held<V: View>(
+pub fn check_with_held<V: View>(
     alloc: Global,
     view: &V,
     held: &Option<RecCell>,
-    issuer: &Lei,
-    today: i32,
+    sitting: &Sitting,
     item: &Record,
 ) -> Result<Checked, NoMemory>
     ensures { IfOk result (λ checked. checked
-        ≡ Judging.check_held (V.cells view.now) today issuer.now item.now held.now) }
+        ≡ Judging.check_with_held (V.cells view.now) sitting.now item.now held.now) }
 {
-    if let Some(check) = held_check(held, issuer, today, item) {
+    if let Some(check) = held_check(held, sitting, item) {
         return Ok(Checked::Fails(check));
     }
-    match item.successor() {
-        Some(successor) => check_successor(alloc, view, item, &successor),
-        None => check_key(alloc, view, item),
+    match (sitting.rules, item.successor()) {
+        (Rules::First, Some(successor)) => check_successor(alloc, view, item, &successor),
+        (_, None) => check_key(alloc, view, item),
     }
 }
 
-// From C16 on, of an item with this successor.
+// From C16 on by rules 1, of an item with this successor.
 fn check_successor<V: View>(
     alloc: Global,
     view: &V,
@@ -46,7 +47,7 @@ fn check_successor<V: View>(
     successor: &Lei,
 ) -> Result<Checked, NoMemory>
     ensures { IfOk result (λ checked. checked
-        ≡ Judging.check_successor (V.cells view.now) item.now (Some successor.now)) }
+        ≡ Judging.check_successor Rules.First (V.cells view.now) item.now (Some successor.now)) }
 {
     match view.record_cell(successor) {
         Seen::Held(_) => check_walk(alloc, view, item, successor),

@@ -3,6 +3,8 @@ ghost use Rattle.std.specs.Prelude.{◌≡◌, ◌≤◌, IfOk, length, map};
 ghost use Rattle.lei_shapes.specs.Moment.{IsMoment, day_of};
 ghost use Rattle.lei_records.specs.Items.{ready as ready_of};
 ghost use Rattle.lei_records.specs.Tables.{record_count};
+ghost use Rattle.register_judge.specs.declared.sitting.Rules.{Rules};
+ghost use Rattle.register_judge.specs.Sittings.{sitting_by};
 ghost use Rattle.register_judge.specs.Taking.{take};
 ghost use Rattle.register_table.specs.Held.{rows};
 ghost use Rattle.register_state.specs.Judging.{ShowsTaken};
@@ -29,7 +31,9 @@ pub fn judge(
     requires moment { IsMoment moment }
     requires fits { record_count (rows table.now.held) ≤ records }
     ensures { IfOk result (λ outcome.
-        ShowsTaken outcome (take (rows table.now.held) records (day_of moment) issuer.now (map ready_of raws.now))) }
+        ShowsTaken outcome
+        (take (rows table.now.held) (sitting_by Rules.First records (day_of moment) issuer.now)
+        (map ready_of raws.now))) }
 {
     let items = ready_all(alloc, raws)?;
     let room = records.saturating_sub(table.held());

@@ -1,0 +1,22 @@
+//! The terms under which items are judged.
+use lei_code::Lei;
+
+/// By which rules items are judged. Each entry of the register names its rules by their number.
+#[derive(Debug, Clone, Copy, PartialEq, Eq)]
+pub enum Rules {
+    /// Number 1. There are no others yet.
+    First,
+}
+
+/// The terms under which the items of one upload are judged: the same for each of them.
+#[derive(Debug, Clone, Copy, PartialEq, Eq)]
+pub struct Sitting {
+    pub rules: Rules,
+    /// How many records there may be: all of a table, or, where only some of its cells are known, those
+    /// that are added.
+    pub limit: u32,
+    /// The day, counted from 1970-01-01.
+    pub today: i32,
+    /// The issuer that uploads the items.
+    pub issuer: Lei,
+}
