@@ -11,7 +11,8 @@ use Rattle.register_words.specs.declared.limits.Limits.{Limits}
 use Rattle.register_history.specs.Damage.{EntryDiffers, IsEntryDamage, missing}
 use Rattle.register_history.specs.Legal.{Legal, LegalAfter}
 use Rattle.lei_office.specs.Opening.{IsPageDamage, NextDiffers}
-use Rattle.register_history.specs.State.{office_of}
+use Rattle.register_history.specs.State.{OfficeState, office_of}
+use Rattle.register_state.specs.Books.{with_entry}
 use Rattle.register_history.proofs.AskedFor.{next-seq}
 use Rattle.register_history.proofs.Histories.{last_entry-push}
 
@@ -174,30 +175,32 @@ take-more (e ∷ page) zero stored within at = ap (λ x. x ∷ []) at
 take-more (e ∷ page) (suc i) stored within at = ap (λ l. e ∷ l) (take-more page i stored (omega (arith, within)) at)
 
 -- the entry there isn't what the replay makes, or another stands there
-pub page-differs : (limits : Limits) (before page history : History) (upto i : ℕ) (stored : KeptEntry) (damage : Damage) → i < length page → get_or page i stored ≡ stored
-    → history ≡ before ++ take i page → Legal (office_of limits history) → EntryDiffers (office_of limits history) (length history + 1) stored damage → IsPageDamage limits before page upto damage
-page-differs limits before page history upto i stored damage within at grown legal differs = record {
+pub page-differs : (before : OfficeState) (page : History) (now : OfficeState) (upto i : ℕ) (stored : KeptEntry) (damage : Damage) → i < length page → get_or page i stored ≡ stored
+    → now ≡ office_of before.limits (before.history ++ take i page) → Legal now → EntryDiffers now (length now.history + 1) stored damage → IsPageDamage before.limits before.history page upto damage
+page-differs before page now upto i stored damage within at grown legal differs = record {
   front = take i page;
   rest = stored ∷ drop (suc i) page;
   are = cut-at page i stored within at;
-  legal = subst (λ h. Legal (office_of limits h)) grown legal;
-  differs = subst (λ h. EntryDiffers (office_of limits h) (length h + 1) stored damage) grown differs;
+  legal = subst Legal grown legal;
+  differs = subst (λ o. EntryDiffers o (length o.history + 1) stored damage) grown differs;
 }
 
 -- none is stored behind a page
-pub page-lacks : (limits : Limits) (before page history : History) (upto : ℕ) (damage : Damage) → history ≡ before ++ page → Legal (office_of limits history) → length history + 1 ≤ upto
-    → damage ≡ missing (length history + 1) → IsPageDamage limits before page upto damage
-page-lacks limits before page history upto damage grown legal few missed = record {
+pub page-lacks : (before : OfficeState) (page : History) (now : OfficeState) (upto : ℕ) (damage : Damage) → now ≡ office_of before.limits (before.history ++ page) → Legal now
+    → length now.history + 1 ≤ upto → damage ≡ missing (length now.history + 1) → IsPageDamage before.limits before.history page upto damage
+page-lacks before page now upto damage grown legal few missed = record {
   front = page;
   rest = [];
   are = sym (append-nil page);
-  legal = subst (λ h. Legal (office_of limits h)) grown legal;
-  differs = subst (λ h. (length h + 1 ≤ upto) × (damage ≡ missing (length h + 1))) grown (few, missed);
+  legal = subst Legal grown legal;
+  differs = subst (λ o. (length o.history + 1 ≤ upto) × (damage ≡ missing (length o.history + 1))) grown (few, missed);
 }
 
 -- one more entry was replayed
-pub page-grows : (before page history later : History) (i : ℕ) (stored : KeptEntry) → i < length page → get_or page i stored ≡ stored → history ≡ before ++ take i page
-    → later ≡ history ++ stored ∷ [] → later ≡ before ++ take (i + 1) page
-page-grows before page history later i stored within at grown added =
-    added ∙ (ap (λ h. h ++ stored ∷ []) grown ∙ (append_assoc before (take i page) (stored ∷ [])
-    ∙ ap (λ l. before ++ l) (sym (take-more page i stored within at) ∙ ap (λ n. take n page) (sym (add-one i)))))
+pub page-grows : (before : OfficeState) (page : History) (now later : OfficeState) (i : ℕ) (stored : KeptEntry) → i < length page → get_or page i stored ≡ stored
+    → now ≡ office_of before.limits (before.history ++ take i page) → later ≡ with_entry now stored → later ≡ office_of before.limits (before.history ++ take (i + 1) page)
+page-grows before page now later i stored within at grown added =
+    let history = before.history in
+    let more : (history ++ take i page) ++ stored ∷ [] ≡ history ++ take (i + 1) page =
+    append_assoc history (take i page) (stored ∷ []) ∙ ap (λ l. history ++ l) (sym (take-more page i stored within at) ∙ ap (λ n. take n page) (sym (add-one i))) in
+    added ∙ (ap (λ o. with_entry o stored) grown ∙ ap (office_of before.limits) more)

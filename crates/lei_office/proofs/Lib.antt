@@ -2,4 +2,5 @@ pub mod Lines
 pub mod Differing
 pub mod ComparedPages
 pub mod Leading
+pub mod ReplayedEntries
 pub mod ReplayedPages

@@ -1,33 +1,34 @@
 -- What the parts of an opening find.
 use Rattle.std.specs.Prelude.{◌≡◌, ◌≤◌, ◌+◌, ℕ, List, [], ◌∷◌, ◌++◌, length, Option, Some, None, IfSome}
-use Rattle.std.specs.FinMap.{get}
 use Rattle.lei_code.specs.Texts.{Text}
 use Rattle.lei_outside.specs.Keeping.{KeptTables}
 use Rattle.lei_outside.specs.declared.entry.KeptEntry.{KeptEntry}
 use Rattle.lei_outside.specs.declared.keeper.KeptCell.{KeptCell}
-use Rattle.lei_records.specs.Tables.{KeyTexts}
-use Rattle.lei_records.specs.declared.view.RowKey.{RowKey}
-use Rattle.golden_shelf.specs.Shelves.{Kept}
-use Rattle.register_table.specs.Held.{Cell, Held, TableState, cell_key}
 use Rattle.upload_ledger.specs.History.{History}
-use Rattle.register_history.specs.declared.damage.Damage.{Damage}
+use Rattle.register_words.specs.Refusals.{reply_words}
 use Rattle.register_words.specs.declared.limits.Limits.{Limits}
+use Rattle.register_history.specs.declared.damage.Damage.{Damage}
+use Rattle.register_history.specs.Damage.{DifferFirst, EntryDiffers, IsCellDamage, IsDamage, IsEntryDamage, entry_line, missing, replayed}
+use Rattle.register_history.specs.Kept.{AreCellsOf, Keeps}
+use Rattle.register_history.specs.Legal.{IsNext, Legal}
+use Rattle.register_history.specs.Register.{held_after}
+use Rattle.register_history.specs.State.{OfficeState, office_of}
+use Rattle.register_state.specs.Books.{with_entry}
+use Rattle.register_state.specs.declared.decision.Decision.{Decision}
+use Rattle.register_state.specs.declared.decision.Decision.TheVariants.{Adds, Stays}
 use Rattle.lei_office.specs.declared.opening.Found.{Found}
 use Rattle.lei_office.specs.declared.opening.Found.TheVariants.{Damaged, Sound}
-use Rattle.register_history.specs.Damage.{DifferFirst, EntryDiffers, IsCellDamage, IsDamage, IsEntryDamage, missing, replayed}
-use Rattle.register_history.specs.Kept.{AreCellsOf, IsKey, Keeps}
-use Rattle.register_history.specs.Legal.{IsNext, Legal}
-use Rattle.register_history.specs.Register.{IsKeptAfter}
-use Rattle.register_state.specs.Shelving.{IsShelved}
-use Rattle.register_history.specs.State.{OfficeState, office_of}
 
--- A stored entry was replayed: where it is what the replay makes, it stands behind the others, and the table is the one
--- after it; else this is what the replay makes in its place.
-abbrev pub Replays : Limits → History → KeptEntry → History → TableState → Option Text → Type 0
-Replays limits before e after table None =
-    IsNext (office_of limits before) e × (after ≡ before ++ e ∷ []) × IsKeptAfter limits after table
-Replays limits before e after table (Some text) =
-    (IsNext (office_of limits before) e → ⊥) × (text ≡ replayed (office_of limits before) e)
+-- What is told where this is decided in the place of a stored entry: the words of a reply, or the line of another entry.
+abbrev pub decision_text : Decision → Text
+decision_text (Stays reply) = reply_words reply
+decision_text (Adds e list) = entry_line e
+
+-- A stored entry was replayed: where it is what the replay makes, it stands behind the others; else this is what the
+-- replay makes in its place.
+abbrev pub Replays : OfficeState → KeptEntry → OfficeState → Option Text → Type 0
+Replays before e after None = IsNext before e × (after ≡ with_entry before e)
+Replays before e after (Some text) = (IsNext before e → ⊥) × (text ≡ replayed before e)
 
 -- What differs where a stored entry of the next number should be: none up to the last number of a page is stored, or this
 -- is stored first.
@@ -44,38 +45,38 @@ pub record IsPageDamage (limits : Limits) (before page : History) (upto : ℕ) (
   pub legal : Legal (office_of limits (before ++ front))
   pub differs : NextDiffers (office_of limits (before ++ front)) (length (before ++ front) + 1) upto rest damage
 
--- The stored entries of a page were replayed: all of them lead on a legal history up to the number, and the table is the
--- one after them; or the first that differs was found.
-abbrev pub PageReplays : Limits → History → History → ℕ → History → TableState → Option Damage → Type 0
-PageReplays limits before page upto after table None =
-    (after ≡ before ++ page) × (upto ≤ length after) × Legal (office_of limits after) × IsKeptAfter limits after table
-PageReplays limits before page upto after table (Some damage) = IsPageDamage limits before page upto damage
+-- The stored entries of a page were replayed: all of them lead on a legal history up to the number; or the first that
+-- differs was found.
+abbrev pub PageReplays : OfficeState → History → ℕ → OfficeState → Option Damage → Type 0
+PageReplays before page upto after None =
+    (after ≡ office_of before.limits (before.history ++ page)) × (upto ≤ length after.history) × Legal after
+PageReplays before page upto after (Some damage) = IsPageDamage before.limits before.history page upto damage
 
--- The same of all stored entries, where the keeper tells them.
-abbrev pub AllReplay : Limits → Option KeptTables → History → TableState → Option Damage → Type 0
-AllReplay limits told after table None =
-    IfSome told (λ tables. tables.entries ≡ after) × Legal (office_of limits after) × IsKeptAfter limits after table
-AllReplay limits told after table (Some damage) = IfSome told (λ tables. IsEntryDamage limits tables.entries damage)
+-- The same of all stored entries under these limits, where the keeper tells them.
+abbrev pub AllReplay : Limits → Option KeptTables → OfficeState → Option Damage → Type 0
+AllReplay limits told after None =
+    IfSome told (λ tables. tables.entries ≡ after.history) × (after.limits ≡ limits) × Legal after
+AllReplay limits told after (Some damage) = IfSome told (λ tables. IsEntryDamage limits tables.entries damage)
 
 -- Two lists of cells are the same, or this is the first difference.
 abbrev pub Compares : List KeptCell → List KeptCell → Option Damage → Type 0
 Compares kept made None = kept ≡ made
 Compares kept made (Some damage) = DifferFirst kept made damage
 
--- A store was read: its entries are a legal history whose tables the keeper tells, the table is the one that it leaves, and
--- the shelf keeps its publications; or this is damage of the tables that the keeper tells.
-abbrev pub IsRead : Limits → Option KeptTables → History → TableState → Kept → Option Damage → Type 0
-IsRead limits told history table shelf None =
-    Legal (office_of limits history) × IsKeptAfter limits history table × Keeps told (office_of limits history)
-    × IsShelved limits history shelf
-IsRead limits told history table shelf (Some damage) = IfSome told (λ tables. IsDamage limits tables damage)
+-- A store was read: its entries are a legal history under these limits whose tables the keeper tells; or this is damage of
+-- the tables that the keeper tells.
+abbrev pub IsRead : Limits → Option KeptTables → OfficeState → Option Damage → Type 0
+IsRead limits told office None = (office.limits ≡ limits) × Legal office × Keeps told office
+IsRead limits told office (Some damage) = IfSome told (λ tables. IsDamage limits tables damage)
 
--- What a store was found to have: the history with its table and its shelf, or damage.
+-- What a store was found to have: the register of its entries, or damage.
 abbrev pub IsFound : Limits → Option KeptTables → Found → Type 0
-IsFound limits told (Sound ledger table shelf) = IsRead limits told ledger.entries table shelf.now None
+IsFound limits told (Sound register) = IsRead limits told register None
 IsFound limits told (Damaged damage) = IfSome told (λ tables. IsDamage limits tables damage)
 
 -- All pages of cells are the same, so that the keeper tells the cells of the register; or the first difference was found.
-abbrev pub AllCompare : ℕ → Held → Option KeptTables → Option Damage → Type 0
-AllCompare last held told None = IfSome told (λ tables. AreCellsOf held tables.cells)
-AllCompare last held told (Some damage) = IfSome told (λ tables. IsCellDamage last held tables damage)
+abbrev pub AllCompare : OfficeState → Option KeptTables → Option Damage → Type 0
+AllCompare office told None =
+    IfSome told (λ tables. AreCellsOf (held_after office.limits office.history) tables.cells)
+AllCompare office told (Some damage) = IfSome told (λ tables.
+    IsCellDamage (length office.history) (held_after office.limits office.history) tables damage)

@@ -4,38 +4,35 @@ ghost use Rattle.lei_outside.specs.Count.{Rose};
 ghost use Rattle.lei_outside.specs.Keeping.{AreKept, LeavesNoMore, Stays};
 ghost use Rattle.register_history.specs.Damage.{cell_or_none, kept_page, made_page, not_kept, not_made, page_bounds};
 ghost use Rattle.lei_office.specs.Opening.{AllCompare, Compares};
-ghost use Rattle.register_history.specs.Standing.{AllStand};
+ghost use Rattle.register_history.specs.Register.{held_after};
 
 use crate::damage::cell_line;
 use lei_outside::{Bytes, KeepFault, Keeper, KeptCell, NoMemory};
 use register_history::Damage;
-use register_state::touched_cells;
-use register_table::Table;
+use register_state::Register;
 use std::alloc::Global;
 
 /// So many entries are read at once, and the cells of so many are compared at once.
 pub const PAGE: u64 = 16;
 
-/// Compares all cells with those of a register after this many entries. Says the first that differs.
+/// Compares all cells with those of a register. Says the first that differs.
 pub fn compare_cells<K: Keeper>(
     alloc: Global,
     keeper: &mut K,
-    last: u64,
-    table: &Table,
+    register: &Register,
 ) -> Result<Option<Damage>, KeepFault>
-    requires few { last ≤ 10_000_000 }
-    requires kept { IfSome (K.tables keeper.old) AreKept }
-    requires stand { AllStand last table.now.held }
-    ensures compares { IfOk result (AllCompare last table.now.held (K.tables keeper.new)) }
+    requires { IfSome (K.tables keeper.old) AreKept }
+    ensures compares { IfOk result (AllCompare register.now (K.tables keeper.new)) }
     ensures same { Stays (K.tables keeper.old) (K.tables keeper.new) }
     ensures crash { LeavesNoMore (K.leaves keeper.old) (K.leaves keeper.new) }
     ensures count { K.faults keeper.old ≤ K.faults keeper.new }
     ensures faultless { ¬ (IsErrOf result KeepFault.Failed) → K.faults keeper.new ≡ K.faults keeper.old }
     ensures failed { IsErrOf result KeepFault.Failed → Rose (K.faults keeper.old) (K.faults keeper.new) }
 {
+    let last = register.entries().len() as u64;
     for page in 0..(last + PAGE - 1) / PAGE + 1 {
         let bounds = page_bounds(last, page);
-        match compare_page(alloc, keeper, bounds, table)? {
+        match compare_page(alloc, keeper, register, bounds)? {
             Some(damage) => return Ok(Some(damage)),
             None => {}
         }
@@ -60,11 +57,11 @@ fn page_bounds(last: u64, page: u64) -> (u64, u64)
 fn compare_page<K: Keeper>(
     alloc: Global,
     keeper: &mut K,
+    register: &Register,
     bounds: (u64, u64),
-    table: &Table,
 ) -> Result<Option<Damage>, KeepFault>
     ensures compares { IfOk result (λ found. IfSome (K.tables keeper.new)
-        (λ told. Compares (kept_page told bounds) (made_page table.now.held bounds) found)) }
+        (λ told. Compares (kept_page told bounds) (made_page (held_after register.now.limits register.now.history) bounds) found)) }
     ensures same { Stays (K.tables keeper.old) (K.tables keeper.new) }
     ensures crash { LeavesNoMore (K.leaves keeper.old) (K.leaves keeper.new) }
     ensures count { K.faults keeper.old ≤ K.faults keeper.new }
@@ -72,7 +69,7 @@ fn compare_page<K: Keeper>(
     ensures failed { IsErrOf result KeepFault.Failed → Rose (K.faults keeper.old) (K.faults keeper.new) }
 {
     let kept = keeper.cells(bounds.0, bounds.1)?;
-    let made = touched_cells(alloc, table, bounds.0, bounds.1)?;
+    let made = register.touched_cells(bounds.0, bounds.1)?;
     Ok(first_difference(alloc, kept.as_slice(), made.as_slice())?)
 }
 

@@ -1,5 +1,5 @@
 //! One caller's register.
-ghost use Rattle.std.specs.Prelude.{◌≡◌, ◌≤◌, Some, IfErr, IfOk, IsSome, OnErr, OnOk, option_map};
+ghost use Rattle.std.specs.Prelude.{◌≡◌, ◌≤◌, Some, IfErr, IfOk, option_map};
 ghost use Rattle.lei_shapes.specs.Moment.{IsMoment};
 ghost use Rattle.lei_outside.specs.Count.{Rose};
 ghost use Rattle.lei_outside.specs.Keeping.{LeavesNoMore, Stays};
@@ -9,61 +9,43 @@ ghost use Rattle.relation_rules.specs.Parents.{AreApart, HasParents};
 ghost use Rattle.upload_ledger.specs.History.{last_entry};
 ghost use Rattle.register_words.specs.declared.reply.Refusal.TheVariants.{KeeperFault};
 ghost use Rattle.register_words.specs.declared.reply.Reply.TheVariants.{Words};
+ghost use Rattle.register_words.specs.Requests.{IsNumbered};
+ghost use Rattle.register_words.specs.Limits.{AreLimits};
 ghost use Rattle.register_history.specs.Kept.{Keeps};
 ghost use Rattle.register_history.specs.Legal.{Legal, MomentsNeverFall, UploadsAreNumbered};
-ghost use Rattle.register_words.specs.Requests.{IsNumbered, IsRequest};
-ghost use Rattle.register_words.specs.Limits.{AreLimits};
 ghost use Rattle.register_history.specs.Parties.{ChangesArePermitted};
+ghost use Rattle.register_history.specs.Register.{after};
+ghost use Rattle.register_history.specs.Replies.{Step};
 ghost use Rattle.register_state.specs.Deciding.{reply_or};
 ghost use Rattle.lei_office.specs.Offices.{FaultRose, IsRefused, keeper_back};
-ghost use Rattle.register_history.specs.Register.{IsKeptAfter, after};
-ghost use Rattle.register_history.specs.Replies.{Step, StepOf, outcome_at};
-ghost use Rattle.register_state.specs.Shelving.{IsShelved, back_to};
-ghost use Rattle.register_history.specs.State.{office_of};
 
 use crate::opening::{Found, OpenFault, read_store};
-use golden_shelf::Shelf;
-use lei_outside::{KeepFault, Keeper, KeptEntry, NoMemory};
+use lei_outside::{KeepFault, Keeper, KeptEntry};
 use lei_shapes::Moment;
-use register_state::{Decision, add, decide, stamp};
-use register_table::Table;
+use register_state::Register;
 use register_words::{Limits, Refusal, Reply, Request};
 use std::alloc::Global;
 use std::marker::Model;
 use std::thread::Threads;
-use upload_format::Reader;
-use upload_ledger::{Ledger, PUBLISH};
 
 /// The register of one caller at a time, over a keeper of what it takes. Contracts see it as its limits with its history,
 /// the list of the entries that it took, and beside them the keeper.
 #[derive(Drop)]
 pub struct Office<K: Keeper> {
-    alloc: Global,
-    limits: Limits,
-    ledger: Ledger,
-    table: Table,
-    shelf: Shelf,
-    reader: Reader,
+    register: Register,
     keeper: K,
 }
 
 impl<K: Keeper> Model for Office<K> {
     ghost use Rattle.register_history.specs.Kept.{Keeps};
     ghost use Rattle.register_history.specs.Legal.{Legal};
-    ghost use Rattle.register_words.specs.Limits.{AreLimits};
     ghost use Rattle.lei_office.specs.Offices.{KeptOffice};
-    ghost use Rattle.register_history.specs.Register.{IsKeptAfter};
-    ghost use Rattle.register_state.specs.Shelving.{IsShelved};
-    ghost use Rattle.register_history.specs.State.{office_of};
 
     ghost Value = { KeptOffice K };
 
-    ghost view = { λ o. record { office = office_of o.limits o.ledger.entries; keeper = o.keeper } };
+    ghost view = { λ o. record { office = o.register; keeper = o.keeper } };
 
-    ghost invariant = { λ o. AreLimits o.limits × Legal (office_of o.limits o.ledger.entries)
-        × IsKeptAfter o.limits o.ledger.entries o.table
-        × Keeps (K.tables o.keeper) (office_of o.limits o.ledger.entries)
-        × IsShelved o.limits o.ledger.entries o.shelf.now };
+    ghost invariant = { λ o. Legal o.register × Keeps (K.tables o.keeper) o.register };
 }
 
 impl<K: Keeper> Office<K> {
@@ -79,6 +61,13 @@ impl<K: Keeper> Office<K> {
         requires limits { AreLimits limits }
         ensures limits { IfOk result (λ opened. opened.office.limits ≡ limits) }
         ensures legal { IfOk result (λ opened. Legal opened.office) }
+        ensures sound { IfOk result (λ opened. IsSound (after opened.office.limits opened.office.history)) }
+        ensures chained { IfOk result (λ opened. HasChains (after opened.office.limits opened.office.history)) }
+        ensures parents { IfOk result (λ opened. HasParents (after opened.office.limits opened.office.history)) }
+        ensures apart { IfOk result (λ opened. AreApart (after opened.office.limits opened.office.history)) }
+        ensures permitted { IfOk result (λ opened. ChangesArePermitted opened.office) }
+        ensures moments { IfOk result (λ opened. MomentsNeverFall opened.office.history) }
+        ensures uploads { IfOk result (λ opened. UploadsAreNumbered opened.office.history) }
         ensures kept { IfOk result (λ opened. Keeps (K.tables opened.keeper) opened.office) }
         ensures same { IfOk result (λ opened. Stays (K.tables keeper) (K.tables opened.keeper)) }
         ensures crash { IfOk result (λ opened. LeavesNoMore (K.leaves keeper) (K.leaves opened.keeper)) }
@@ -89,15 +78,7 @@ impl<K: Keeper> Office<K> {
         ensures failed { IfErr result (λ fault. FaultRose (K.faults keeper) (K.faults (keeper_back fault)) fault) }
     {
         match read_store(rt, alloc, limits, &mut keeper) {
-            Ok(Found::Sound(ledger, table, shelf)) => Ok(Office {
-                alloc,
-                limits,
-                ledger,
-                table,
-                shelf,
-                reader: Reader::new(alloc),
-                keeper,
-            }),
+            Ok(Found::Sound(register)) => Ok(Office { register, keeper }),
             Ok(Found::Damaged(damage)) => Err(OpenFault::StoreDamaged(keeper, damage)),
             Err(KeepFault::Failed) => Err(OpenFault::KeeperFault(keeper)),
             Err(KeepFault::NoMemory) => Err(OpenFault::NoMemory(keeper)),
@@ -108,15 +89,17 @@ impl<K: Keeper> Office<K> {
     pub fn limits(&self) -> Limits
         ensures value { result ≡ self.now.office.limits }
         ensures limits { AreLimits result }
+        ensures legal { Legal self.now.office }
+        ensures kept { Keeps (K.tables self.now.keeper) self.now.office }
     {
-        self.limits
+        self.register.limits()
     }
 
     /// The moment of its last entry.
     pub fn last_moment(&self) -> Option<Moment>
         ensures { result ≡ option_map (λ e. e.moment) (last_entry self.now.office.history) }
     {
-        let entry = self.ledger.entries().last()?;
+        let entry = self.register.entries().last()?;
         moment_of(entry)
     }
 
@@ -124,6 +107,7 @@ impl<K: Keeper> Office<K> {
     pub fn close(self) -> K
         ensures keeper { result ≡ self.keeper }
         ensures kept { Keeps (K.tables result) self.office }
+        ensures legal { Legal self.office }
     {
         self.keeper
     }
@@ -147,19 +131,7 @@ impl<K: Keeper> Office<K> {
         ensures moments { MomentsNeverFall self.new.office.history }
         ensures uploads { UploadsAreNumbered self.new.office.history }
     {
-        let moment = stamp(self.ledger.entries(), moment);
-        reply_to(
-            rt,
-            self.alloc,
-            self.limits,
-            &mut self.ledger,
-            &mut self.table,
-            &mut self.shelf,
-            &mut self.reader,
-            &mut self.keeper,
-            request,
-            moment,
-        )
+        reply_or(self.register.answer(rt, &mut self.keeper, request, moment))
     }
 }
 
@@ -170,60 +142,11 @@ fn moment_of(entry: &KeptEntry) -> Option<Moment>
     Moment::of(entry.moment)
 }
 
-// The reply to a request, where an entry that is added has this moment.
-fn reply_to<K: Keeper, R: Threads + Sync>(
-    rt: &R,
-    alloc: Global,
-    limits: Limits,
-    ledger: &mut Ledger,
-    table: &mut Table,
-    shelf: &mut Shelf,
-    reader: &mut Reader,
-    keeper: &mut K,
-    request: &Request,
-    moment: i64,
-) -> Reply
-    requires limits { AreLimits limits }
-    requires numbered { IsNumbered request.now }
-    requires moment { IsMoment moment }
-    requires legal { Legal (office_of limits ledger.old.entries) }
-    requires table { IsKeptAfter limits ledger.old.entries table.old }
-    requires shelf { IsShelved limits ledger.old.entries shelf.old.now }
-    requires kept { Keeps (K.tables keeper.old) (office_of limits ledger.old.entries) }
-    ensures step { StepOf request.now (outcome_at (office_of limits ledger.old.entries) request.now moment)
-        (office_of limits ledger.old.entries) result (office_of limits ledger.new.entries) }
-    ensures table { IsKeptAfter limits ledger.new.entries table.new }
-    ensures shelf { IsShelved limits ledger.new.entries shelf.new.now }
-    ensures kept { Keeps (K.tables keeper.new) (office_of limits ledger.new.entries) }
-    ensures count { K.faults keeper.old ≤ K.faults keeper.new }
-    ensures faultless { ¬ (result ≡ Words KeeperFault) → K.faults keeper.new ≡ K.faults keeper.old }
-    ensures fault { result ≡ Words KeeperFault → Rose (K.faults keeper.old) (K.faults keeper.new) }
-    ensures request { IsRequest request.now }
+// The reply, or why there is none.
+fn reply_or(answered: Result<Reply, KeepFault>) -> Reply
+    ensures { result ≡ reply_or answered }
 {
-    match decide(
-        rt, alloc, limits, ledger, table, shelf, reader, request, moment,
-    ) {
-        Ok(Decision::Stays(reply)) => reply,
-        Ok(Decision::Adds(entry, writes)) => {
-            let publishes = entry.kind == PUBLISH;
-            let added = add(alloc, ledger, table, keeper, entry, &writes);
-            told_or_taken_back(shelf, publishes, added)
-        }
-        Err(NoMemory) => Reply::Words(Refusal::NoMemory),
-    }
-}
-
-// The reply where an entry was to be added. Where it wasn't and is a publication, that is taken back from the shelf.
-fn told_or_taken_back(shelf: &mut Shelf, publishes: bool, added: Result<Reply, KeepFault>) -> Reply
-    requires shelf { IsSome (back_to publishes shelf.old) }
-    ensures reply { result ≡ reply_or added }
-    ensures kept { OnOk added (shelf.new.now ≡ shelf.old.now) }
-    ensures back { OnErr added (Some shelf.new.now ≡ back_to publishes shelf.old) }
-{
-    if publishes && added.is_err() {
-        shelf.undo();
-    }
-    match added {
+    match answered {
         Ok(reply) => reply,
         Err(KeepFault::NoMemory) => Reply::Words(Refusal::NoMemory),
         Err(KeepFault::Failed) => Reply::Words(Refusal::KeeperFault),

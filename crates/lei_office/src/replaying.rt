@@ -1,61 +1,38 @@
 //! Stored entries are replayed: each is asked again as its own request, at its own moment.
-ghost use Rattle.std.specs.Prelude.{◌≡◌, ◌+◌, ◌++◌, ◌∷◌, [], IfOk, IfSome, IsTrue, OnOk, Some, option_map};
-ghost use Rattle.lei_records.specs.Tables.{put_all};
+ghost use Rattle.std.specs.Prelude.{◌≡◌, IfOk, IfSome, Some, option_map};
 ghost use Rattle.lei_shapes.specs.Moment.{IsMoment};
-ghost use Rattle.register_table.specs.Held.{rows};
-ghost use Rattle.register_table.specs.Undos.{IsLater, MayApply, touch_all};
-ghost use Rattle.upload_ledger.specs.History.{stamp};
-ghost use Rattle.upload_ledger.specs.Limits.{AreFew};
 ghost use Rattle.register_history.specs.Damage.{accreditation_in, asked_by, missing, publication_in, request_in, upload_in};
-ghost use Rattle.register_history.specs.Legal.{Legal};
-ghost use Rattle.register_words.specs.Requests.{IsNumbered};
-ghost use Rattle.register_words.specs.Limits.{AreLimits};
-ghost use Rattle.lei_office.specs.Opening.{PageReplays, Replays};
-ghost use Rattle.register_history.specs.Register.{IsKeptAfter};
-ghost use Rattle.register_state.specs.Shelving.{IsShelved, ShelvesUnless};
-ghost use Rattle.register_history.specs.State.{office_of};
 ghost use Rattle.register_words.specs.Refusals.{reply_words};
+ghost use Rattle.register_words.specs.Requests.{IsNumbered};
+ghost use Rattle.lei_office.specs.Opening.{PageReplays, Replays, decision_text};
 
 use crate::damage::entry_line;
-use golden_shelf::Shelf;
 use lei_code::Lei;
 use lei_outside::{Bytes, KeptEntry, NoMemory};
-use lei_records::Writes;
 use lei_shapes::Moment;
 use register_history::Damage;
-use register_state::{Decision, decide, stamp};
-use register_table::Table;
-use register_words::{Call, Limits, Reply, Request, is_upload_number};
+use register_state::{Decision, Register};
+use register_words::{Call, Reply, Request, is_upload_number};
 use std::alloc::Global;
 use std::thread::Threads;
-use upload_format::Reader;
-use upload_ledger::{ACCREDIT, Ledger, PUBLISH, UPLOAD};
+use upload_ledger::{ACCREDIT, PUBLISH, UPLOAD};
 
 /// Replays the stored entries of a page, which are to be those up to the number `upto`. Says the first that differs.
 pub fn replay_page<R: Threads + Sync>(
     rt: &R,
     alloc: Global,
-    limits: Limits,
-    ledger: &mut Ledger,
-    table: &mut Table,
-    shelf: &mut Shelf,
-    reader: &mut Reader,
+    register: &mut Register,
     page: &[KeptEntry],
     upto: u64,
 ) -> Result<Option<Damage>, NoMemory>
-    requires limits { AreLimits limits }
-    requires legal { Legal (office_of limits ledger.old.entries) }
-    requires table { IsKeptAfter limits ledger.old.entries table.old }
-    requires shelf { IsShelved limits ledger.old.entries shelf.old.now }
-    ensures replays { IfOk result (PageReplays limits ledger.old.entries page.now upto ledger.new.entries table.new) }
-    ensures shelf { IfOk result (λ damage. ShelvesUnless damage limits ledger.new.entries shelf.new.now) }
+    ensures { IfOk result (PageReplays register.old page.now upto register.new) }
 {
     for stored in page {
-        let number = ledger.entries().len() as u64 + 1;
+        let number = register.entries().len() as u64 + 1;
         if stored.seq != number {
             return Ok(Some(missing(alloc, number)?));
         }
-        match replay(rt, alloc, limits, ledger, table, shelf, reader, stored)? {
+        match replay(rt, alloc, register, stored)? {
             Some(replayed) => {
                 let kept = entry_line(alloc, stored)?;
                 return Ok(Some(Damage {
@@ -67,7 +44,7 @@ pub fn replay_page<R: Threads + Sync>(
             None => {}
         }
     }
-    let number = ledger.entries().len() as u64 + 1;
+    let number = register.entries().len() as u64 + 1;
     if number <= upto {
         return Ok(Some(missing(alloc, number)?));
     }
@@ -89,97 +66,45 @@ fn missing(alloc: Global, number: u64) -> Result<Damage, NoMemory>
 fn replay<R: Threads + Sync>(
     rt: &R,
     alloc: Global,
-    limits: Limits,
-    ledger: &mut Ledger,
-    table: &mut Table,
-    shelf: &mut Shelf,
-    reader: &mut Reader,
+    register: &mut Register,
     stored: &KeptEntry,
 ) -> Result<Option<Bytes>, NoMemory>
-    requires limits { AreLimits limits }
-    requires legal { Legal (office_of limits ledger.old.entries) }
-    requires table { IsKeptAfter limits ledger.old.entries table.old }
-    requires shelf { IsShelved limits ledger.old.entries shelf.old.now }
-    ensures replays { IfOk result (Replays limits ledger.old.entries stored.now ledger.new.entries table.new) }
-    ensures shelf { IfOk result (λ told. ShelvesUnless told limits ledger.new.entries shelf.new.now) }
+    ensures { IfOk result (Replays register.old stored.now register.new) }
 {
     match asked_by(alloc, stored)? {
-        Some((request, moment)) => {
-            let moment = stamp(ledger.entries(), moment);
-            replay_request(
-                rt, alloc, limits, ledger, table, shelf, reader, &request, moment, stored,
-            )
-        }
+        Some((request, moment)) => replay_request(rt, alloc, register, &request, moment, stored),
         None => Ok(Some(Bytes::copy_of(alloc, b"NOT_AN_ENTRY")?)),
     }
 }
 
-// Replays a stored entry that was taken for this request, where the next entry has this moment.
+// Replays a stored entry that was taken for this request, at its moment.
 fn replay_request<R: Threads + Sync>(
     rt: &R,
     alloc: Global,
-    limits: Limits,
-    ledger: &mut Ledger,
-    table: &mut Table,
-    shelf: &mut Shelf,
-    reader: &mut Reader,
+    register: &mut Register,
     request: &Request,
-    moment: i64,
+    moment: Moment,
     stored: &KeptEntry,
 ) -> Result<Option<Bytes>, NoMemory>
-    requires limits { AreLimits limits }
     requires numbered { IsNumbered request.now }
-    requires moment { IsMoment moment }
-    requires stored_moment { IsMoment stored.now.moment }
-    requires stamp { moment ≡ stamp ledger.old.entries stored.now.moment }
+    requires moment { moment ≡ stored.now.moment }
     requires asked { asked_by stored.now ≡ Some request.now }
-    requires legal { Legal (office_of limits ledger.old.entries) }
-    requires table { IsKeptAfter limits ledger.old.entries table.old }
-    requires shelf { IsShelved limits ledger.old.entries shelf.old.now }
-    ensures replays { IfOk result (Replays limits ledger.old.entries stored.now ledger.new.entries table.new) }
-    ensures shelf { IfOk result (λ told. ShelvesUnless told limits ledger.new.entries shelf.new.now) }
+    ensures { IfOk result (Replays register.old stored.now register.new) }
 {
-    match decide(
-        rt, alloc, limits, ledger, table, shelf, reader, request, moment,
-    )? {
-        Decision::Stays(reply) => Ok(Some(reply_words(alloc, reply)?)),
-        Decision::Adds(entry, writes) => {
-            if !is_same(&entry, stored) {
-                return Ok(Some(entry_line(alloc, &entry)?));
-            }
-            put(ledger, table, entry, &writes)?;
-            Ok(None)
-        }
+    match register.replay(rt, request, moment, stored)? {
+        Some(decision) => Ok(Some(decision_text(alloc, decision)?)),
+        None => Ok(None),
     }
 }
 
-// Whether two entries are the same.
-fn is_same(entry: &KeptEntry, other: &KeptEntry) -> bool
-    ensures same { IsTrue result → entry.now ≡ other.now }
-    ensures apart { entry.now ≡ other.now → IsTrue result }
+// What is told where this is decided in the place of a stored entry.
+fn decision_text(alloc: Global, decision: Decision) -> Result<Bytes, NoMemory>
+    ensures { IfOk result (λ text. text ≡ decision_text decision) }
 {
-    entry == other
-}
-
-// Puts an entry that is kept already, with its writes.
-fn put(
-    ledger: &mut Ledger,
-    table: &mut Table,
-    entry: KeptEntry,
-    writes: &Writes,
-) -> Result<(), NoMemory>
-    requires may { MayApply writes.now (rows table.old.held) }
-    requires later { IsLater entry.seq table.old.held }
-    requires few { AreFew (ledger.old.entries ++ entry ∷ []) }
-    ensures entries { OnOk result (ledger.new.entries ≡ ledger.old.entries ++ entry ∷ []) }
-    ensures held { OnOk result (table.new.held ≡ touch_all entry.seq writes.now table.old.held) }
-    ensures rows { OnOk result (rows table.new.held ≡ put_all writes.now (rows table.old.held)) }
-    ensures numbers { OnOk result (IsLater (entry.seq + 1) table.new.held) }
-{
-    table.apply(writes, entry.seq)?;
-    ledger.reserve(&entry)?;
-    ledger.push_reserved(entry);
-    Ok(())
+    match decision {
+        Decision::Stays(reply) => reply_words(alloc, reply),
+        Decision::Adds(entry, _) => entry_line(alloc, &entry),
+    }
 }
 
 // What is told in a reply.

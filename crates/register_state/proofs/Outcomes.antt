@@ -1,5 +1,5 @@
 -- What a request is not refused with: that nothing can be kept is found by the keeper alone.
-use Rattle.std.proofs.Common.{◌≡◌, ℕ, ◌+◌, ℤ, List, ◌||◌, ◌==◌, Bool, true, false, cond, ltb, length, is_some, Option, Some, None, Result, Ok, Err, subst, ◌∙◌}
+use Rattle.std.proofs.Common.{◌≡◌, ℕ, ℤ, List, ◌||◌, ◌==◌, Bool, true, false, cond, ltb, length, is_some, Option, Some, None, Result, Ok, Err, subst, ◌∙◌}
 use Rattle.upload_format.specs.Bodies.{upload}
 use Rattle.register_words.specs.declared.malformed.Malformed.{Malformed}
 use Rattle.lei_code.specs.Texts.{Lei, Text}
@@ -7,7 +7,8 @@ use Rattle.lei_records.specs.Rows.{Row}
 use Rattle.lei_records.specs.Tables.{row_at}
 use Rattle.lei_records.specs.declared.item.RawItem.{RawItem}
 use Rattle.lei_outside.specs.declared.entry.KeptEntry.{KeptEntry}
-use Rattle.register_state.specs.Deciding.{AddsNext, Decides}
+use Rattle.register_state.specs.Books.{writes_of}
+use Rattle.register_state.specs.Deciding.{AddsNext, Decides, FitsNext}
 use Rattle.register_state.specs.declared.decision.Decision.{Decision}
 use Rattle.register_state.specs.declared.decision.Decision.TheVariants.{Adds, Stays}
 use Rattle.register_words.specs.declared.sheets.Form.{Form}
@@ -17,7 +18,7 @@ use Rattle.golden_shelf.specs.declared.fault.ShelfFault.{ShelfFault}
 use Rattle.golden_shelf.specs.Bases.{base_in, moments_of}
 use Rattle.golden_shelf.specs.Shelves.{latest}
 use Rattle.register_table.specs.Undos.{WriteList}
-use Rattle.upload_ledger.specs.History.{History, accredited, ahead, fresh, kept, number_taken, Place, place, published, repeat_of, unknown_issuer}
+use Rattle.upload_ledger.specs.History.{accredited, ahead, fresh, kept, number_taken, Place, place, published, repeat_of, unknown_issuer}
 use Rattle.register_words.specs.declared.reply.Refusal.TheVariants as refusals
 use Rattle.register_words.specs.declared.reply.Refusal.TheVariants.{KeeperFault}
 use Rattle.register_words.specs.declared.reply.Reply.{Reply}
@@ -31,20 +32,20 @@ use Rattle.register_history.specs.Replies.{Outcome, accredit_outcome, accreditat
 use Rattle.register_history.specs.State.{OfficeState}
 
 -- what was decided, by what it is
-pub stays_of : (request : Request) (outcome : Outcome) (writes : KeptEntry → WriteList) (decision : Decision) (reply : Reply) → decision ≡ Stays reply
-    → Decides request outcome writes (Ok decision) → outcome ≡ stays reply
-stays_of request outcome writes decision reply is decides = (let D : Decision → Type 0 = λ d. Decides request outcome writes (Ok d) in subst D is decides)
+pub stays_of : (office : OfficeState) (request : Request) (outcome : Outcome) (decision : Decision) (reply : Reply) → decision ≡ Stays reply
+    → Decides office request outcome (Ok decision) → outcome ≡ stays reply
+stays_of office request outcome decision reply is decides = (let D : Decision → Type 0 = λ d. Decides office request outcome (Ok d) in subst D is decides)
 
-pub adds_is : (request : Request) (outcome : Outcome) (writes : KeptEntry → WriteList) (decision : Decision) (entry : KeptEntry) (list : WriteList) → decision ≡ Adds entry list
-    → Decides request outcome writes (Ok decision) → outcome ≡ adds entry
-adds_is request outcome writes decision entry list is decides = (let D : Decision → Type 0 = λ d. Decides request outcome writes (Ok d) in (subst D is decides).0)
+pub adds_is : (office : OfficeState) (request : Request) (outcome : Outcome) (decision : Decision) (entry : KeptEntry) (list : WriteList) → decision ≡ Adds entry list
+    → Decides office request outcome (Ok decision) → outcome ≡ adds entry
+adds_is office request outcome decision entry list is decides = (let D : Decision → Type 0 = λ d. Decides office request outcome (Ok d) in (subst D is decides).0)
 
-pub adds_of : (request : Request) (outcome : Outcome) (writes : KeptEntry → WriteList) (decision : Decision) (entry : KeptEntry) (list : WriteList) → decision ≡ Adds entry list
-    → Decides request outcome writes (Ok decision) → list ≡ writes entry
-adds_of request outcome writes decision entry list is decides = (let D : Decision → Type 0 = λ d. Decides request outcome writes (Ok d) in (subst D is decides).1)
+pub adds_of : (office : OfficeState) (request : Request) (outcome : Outcome) (decision : Decision) (entry : KeptEntry) (list : WriteList) → decision ≡ Adds entry list
+    → Decides office request outcome (Ok decision) → list ≡ writes_of office entry
+adds_of office request outcome decision entry list is decides = (let D : Decision → Type 0 = λ d. Decides office request outcome (Ok d) in (subst D is decides).1)
 
-pub next_number : (history : History) (decision : Decision) (entry : KeptEntry) (list : WriteList) → decision ≡ Adds entry list → AddsNext history (Ok decision) → entry.seq ≡ length history + 1
-next_number history decision entry list is next = (let D : Decision → Type 0 = λ d. AddsNext history (Ok d) in (subst D is next).0)
+pub next_of : (office : OfficeState) (decision : Decision) (entry : KeptEntry) (list : WriteList) → decision ≡ Adds entry list → AddsNext office (Ok decision) → FitsNext office entry
+next_of office decision entry list is next = (let D : Decision → Type 0 = λ d. AddsNext office (Ok d) in subst D is next)
 
 -- the reply of an outcome that adds nothing is not that
 abbrev IsNoFault : Outcome → Type 0

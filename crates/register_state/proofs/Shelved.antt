@@ -1,7 +1,7 @@
 -- The shelf of a history that grows by an entry.
-use Rattle.std.proofs.Common.{◌≡◌, ℕ, ℤ, ◌≤◌, ◌<◌, List, [], ◌∷◌, ◌++◌, length, Bool, true, false, cond, ◌==◌, Option, Some, None, Result, Ok, Err, refl, sym, ap, subst, ◌∙◌, arith, suc, get_or, take, drop, filter, drop-cons, take-append-drop}
+use Rattle.std.proofs.Common.{◌≡◌, ℕ, ℤ, ◌≤◌, ◌<◌, List, [], ◌∷◌, ◌++◌, length, Bool, true, false, cond, ◌==◌, Some, Result, Ok, Err, refl, sym, ap, subst, ◌∙◌, arith, suc, get_or, take, drop, filter, drop-cons, take-append-drop}
 use Rattle.std.proofs.lemmas.List.Elements.{filter-append}
-use Rattle.std.specs.Prelude.{IsSome, IsTrue, MatchResult, OnErr, OnOk}
+use Rattle.std.specs.Prelude.{IsTrue, MatchResult}
 use Rattle.std.proofs.lemmas.Bool.{eqb-true}
 use Rattle.register_words.specs.declared.sheets.Form.{Form}
 use Rattle.register_words.specs.declared.sheets.Sheet.{Sheet}
@@ -16,17 +16,14 @@ use Rattle.golden_shelf.specs.declared.issue.Issue.{Issue}
 use Rattle.golden_shelf.specs.Shelves.{AreIssuesOf, Kept, Keeps as KeepsTrail, ShelfState, last_behind, latest, latest_rows, rows_in}
 use Rattle.lei_outside.specs.Keeping.{number_of}
 use Rattle.lei_outside.specs.declared.entry.KeptEntry.{KeptEntry}
-use Rattle.lei_outside.specs.declared.faults.KeepFault.{KeepFault}
 use Rattle.lei_outside.specs.declared.faults.NoMemory.{NoMemory}
 use Rattle.register_table.specs.Held.{Held}
 use Rattle.register_table.specs.Touched.{touched as touched_cells}
-use Rattle.register_table.specs.Undos.{WriteList}
 use Rattle.upload_ledger.specs.History.{History, is_publication, last_entry, publications}
 use Rattle.register_state.specs.declared.decision.Decision.{Decision}
 use Rattle.register_state.specs.declared.decision.Decision.TheVariants.{Adds, Stays}
 use Rattle.register_words.specs.declared.limits.Limits.{Limits}
 use Rattle.register_words.specs.declared.reply.Refusal.TheVariants.{NoBase, NothingPublished, PublicationUnknown}
-use Rattle.register_words.specs.declared.reply.Reply.{Reply}
 use Rattle.register_words.specs.declared.reply.Reply.TheVariants.{Text, Words}
 use Rattle.register_words.specs.declared.request.Request.{Request}
 use Rattle.register_words.specs.declared.request.Request.TheVariants.{Accredit, Copy, Delta, Publish, Upload}
@@ -45,14 +42,14 @@ use Rattle.register_history.proofs.TrailGrowth.{trail-length, trail-push, trail-
 
 -- ---- no entry yet
 
-pub shelved-none : (limits : Limits) (kept : Kept) → KeepsTrail [] kept → IsShelved limits [] kept
+pub shelved-none : (limits : Limits) (kept : Kept) → KeepsTrail [] kept → IsShelved (office_of limits []) kept
 unfolding trail
 shelved-none limits kept keeps = keeps
 
 -- ---- an entry that publishes nothing
 
 -- the trail stays
-pub same-shelved : (limits : Limits) (history : History) (e : KeptEntry) (kept : Kept) → is_publication e ≡ false → IsShelved limits history kept → IsShelved limits (history ++ e ∷ []) kept
+pub same-shelved : (limits : Limits) (history : History) (e : KeptEntry) (kept : Kept) → is_publication e ≡ false → IsShelved (office_of limits history) kept → IsShelved (office_of limits (history ++ e ∷ [])) kept
 same-shelved limits history e kept is shelved = subst (λ t. KeepsTrail t kept) (sym (trail-same limits history e is)) shelved
 
 -- an entry that was taken for another request publishes nothing
@@ -73,30 +70,30 @@ kind_apart e request asked other = by_kind (e.kind == 3) refl
         let same : Publish e.number ≡ request = cc in
         ap publishes same ∙ other
 
-pub other-shelves : (limits : Limits) (history : History) (request : Request) (moment : ℤ) (writes : KeptEntry → WriteList) (shelf : ShelfState) (result : Result Decision NoMemory)
-    → publishes request ≡ false → IsShelved limits history shelf.now → Decides request (outcome_at (office_of limits history) request moment) writes result → Shelves limits history shelf result shelf
-other-shelves limits history request moment writes shelf (Ok (Stays reply)) other shelved decides = refl
-other-shelves limits history request moment writes shelf (Ok (Adds e list)) other shelved decides =
+pub other-shelves : (limits : Limits) (history : History) (request : Request) (moment : ℤ) (shelf : ShelfState) (result : Result Decision NoMemory)
+    → publishes request ≡ false → IsShelved (office_of limits history) shelf.now → Decides (office_of limits history) request (outcome_at (office_of limits history) request moment) result → Shelves (office_of limits history) shelf result shelf
+other-shelves limits history request moment shelf (Ok (Stays reply)) other shelved decides = refl
+other-shelves limits history request moment shelf (Ok (Adds e list)) other shelved decides =
     let added = request_adds (office_of limits history) request moment e decides.0 in
     let none = kind_apart e request added.for_request other in
     (same-shelved limits history e shelf.now none shelved, ap (λ b. back_to b shelf) none)
-other-shelves limits history request moment writes shelf (Err wanted) other shelved decides = refl
+other-shelves limits history request moment shelf (Err wanted) other shelved decides = refl
 
-pub accredit-shelves : (limits : Limits) (history : History) (issuer : List ℕ) (moment : ℤ) (writes : KeptEntry → WriteList) (shelf : ShelfState) (result : Result Decision NoMemory)
-    → IsShelved limits history shelf.now → Decides (Accredit issuer) (outcome_at (office_of limits history) (Accredit issuer) moment) writes result → Shelves limits history shelf result shelf
-accredit-shelves limits history issuer moment writes shelf result shelved decides =
-    other-shelves limits history (Accredit issuer) moment writes shelf result refl shelved decides
+pub accredit-shelves : (limits : Limits) (history : History) (issuer : List ℕ) (moment : ℤ) (shelf : ShelfState) (result : Result Decision NoMemory)
+    → IsShelved (office_of limits history) shelf.now → Decides (office_of limits history) (Accredit issuer) (outcome_at (office_of limits history) (Accredit issuer) moment) result → Shelves (office_of limits history) shelf result shelf
+accredit-shelves limits history issuer moment shelf result shelved decides =
+    other-shelves limits history (Accredit issuer) moment shelf result refl shelved decides
 
-pub upload-shelves : (limits : Limits) (history : History) (call : Call) (moment : ℤ) (writes : KeptEntry → WriteList) (shelf : ShelfState) (result : Result Decision NoMemory)
-    → IsShelved limits history shelf.now → Decides (Upload call) (outcome_at (office_of limits history) (Upload call) moment) writes result → Shelves limits history shelf result shelf
-upload-shelves limits history call moment writes shelf result shelved decides =
-    other-shelves limits history (Upload call) moment writes shelf result refl shelved decides
+pub upload-shelves : (limits : Limits) (history : History) (call : Call) (moment : ℤ) (shelf : ShelfState) (result : Result Decision NoMemory)
+    → IsShelved (office_of limits history) shelf.now → Decides (office_of limits history) (Upload call) (outcome_at (office_of limits history) (Upload call) moment) result → Shelves (office_of limits history) shelf result shelf
+upload-shelves limits history call moment shelf result shelved decides =
+    other-shelves limits history (Upload call) moment shelf result refl shelved decides
 
 -- ---- a publication
 
 -- the trail has one more
 pub next-shelved : (limits : Limits) (history : History) (e : KeptEntry) (kept : Kept) → is_publication e ≡ true
-    → KeepsTrail (trail (office_of limits history) ++ publication_by limits history e ∷ []) kept → IsShelved limits (history ++ e ∷ []) kept
+    → KeepsTrail (trail (office_of limits history) ++ publication_by limits history e ∷ []) kept → IsShelved (office_of limits (history ++ e ∷ [])) kept
 next-shelved limits history e kept is keeps =
     let made = trail (office_of limits history) in
     let same : trail (office_of limits (history ++ e ∷ [])) ≡ made ++ publication_by limits history e ∷ [] =
@@ -122,7 +119,7 @@ issues-length (issue ∷ issues) [] are = absurd are
 issues-length (issue ∷ issues) (publication ∷ made) are = let rest = issues-length issues made are.1 in omega (arith, rest)
 
 -- there is room for one more
-pub shelf-few : (limits : Limits) (history : History) (kept : Kept) (number : ℕ) → IsShelved limits history kept → number ≤ 1_000_000 → number ≡ next_publication history
+pub shelf-few : (limits : Limits) (history : History) (kept : Kept) (number : ℕ) → IsShelved (office_of limits history) kept → number ≤ 1_000_000 → number ≡ next_publication history
     → length kept.issues < 1_000_000
 shelf-few limits history kept number shelved most next =
     let made = issues-length kept.issues (trail (office_of limits history)) shelved.issues_are in
@@ -131,7 +128,7 @@ shelf-few limits history kept number shelved most next =
 
 -- the shelf with the next publication keeps the history with its entry
 pub published-shelved : (limits : Limits) (history : History) (number : ℕ) (moment : ℤ) (changes : Changes) (old new : Kept) → Legal (office_of limits history) → AreNextChanges limits history changes
-    → IsShelved limits history old
+    → IsShelved (office_of limits history) old
     → ((made : Trail) (next : Publication) → KeepsTrail made old → IsIssued (latest_rows made) moment changes next → KeepsTrail (made ++ next ∷ []) new)
     → KeepsTrail (trail (office_of limits history) ++ publication_by limits history (publication_entry (office_of limits history) number moment) ∷ []) new
 published-shelved limits history number moment changes old new legal are shelved publish =
@@ -157,36 +154,6 @@ published-counted limits history made e counts lei rr repex =
     let second = rr ∙ at Sheet.Rr in
     let third = repex ∙ at Sheet.Repex in
     λ i. (first i, second i, third i)
-
--- ---- an entry that was to be added
-
-some_is : {X : Type 0} (x : X) (found : Option X) → found ≡ Some x → IsSome found
-some_is x None is = cc
-some_is x (Some other) is = refl
-
--- what was kept before stands there still
-pub back-is_some : (limits : Limits) (history : History) (e : KeptEntry) (list : WriteList) (old new : ShelfState) → Shelves limits history old (Ok (Adds e list)) new → IsSome (back_to (is_publication e) new)
-back-is_some limits history e list old new shelves = some_is old.now (back_to (is_publication e) new) shelves.1
-
--- it was added, or the shelf came back to what it kept
-pub told-shelved : (limits : Limits) (history later : History) (e : KeptEntry) (list : WriteList) (old between new : ShelfState) (added : Result Reply KeepFault) → IsShelved limits history old.now
-    → Shelves limits history old (Ok (Adds e list)) between → OnOk added (later ≡ history ++ e ∷ []) → OnErr added (later ≡ history) → OnOk added (new.now ≡ between.now)
-    → OnErr added (Some new.now ≡ back_to (is_publication e) between) → IsShelved limits later new.now
-told-shelved limits history later e list old between new (Ok reply) shelved shelves grown same kept back =
-    let I : History → Type 0 = λ h. IsShelved limits h new.now in
-    subst I (sym grown) (subst (IsShelved limits (history ++ e ∷ [])) (sym kept) shelves.0)
-told-shelved limits history later e list old between new (Err fault) shelved shelves grown same kept back =
-    let both : Some new.now ≡ Some old.now = back ∙ shelves.1 in
-    let again : new.now ≡ old.now = cc in
-    let I : History → Type 0 = λ h. IsShelved limits h new.now in
-    subst I (sym same) (subst (IsShelved limits history) (sym again) shelved)
-
-pub shelves-stay : (limits : Limits) (history : History) (decision : Decision) (reply : Reply) (old new : ShelfState) → decision ≡ Stays reply → Shelves limits history old (Ok decision) new → new.now ≡ old.now
-shelves-stay limits history decision reply old new is shelves = (let S : Decision → Type 0 = λ d. Shelves limits history old (Ok d) new in subst S is shelves)
-
-pub shelves-add : (limits : Limits) (history : History) (decision : Decision) (e : KeptEntry) (list : WriteList) (old new : ShelfState) → decision ≡ Adds e list → Shelves limits history old (Ok decision) new
-    → Shelves limits history old (Ok (Adds e list)) new
-shelves-add limits history decision e list old new is shelves = (let S : Decision → Type 0 = λ d. Shelves limits history old (Ok d) new in subst S is shelves)
 
 -- ---- copies
 

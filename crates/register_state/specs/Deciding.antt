@@ -5,35 +5,39 @@ use Rattle.lei_outside.specs.declared.faults.KeepFault.{KeepFault}
 use Rattle.lei_outside.specs.declared.faults.KeepFault.TheVariants as keep_faults
 use Rattle.lei_outside.specs.declared.entry.KeptEntry.{KeptEntry}
 use Rattle.lei_outside.specs.declared.faults.NoMemory.{NoMemory}
+use Rattle.register_state.specs.Books.{writes_of}
 use Rattle.register_state.specs.declared.decision.Decision.{Decision}
 use Rattle.register_state.specs.declared.decision.Decision.TheVariants.{Adds, Stays}
 use Rattle.register_words.specs.declared.request.Request.{Request}
 use Rattle.register_history.specs.Replies.{Outcome, adds, reply_of, stays, takes_memory}
+use Rattle.register_history.specs.State.{OfficeState}
 use Rattle.register_words.specs.declared.reply.Refusal.TheVariants as refusals
 use Rattle.register_words.specs.declared.reply.Reply.{Reply}
 use Rattle.register_words.specs.declared.reply.Reply.TheVariants.{Words}
-use Rattle.register_table.specs.Undos.{WriteList}
-use Rattle.upload_ledger.specs.History.{History}
 use Rattle.upload_ledger.specs.Limits.{AreFew}
 
 -- the reply, where nothing is added; the entry that is added, and what it writes; or want of memory, where the reply
 -- takes it
-abbrev pub Decides : Request → Outcome → (KeptEntry → WriteList) → Result Decision NoMemory → Type 0
-Decides request outcome writes (Ok (Stays reply)) = outcome ≡ stays reply
-Decides request outcome writes (Ok (Adds entry list)) = (outcome ≡ adds entry) × (list ≡ writes entry)
-Decides request outcome writes (Err wanted) = IsTrue (takes_memory request (reply_of outcome))
+abbrev pub Decides : OfficeState → Request → Outcome → Result Decision NoMemory → Type 0
+Decides office request outcome (Ok (Stays reply)) = outcome ≡ stays reply
+Decides office request outcome (Ok (Adds entry list)) = (outcome ≡ adds entry) × (list ≡ writes_of office entry)
+Decides office request outcome (Err wanted) = IsTrue (takes_memory request (reply_of outcome))
 
 -- the reply to a request that adds nothing, or want of memory, where the reply takes it
 abbrev pub Tells : Request → Outcome → Result Reply NoMemory → Type 0
 Tells request outcome (Ok reply) = outcome ≡ stays reply
 Tells request outcome (Err wanted) = IsTrue (takes_memory request (reply_of outcome))
 
--- an entry that is decided to be added has the next number, an office that is ASCII, and a place in the ledger
-abbrev pub AddsNext : History → Result Decision NoMemory → Type 0
-AddsNext history (Ok (Stays reply)) = Unit {0}
-AddsNext history (Ok (Adds entry list)) =
-    (entry.seq ≡ length history + 1) × IsAscii entry.office × AreFew (history ++ entry ∷ [])
-AddsNext history (Err wanted) = Unit {0}
+-- an entry has the next number, an office that is ASCII, and a place in the ledger
+abbrev pub FitsNext : OfficeState → KeptEntry → Type 0
+FitsNext office entry =
+    (entry.seq ≡ length office.history + 1) × IsAscii entry.office × AreFew (office.history ++ entry ∷ [])
+
+-- an entry that is decided to be added is such an entry
+abbrev pub AddsNext : OfficeState → Result Decision NoMemory → Type 0
+AddsNext office (Ok (Stays reply)) = Unit {0}
+AddsNext office (Ok (Adds entry list)) = FitsNext office entry
+AddsNext office (Err wanted) = Unit {0}
 
 -- what is answered where an entry was to be added: its reply, or why it wasn't
 abbrev pub reply_or : Result Reply KeepFault → Reply

@@ -1,3 +1,5 @@
+pub mod Books
 pub mod Judging
 pub mod Deciding
+pub mod Replaying
 pub mod Shelving

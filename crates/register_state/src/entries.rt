@@ -36,7 +36,7 @@ pub fn accreditation(
     alloc: Global,
     entries: &[KeptEntry],
     issuer: &Lei,
-    moment: i64,
+    moment: Moment,
 ) -> Result<KeptEntry, NoMemory>
     ensures { IfOk result (λ entry. entry ≡ accreditation entries.now issuer.now moment) }
 {
@@ -46,7 +46,7 @@ pub fn accreditation(
         kind: ACCREDIT,
         office: Bytes::copy_of(alloc, issuer.as_bytes())?,
         number: 0,
-        moment,
+        moment: moment.seconds(),
         rules: RULES,
         body: Shared::copy_of(alloc, &[])?,
         answer: accreditation_text(alloc, seq, issuer)?,
@@ -58,7 +58,7 @@ pub fn taken_upload(
     alloc: Global,
     entries: &[KeptEntry],
     call: &Call,
-    moment: i64,
+    moment: Moment,
     verdicts: &[Verdict],
 ) -> Result<KeptEntry, NoMemory>
     ensures { IfOk result (λ entry. entry ≡ upload_entry entries.now call.now moment verdicts.now) }
@@ -69,7 +69,7 @@ pub fn taken_upload(
         kind: UPLOAD,
         office: Bytes::copy_of(alloc, call.office.as_bytes())?,
         number: call.number,
-        moment,
+        moment: moment.seconds(),
         rules: RULES,
         body: call.body.share()?,
         answer: upload_text(alloc, seq, &call.office, call.number, verdicts)?,

@@ -4,14 +4,17 @@ ghost use Rattle.std.specs.List.{AllByRecursion};
 ghost use Rattle.copy_forms.specs.Items.{item_text};
 ghost use Rattle.lei_outside.specs.Count.{Rose};
 ghost use Rattle.lei_outside.specs.Keeping.{Stays, last_number};
-ghost use Rattle.lei_records.specs.Tables.{put_all};
 ghost use Rattle.upload_ledger.specs.Limits.{AreFew};
-ghost use Rattle.register_history.specs.Kept.{AreTablesWith, IsKey, kept_cell, kind_of, name_of};
+ghost use Rattle.register_history.specs.Kept.{AreTablesWith, IsKey, Keeps, kept_cell, kind_of, name_of};
+ghost use Rattle.register_history.specs.Legal.{Legal};
+ghost use Rattle.register_history.specs.Register.{held_after};
 ghost use Rattle.register_history.specs.Replies.{told};
 ghost use Rattle.register_history.specs.Touching.{AreCellsTouched, Touches};
-ghost use Rattle.register_table.specs.Held.{Held, rows};
-ghost use Rattle.register_table.specs.Undos.{IsLater, MayApply, touch_all};
+ghost use Rattle.register_state.specs.Books.{with_entry, writes_of};
+ghost use Rattle.register_state.specs.Deciding.{FitsNext};
+ghost use Rattle.register_table.specs.Held.{Held};
 
+use crate::books::Books;
 use copy_forms::item_text;
 use lei_outside::{Batch, Bytes, KeepFault, Keeper, KeptCell, KeptEntry, List, NoMemory, Shared};
 use lei_records::{Item, RowKey, Writes};
@@ -23,43 +26,58 @@ use upload_ledger::{Ledger, PUBLISH};
 // The bytes of the longest name of a cell: two LEIs, the longest type of a relationship, and two spaces.
 const NAME: usize = 71;
 
-/// Adds an entry with its writes, and says its reply. The keeper gets it once, after all memory was taken. Where it isn't
-/// kept, or memory is wanting, nothing changes.
-pub fn add<K: Keeper>(
-    alloc: Global,
-    ledger: &mut Ledger,
-    table: &mut Table,
-    keeper: &mut K,
-    entry: KeptEntry,
-    writes: &Writes,
-) -> Result<Reply, KeepFault>
-    requires may { MayApply writes.now (rows table.old.held) }
-    requires later { IsLater (length ledger.old.entries + 1) table.old.held }
-    requires number { entry.seq ≡ length ledger.old.entries + 1 }
-    requires few { AreFew (ledger.old.entries ++ entry ∷ []) }
-    requires office { IsAscii entry.office }
-    requires next { IfSome (K.tables keeper.old) (λ told. entry.seq ≡ last_number told + 1) }
-    requires kept { IfSome (K.tables keeper.old) (AreTablesWith ledger.old.entries table.old.held) }
-    ensures reply { IfOk result (λ reply. reply ≡ told entry) }
-    ensures entries { OnOk result (ledger.new.entries ≡ ledger.old.entries ++ entry ∷ []) }
-    ensures held { OnOk result (table.new.held ≡ touch_all entry.seq writes.now table.old.held) }
-    ensures rows { OnOk result (rows table.new.held ≡ put_all writes.now (rows table.old.held)) }
-    ensures numbers { OnOk result (IsLater (entry.seq + 1) table.new.held) }
-    ensures entries_stay { OnErr result (ledger.new.entries ≡ ledger.old.entries) }
-    ensures held_stays { OnErr result (table.new.held ≡ table.old.held) }
-    ensures kept { IfSome (K.tables keeper.new) (AreTablesWith ledger.new.entries table.new.held) }
-    ensures count { K.faults keeper.old ≤ K.faults keeper.new }
-    ensures faultless { ¬ (IsErrOf result KeepFault.Failed) → K.faults keeper.new ≡ K.faults keeper.old }
-    ensures failed { IsErrOf result KeepFault.Failed → Rose (K.faults keeper.old) (K.faults keeper.new) }
-{
-    let reply = told(alloc, &entry)?;
-    table.apply(writes, entry.seq)?;
-    match keep(alloc, ledger, table, keeper, entry) {
-        Ok(()) => Ok(reply),
-        Err(fault) => {
-            table.undo();
-            Err(fault)
+impl Books {
+    // Adds an entry with its writes, and says its reply. The keeper gets it once, after all memory was taken. Where it
+    // isn't kept, or memory is wanting, nothing changes.
+    pub fn add<K: Keeper>(
+        &mut self,
+        keeper: &mut K,
+        entry: KeptEntry,
+        writes: &Writes,
+    ) -> Result<Reply, KeepFault>
+        requires legal { Legal (with_entry self.old entry) }
+        requires fits { FitsNext self.old entry }
+        requires writes { writes.now ≡ writes_of self.old entry }
+        requires kept { Keeps (K.tables keeper.old) self.old }
+        ensures reply { IfOk result (λ reply. reply ≡ told entry) }
+        ensures added { OnOk result (self.new ≡ with_entry self.old entry) }
+        ensures stays { OnErr result (self.new ≡ self.old) }
+        ensures legal { Legal self.new }
+        ensures kept { Keeps (K.tables keeper.new) self.new }
+        ensures count { K.faults keeper.old ≤ K.faults keeper.new }
+        ensures faultless { ¬ (IsErrOf result KeepFault.Failed) → K.faults keeper.new ≡ K.faults keeper.old }
+        ensures failed { IsErrOf result KeepFault.Failed → Rose (K.faults keeper.old) (K.faults keeper.new) }
+    {
+        let reply = told(self.alloc, &entry)?;
+        self.table.apply(writes, entry.seq)?;
+        match keep(self.alloc, &mut self.ledger, &self.table, keeper, entry) {
+            Ok(()) => Ok(reply),
+            Err(fault) => {
+                self.table.undo();
+                Err(fault)
+            }
         }
+    }
+
+    // Adds an entry that is kept already, with its writes. Where memory is wanting, nothing changes.
+    pub fn add_kept(&mut self, entry: KeptEntry, writes: &Writes) -> Result<(), NoMemory>
+        requires legal { Legal (with_entry self.old entry) }
+        requires fits { FitsNext self.old entry }
+        requires writes { writes.now ≡ writes_of self.old entry }
+        ensures added { OnOk result (self.new ≡ with_entry self.old entry) }
+        ensures stays { OnErr result (self.new ≡ self.old) }
+    {
+        self.ledger.reserve(&entry)?;
+        self.table.apply(writes, entry.seq)?;
+        self.ledger.push_reserved(entry);
+        Ok(())
+    }
+
+    // The cells that entries touched last whose numbers are greater than `after` and at most `upto`.
+    pub fn touched_cells(&self, after: u64, upto: u64) -> Result<List<KeptCell>, NoMemory>
+        ensures { IfOk result (AreCellsTouched after upto (held_after self.now.limits self.now.history)) }
+    {
+        touched_cells(self.alloc, &self.table, after, upto)
     }
 }
 
@@ -105,7 +123,7 @@ fn keep<K: Keeper>(
 }
 
 // The cells that entries touched last whose numbers are greater than `after` and at most `upto`.
-pub fn touched_cells(
+fn touched_cells(
     alloc: Global,
     table: &Table,
     after: u64,

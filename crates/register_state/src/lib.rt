@@ -1,15 +1,16 @@
-//! What a register does with a request: it decides what is answered and added, over its ledger, its table and its shelf, and
-//! adds and keeps the entry.
+//! The register as one value: it decides what is answered and added, over its ledger, its table and its shelf, and adds
+//! and keeps the entry.
 #![tactic(auto)]
 
+mod books;
 mod deciding;
 mod decision;
 mod entries;
 mod judge;
 mod keeping;
 mod publishing;
+mod register;
 
-pub use deciding::decide;
 pub use decision::Decision;
-pub use entries::{RULES, stamp};
-pub use keeping::{add, touched_cells};
+pub use entries::RULES;
+pub use register::Register;

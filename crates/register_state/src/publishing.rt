@@ -4,21 +4,18 @@ ghost use Rattle.copy_csv.specs.Sheets as sheets;
 ghost use Rattle.copy_forms.specs.Trails.{Publication, Trail};
 ghost use Rattle.golden_shelf.specs.Changes.{AreOwnChanges, IsIssued};
 ghost use Rattle.golden_shelf.specs.Shelves.{Keeps as KeepsTrail, latest_rows};
-ghost use Rattle.lei_shapes.specs.Moment.{IsMoment};
 ghost use Rattle.upload_ledger.specs.History.{published};
 ghost use Rattle.register_words.specs.declared.request.Request.TheVariants.{Copy, Delta, Publish};
-ghost use Rattle.register_state.specs.Deciding.{AddsNext, Decides, Tells};
-ghost use Rattle.register_history.specs.Legal.{Legal};
 ghost use Rattle.register_words.specs.Requests.{IsUploadNumber};
-ghost use Rattle.register_words.specs.Limits.{AreLimits};
-ghost use Rattle.register_history.specs.Publications.{last_published, trail};
-ghost use Rattle.register_history.specs.Publishing.{AreChangesSince, change_of, row_published};
-ghost use Rattle.register_history.specs.Register.{IsKeptAfter, after, entry_writes};
-ghost use Rattle.register_history.specs.Replies.{copy_outcome, delta_outcome, form_kind, json_reply, next_publication, publication_entry, publish_outcome};
+ghost use Rattle.register_state.specs.Books.{with_entry};
+ghost use Rattle.register_state.specs.Deciding.{AddsNext, Decides, Tells};
 ghost use Rattle.register_state.specs.Shelving.{IsShelved, Shelves};
-ghost use Rattle.register_history.specs.State.{office_of};
+ghost use Rattle.register_history.specs.Publications.{last_published};
+ghost use Rattle.register_history.specs.Publishing.{AreChangesSince, AreNextChanges, change_of, row_published};
+ghost use Rattle.register_history.specs.Replies.{copy_outcome, delta_outcome, form_kind, json_reply, next_publication, publication_entry, publish_outcome};
 
-use crate::decision::{Decision, is_full, refused};
+use crate::books::Books;
+use crate::decision::{Decision, refused};
 use crate::entries::publication;
 use copy_csv::{Form, Row, Sheet, Texts};
 use golden_shelf::{Base, Shelf, ShelfFault};
@@ -26,49 +23,82 @@ use lei_outside::{Bytes, KeptEntry, List, NoMemory};
 use lei_records::{FieldTexts, Item, RowKey};
 use lei_shapes::{Moment, RelationRegistration};
 use register_table::{Table, Touched};
-use register_words::{Kind, Limits, Refusal, Reply};
+use register_words::{Kind, Refusal, Reply};
 use std::alloc::Global;
 use std::marker::Brand;
 use std::sync::ledger::{Blank, Ledger as Counted};
 use std::thread::Threads;
-use upload_ledger::{Ledger, PUBLISH};
+use upload_ledger::PUBLISH;
 use worker_pool::Steps;
 
-/// Decides a publication of this number, which has this moment where it is made, and publishes it on the shelf then.
-pub fn publish<R: Threads + Sync>(
-    rt: &R,
-    alloc: Global,
-    limits: Limits,
-    ledger: &Ledger,
-    table: &Table,
-    shelf: &mut Shelf,
-    number: u32,
-    moment: i64,
-) -> Result<Decision, NoMemory>
-    requires limits { AreLimits limits }
-    requires number { IsUploadNumber number }
-    requires moment { IsMoment moment }
-    requires legal { Legal (office_of limits ledger.now.entries) }
-    requires table { IsKeptAfter limits ledger.now.entries table.now }
-    requires shelf { IsShelved limits ledger.now.entries shelf.old.now }
-    ensures decides { Decides (Publish number)
-        (publish_outcome (office_of limits ledger.now.entries) number moment (published ledger.now.entries number))
-        (entry_writes limits (after limits ledger.now.entries)) result }
-    ensures next { AddsNext ledger.now.entries result }
-    ensures shelf { Shelves limits ledger.now.entries shelf.old result shelf.new }
-{
-    if let Some(text) = ledger.publication(number) {
-        return Ok(Decision::Stays(published_reply(alloc, text)?));
+impl Books {
+    // Decides a publication of this number, which has this moment where it is made, and publishes it on the shelf then.
+    pub fn publish<R: Threads + Sync>(
+        &self,
+        rt: &R,
+        shelf: &mut Shelf,
+        number: u32,
+        moment: Moment,
+    ) -> Result<Decision, NoMemory>
+        requires number { IsUploadNumber number }
+        requires shelf { IsShelved self.now shelf.old.now }
+        ensures decides { Decides self.now (Publish number)
+            (publish_outcome self.now number moment (published self.now.history number)) result }
+        ensures next { AddsNext self.now result }
+        ensures shelf { Shelves self.now shelf.old result shelf.new }
+    {
+        if let Some(text) = self.ledger.publication(number) {
+            return Ok(Decision::Stays(published_reply(self.alloc, text)?));
+        }
+        let next = self.ledger.totals().publications + 1;
+        if number != next {
+            return Ok(refused(Refusal::NumberAhead(next)));
+        }
+        if self.is_full() {
+            return Ok(refused(Refusal::LedgerFull));
+        }
+        let entry = self.publish_next(rt, shelf, number, moment)?;
+        Ok(Decision::Adds(entry, List::from(Vec::new(self.alloc))))
     }
-    let next = ledger.totals().publications + 1;
-    if number != next {
-        return Ok(refused(Refusal::NumberAhead(next)));
+
+    // Publishes the next publication on the shelf, and makes its entry.
+    fn publish_next<R: Threads + Sync>(
+        &self,
+        rt: &R,
+        shelf: &mut Shelf,
+        number: u32,
+        moment: Moment,
+    ) -> Result<KeptEntry, NoMemory>
+        requires number { IsUploadNumber number }
+        requires next { number ≡ next_publication self.now.history }
+        requires shelf { IsShelved self.now shelf.old.now }
+        ensures entry { IfOk result (λ entry. entry ≡ publication_entry self.now number moment) }
+        ensures shelf { IfOk result (λ entry. IsShelved (with_entry self.now entry) shelf.new.now) }
+        ensures before { OnOk result (shelf.new.before ≡ Some shelf.old.now) }
+        ensures stays { OnErr result (shelf.new.now ≡ shelf.old.now) }
+    {
+        let changes = self.next_changes()?;
+        shelve::<Brand, R>(rt, shelf, moment, changes.as_slice(), Blank::new(1))?;
+        let entries = self.ledger.entries();
+        match publication(self.alloc, entries, number, moment, shelf.counts()) {
+            Ok(entry) => Ok(entry),
+            Err(NoMemory) => {
+                shelf.undo();
+                Err(NoMemory)
+            }
+        }
     }
-    if is_full(limits, ledger) {
-        return Ok(refused(Refusal::LedgerFull));
+
+    // What the next publication changes.
+    fn next_changes(&self) -> Result<Vec<(RowKey, Option<Row>)>, NoMemory>
+        ensures changes { IfOk result (λ changes. AreNextChanges self.now.limits self.now.history changes.items) }
+        ensures own { IfOk result (λ changes. AreOwnChanges changes.items) }
+    {
+        let entries = self.ledger.entries();
+        let (after, upto) = (last_published(entries), entries.len() as u64);
+        let changes = changes_since(self.alloc, &self.table, after, upto)?;
+        Ok(changes)
     }
-    let entry = publish_next(rt, alloc, limits, ledger, table, shelf, number, moment)?;
-    Ok(Decision::Adds(entry, List::from(Vec::new(alloc))))
 }
 
 // The text that is kept of a publication, as it is answered.
@@ -80,54 +110,6 @@ fn published_reply(alloc: Global, text: &[u8]) -> Result<Reply, NoMemory>
         kind: Kind::Json,
         text: Bytes::copy_of(alloc, text)?,
     })
-}
-
-// Publishes the next publication on the shelf, and makes its entry.
-fn publish_next<R: Threads + Sync>(
-    rt: &R,
-    alloc: Global,
-    limits: Limits,
-    ledger: &Ledger,
-    table: &Table,
-    shelf: &mut Shelf,
-    number: u32,
-    moment: i64,
-) -> Result<KeptEntry, NoMemory>
-    requires limits { AreLimits limits }
-    requires number { IsUploadNumber number }
-    requires next { number ≡ next_publication ledger.now.entries }
-    requires moment { IsMoment moment }
-    requires legal { Legal (office_of limits ledger.now.entries) }
-    requires table { IsKeptAfter limits ledger.now.entries table.now }
-    requires shelf { IsShelved limits ledger.now.entries shelf.old.now }
-    ensures entry { IfOk result (λ entry. entry ≡ publication_entry (office_of limits ledger.now.entries) number moment) }
-    ensures shelf { IfOk result (λ entry. IsShelved limits (ledger.now.entries ++ entry ∷ []) shelf.new.now) }
-    ensures before { OnOk result (shelf.new.before ≡ Some shelf.old.now) }
-    ensures stays { OnErr result (shelf.new.now ≡ shelf.old.now) }
-{
-    let moment = moment_of(moment);
-    let entries = ledger.entries();
-    let (after, upto) = (last_published(entries), entries.len() as u64);
-    let changes = changes_since(alloc, table, after, upto)?;
-    shelve::<Brand, R>(rt, shelf, moment, changes.as_slice(), Blank::new(1))?;
-    match publication(alloc, entries, number, moment, shelf.counts()) {
-        Ok(entry) => Ok(entry),
-        Err(NoMemory) => {
-            shelf.undo();
-            Err(NoMemory)
-        }
-    }
-}
-
-// The moment that is so many seconds after 1970-01-01T00:00:00Z.
-fn moment_of(seconds: i64) -> Moment
-    requires { IsMoment seconds }
-    ensures { result ≡ seconds }
-{
-    match Moment::of(seconds) {
-        Some(moment) => moment,
-        None => unreachable!(),
-    }
 }
 
 // The number of the entry that made the latest publication, 0 where there is none. Only the entries behind it are looked
@@ -166,9 +148,9 @@ fn shelve<L: Counted, R: Threads + Sync>(
     shelf.publish(rt, moment, changes, &mut steps)
 }
 
-/// The keys that entries touched last whose numbers are greater than `after` and at most `upto`, each with the row that is
-/// published of it, or with none.
-pub fn changes_since(
+// The keys that entries touched last whose numbers are greater than `after` and at most `upto`, each with the row that is
+// published of it, or with none.
+fn changes_since(
     alloc: Global,
     table: &Table,
     after: u64,

@@ -2,9 +2,6 @@ use Rattle.std.proofs.Common.{◌≡◌, ◌≤◌, ◌-◌}
 use Rattle.std.specs.Prelude.{IfSome}
 use Rattle.lei_outside.specs.Keeping.{LeavesNoMore, Stays}
 use Rattle.register_history.specs.Legal.{Legal}
-use Rattle.register_history.specs.Register.{IsKeptAfter}
-use Rattle.register_state.specs.Shelving.{IsShelved}
-use Rattle.register_history.specs.State.{office_of}
 use Rattle.lei_office.proofs.ReplayedPages.{Reached}
 use Rattle.lei_office.proofs.opening.replay_entries.Given as goal
 
@@ -14,14 +11,13 @@ invariant-loop-after g l =
     let leaves = g.K.Keeper.leaves in
     let faults = g.K.Keeper.faults in
     record {
-      legal : Legal (office_of l.limits l.ledger.entries);
-      table : IsKeptAfter l.limits l.ledger.entries l.table;
-      shelf : IsShelved l.limits l.ledger.entries l.shelf.now;
+      limits : l.register.limits ≡ l.fn.register.limits;
+      legal : Legal l.register;
       within : l.after ≤ l.last;
       stays : Stays (tables l.fn.keeper) (tables l.keeper);
       crash : LeavesNoMore (leaves l.fn.keeper) (leaves l.keeper);
       faultless : faults l.keeper ≡ faults l.fn.keeper;
-      reached : IfSome (tables l.keeper) (Reached l.last l.after l.ledger.entries);
+      reached : IfSome (tables l.keeper) (Reached l.last l.after l.register.history);
     }
 
 abbrev pub decreases-loop-after : goal.decreases-loop-after

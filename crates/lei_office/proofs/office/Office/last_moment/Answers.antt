@@ -5,7 +5,7 @@ use Rattle.lei_office.proofs.office.Office.last_moment.Goals as goal
 
 pub returns : goal.returns
 returns g c =
-    let inside = c.self.inside in
-    last_found inside.limits inside.ledger.entries c.in_ok-entry.entry.now c.moment_of.result c.self.invariant.1
-    (c.in_ok-entry.ensures.value ∙ ap (λ l. slice_get l (length l - 1)) c.entries.ensures) c.moment_of.ensures
+    let office = c.self.inside.register in
+    last_found office.limits office.history c.in_ok-entry.entry.now c.moment_of.result c.self.invariant.0
+    (c.in_ok-entry.ensures.value ∙ ap (λ l. slice_get l (length l - 1)) c.entries.ensures.value) c.moment_of.ensures
     ∙ ap (λ o. option_map (λ e. e.moment) (last_entry o.office.history)) c.self.view_is

@@ -1,0 +1,40 @@
+-- The books of a register whose history grows by an entry.
+use Rattle.std.proofs.Common.{◌≡◌, ◌+◌, ℤ, ◌∷◌, [], ◌++◌, sym, ap, subst, ◌∙◌}
+use Rattle.lei_outside.specs.declared.entry.KeptEntry.{KeptEntry}
+use Rattle.lei_records.specs.Tables.{put_all}
+use Rattle.lei_shapes.specs.Moment.{IsMoment}
+use Rattle.register_table.specs.Held.{TableState, rows}
+use Rattle.register_table.specs.Undos.{IsLater, WriteList, touch_all}
+use Rattle.upload_ledger.specs.History.{History, stamp}
+use Rattle.register_words.specs.Requests.{IsRequest}
+use Rattle.register_words.specs.declared.limits.Limits.{Limits}
+use Rattle.register_words.specs.declared.request.Request.{Request}
+use Rattle.register_history.specs.Legal.{Legal}
+use Rattle.register_history.specs.Register.{IsKeptAfter}
+use Rattle.register_history.specs.Replies.{Outcome, adds, next_of, outcome, outcome_at}
+use Rattle.register_history.specs.State.{OfficeState, office_of}
+use Rattle.register_history.proofs.Histories.{Legal-next}
+use Rattle.register_history.proofs.TableLemmas.{kept-push}
+use Rattle.register_state.specs.Books.{AreBooks, with_entry, writes_of}
+use Rattle.register_state.specs.Deciding.{FitsNext}
+
+-- the entry that a request adds leads to a history that can come about
+pub legal-added : (office : OfficeState) (request : Request) (moment at : ℤ) (e : KeptEntry) → IsRequest request → IsMoment moment → at ≡ stamp office.history moment → Legal office
+    → outcome_at office request at ≡ adds e → Legal (with_entry office e)
+legal-added office request moment at e asked is stamped legal comes =
+    let came : outcome office request moment ≡ adds e = ap (outcome_at office request) (sym stamped) ∙ comes in
+    let L : Outcome → Type 0 = λ o. Legal (next_of office o) in
+    subst L came (Legal-next office.limits office.history request moment asked is legal)
+
+-- the books with the entry
+pub books-push : (limits : Limits) (history later : History) (old new : TableState) (e : KeptEntry) (writes : WriteList) → AreBooks limits history old → Legal (with_entry (office_of limits history) e)
+    → FitsNext (office_of limits history) e → writes ≡ writes_of (office_of limits history) e → later ≡ history ++ e ∷ [] → new.held ≡ touch_all e.seq writes old.held
+    → rows new.held ≡ put_all writes (rows old.held) → IsLater (e.seq + 1) new.held → AreBooks limits later new
+books-push limits history later old new e writes are legal fits same grown held put behind =
+    let L : History → Type 0 = λ h. Legal (office_of limits h) in
+    let K : History → Type 0 = λ h. IsKeptAfter limits h new in
+    record {
+      of_limits = are.of_limits;
+      legal = subst L (sym grown) legal;
+      of_table = subst K (sym grown) (kept-push limits history old new e writes are.of_table fits.0 same held put behind);
+    }

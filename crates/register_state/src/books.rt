@@ -1,0 +1,109 @@
+//! The books of a register: what doesn't change while a request is decided.
+ghost use Rattle.std.specs.Prelude.{◌≡◌, IfOk, length};
+ghost use Rattle.lei_shapes.specs.Moment.{IsMoment};
+ghost use Rattle.upload_ledger.specs.History.{stamp};
+ghost use Rattle.upload_ledger.specs.Limits.{AreFew};
+ghost use Rattle.register_words.specs.Limits.{AreLimits};
+ghost use Rattle.register_history.specs.Legal.{Legal};
+ghost use Rattle.register_history.specs.Replies.{is_full, is_too_much};
+ghost use Rattle.register_history.specs.State.{opened};
+
+use crate::entries::stamp;
+use lei_outside::{KeptEntry, NoMemory};
+use lei_shapes::Moment;
+use register_table::Table;
+use register_words::Limits;
+use std::alloc::Global;
+use std::marker::Model;
+use upload_ledger::Ledger;
+
+/// The limits and the ledger of a register, and the table that the ledger's entries leave.
+#[derive(Drop)]
+pub struct Books {
+    pub alloc: Global,
+    pub limits: Limits,
+    pub ledger: Ledger,
+    pub table: Table,
+}
+
+impl Model for Books {
+    ghost use Rattle.register_history.specs.State.{OfficeState, office_of};
+    ghost use Rattle.register_state.specs.Books.{AreBooks};
+
+    ghost Value = { OfficeState };
+
+    ghost view = { λ b. office_of b.limits b.ledger.entries };
+
+    ghost invariant = { λ b. AreBooks b.limits b.ledger.entries b.table };
+}
+
+impl Books {
+    // The books without an entry.
+    pub fn new(alloc: Global, limits: Limits) -> Result<Self, NoMemory>
+        requires { AreLimits limits }
+        ensures { IfOk result (λ books. books ≡ opened limits) }
+    {
+        let ledger = Ledger::new(alloc)?;
+        let table = Table::new(alloc)?;
+        Ok(Books {
+            alloc,
+            limits,
+            ledger,
+            table,
+        })
+    }
+
+    // What is taken at most.
+    pub fn limits(&self) -> Limits
+        ensures value { result ≡ self.now.limits }
+        ensures limits { AreLimits result }
+        ensures legal { Legal self.now }
+    {
+        self.limits
+    }
+
+    // The entries that were taken.
+    pub fn entries(&self) -> &[KeptEntry]
+        ensures value { result.now ≡ self.now.history }
+        ensures few { AreFew self.now.history }
+        ensures legal { Legal self.now }
+    {
+        let _ = self.ledger.totals();
+        self.ledger.entries()
+    }
+
+    // The moment of the next entry: the later of the clock's moment and the last entry's.
+    pub fn stamp(&self, moment: Moment) -> Moment
+        ensures stamp { result ≡ stamp self.now.history moment }
+        ensures moment { IsMoment moment }
+        ensures legal { Legal self.now }
+    {
+        moment_of(stamp(self.ledger.entries(), moment))
+    }
+
+    // Whether there are as many entries as the limit.
+    pub fn is_full(&self) -> bool
+        ensures value { result ≡ is_full self.now }
+        ensures few { AreFew self.now.history }
+    {
+        self.ledger.totals().entries >= self.limits.entries
+    }
+
+    // Whether the bodies that are kept would have more bytes than the limit, with this one.
+    pub fn is_too_much(&self, body: &[u8]) -> bool
+        ensures { result ≡ is_too_much self.now body.now }
+    {
+        self.ledger.totals().kept_bytes + body.len() as u64 > self.limits.kept
+    }
+}
+
+// The moment that is so many seconds after 1970-01-01T00:00:00Z.
+fn moment_of(seconds: i64) -> Moment
+    requires { IsMoment seconds }
+    ensures { result ≡ seconds }
+{
+    match Moment::of(seconds) {
+        Some(moment) => moment,
+        None => unreachable!(),
+    }
+}

@@ -1,0 +1,180 @@
+//! The register: it answers requests, and keeps what it takes.
+ghost use Rattle.std.specs.Prelude.{◌≡◌, ◌≤◌, IfOk, IsErrOf, IsSome, IsTrue, OnErr, Some};
+ghost use Rattle.lei_outside.specs.Count.{Rose};
+ghost use Rattle.lei_shapes.specs.Moment.{IsMoment};
+ghost use Rattle.upload_ledger.specs.Limits.{AreFew};
+ghost use Rattle.register_words.specs.declared.reply.Refusal.TheVariants.{KeeperFault};
+ghost use Rattle.register_words.specs.declared.reply.Reply.TheVariants.{Words};
+ghost use Rattle.register_words.specs.Limits.{AreLimits};
+ghost use Rattle.register_words.specs.Requests.{IsNumbered};
+ghost use Rattle.register_history.specs.Kept.{Keeps};
+ghost use Rattle.register_history.specs.Legal.{Legal};
+ghost use Rattle.register_history.specs.Register.{held_after};
+ghost use Rattle.register_history.specs.Replies.{Step};
+ghost use Rattle.register_history.specs.State.{opened};
+ghost use Rattle.register_history.specs.Touching.{AreCellsTouched};
+ghost use Rattle.register_state.specs.Deciding.{reply_or};
+ghost use Rattle.register_state.specs.Replaying.{ReplaysRequest};
+ghost use Rattle.register_state.specs.Shelving.{back_to};
+
+use crate::books::Books;
+use crate::decision::Decision;
+use golden_shelf::Shelf;
+use lei_outside::{KeepFault, Keeper, KeptCell, KeptEntry, List, NoMemory};
+use lei_shapes::Moment;
+use register_words::{Limits, Reply, Request};
+use std::alloc::Global;
+use std::marker::Model;
+use std::thread::Threads;
+use upload_format::Reader;
+use upload_ledger::PUBLISH;
+
+/// A register in memory. Contracts see it as its limits with its history, the list of the entries that it took.
+#[derive(Drop)]
+pub struct Register {
+    books: Books,
+    shelf: Shelf,
+    reader: Reader,
+}
+
+impl Model for Register {
+    ghost use Rattle.register_history.specs.State.{OfficeState};
+    ghost use Rattle.register_state.specs.Shelving.{IsShelved};
+
+    ghost Value = { OfficeState };
+
+    ghost view = { λ r. r.books };
+
+    ghost invariant = { λ r. IsShelved r.books r.shelf.now };
+}
+
+impl Register {
+    /// A register that took nothing yet.
+    pub fn new(alloc: Global, limits: Limits) -> Result<Self, NoMemory>
+        requires { AreLimits limits }
+        ensures { IfOk result (λ register. register ≡ opened limits) }
+    {
+        let books = Books::new(alloc, limits)?;
+        let shelf = Shelf::new(alloc)?;
+        let reader = Reader::new(alloc);
+        Ok(Register {
+            books,
+            shelf,
+            reader,
+        })
+    }
+
+    /// What it takes at most. No call changes that.
+    pub fn limits(&self) -> Limits
+        ensures value { result ≡ self.now.limits }
+        ensures limits { AreLimits result }
+        ensures legal { Legal self.now }
+    {
+        self.books.limits()
+    }
+
+    /// The entries that it took, in order.
+    pub fn entries(&self) -> &[KeptEntry]
+        ensures value { result.now ≡ self.now.history }
+        ensures few { AreFew self.now.history }
+        ensures legal { Legal self.now }
+    {
+        self.books.entries()
+    }
+
+    /// The cells that entries touched last whose numbers are greater than `after` and at most `upto`, as they are kept.
+    pub fn touched_cells(&self, after: u64, upto: u64) -> Result<List<KeptCell>, NoMemory>
+        ensures { IfOk result (AreCellsTouched after upto (held_after self.now.limits self.now.history)) }
+    {
+        self.books.touched_cells(after, upto)
+    }
+
+    /// Answers a request that came at this moment. An entry that is added is kept before it is answered; `Err` says why
+    /// none could be.
+    pub fn answer<K: Keeper, R: Threads + Sync>(
+        &mut self,
+        rt: &R,
+        keeper: &mut K,
+        request: &Request,
+        moment: Moment,
+    ) -> Result<Reply, KeepFault>
+        requires numbered { IsNumbered request.now }
+        requires kept { Keeps (K.tables keeper.old) self.old }
+        ensures step { Step self.old request.now moment (reply_or result) self.new }
+        ensures legal { Legal self.new }
+        ensures kept { Keeps (K.tables keeper.new) self.new }
+        ensures reply { IfOk result (λ reply. ¬ (reply ≡ Words KeeperFault)) }
+        ensures count { K.faults keeper.old ≤ K.faults keeper.new }
+        ensures faultless { ¬ (IsErrOf result KeepFault.Failed) → K.faults keeper.new ≡ K.faults keeper.old }
+        ensures failed { IsErrOf result KeepFault.Failed → Rose (K.faults keeper.old) (K.faults keeper.new) }
+    {
+        let moment = self.books.stamp(moment);
+        match self.books.decide(rt, &mut self.shelf, &mut self.reader, request, moment) {
+            Ok(Decision::Stays(reply)) => Ok(reply),
+            Ok(Decision::Adds(entry, writes)) => {
+                let publishes = entry.kind == PUBLISH;
+                match self.books.add(keeper, entry, &writes) {
+                    Ok(reply) => Ok(reply),
+                    Err(fault) => {
+                        take_back(&mut self.shelf, publishes);
+                        Err(fault)
+                    }
+                }
+            }
+            Err(NoMemory) => Err(KeepFault::NoMemory),
+        }
+    }
+
+    /// Adds a stored entry, where its request adds the same one at the entry's own moment. Else it gives what the
+    /// request comes to in its place, and adds nothing.
+    pub fn replay<R: Threads + Sync>(
+        &mut self,
+        rt: &R,
+        request: &Request,
+        moment: Moment,
+        stored: &KeptEntry,
+    ) -> Result<Option<Decision>, NoMemory>
+        requires numbered { IsNumbered request.now }
+        requires moment { moment ≡ stored.now.moment }
+        ensures replays { IfOk result (ReplaysRequest self.old request.now stored.now self.new) }
+        ensures stays { OnErr result (self.new ≡ self.old) }
+    {
+        let moment = self.books.stamp(moment);
+        match self.books.decide(rt, &mut self.shelf, &mut self.reader, request, moment) {
+            Ok(Decision::Stays(reply)) => Ok(Some(Decision::Stays(reply))),
+            Ok(Decision::Adds(entry, writes)) => {
+                let publishes = entry.kind == PUBLISH;
+                if !is_same(&entry, stored) {
+                    take_back(&mut self.shelf, publishes);
+                    return Ok(Some(Decision::Adds(entry, writes)));
+                }
+                match self.books.add_kept(entry, &writes) {
+                    Ok(()) => Ok(None),
+                    Err(NoMemory) => {
+                        take_back(&mut self.shelf, publishes);
+                        Err(NoMemory)
+                    }
+                }
+            }
+            Err(NoMemory) => Err(NoMemory),
+        }
+    }
+}
+
+// Whether two entries are the same.
+fn is_same(entry: &KeptEntry, other: &KeptEntry) -> bool
+    ensures same { IsTrue result → entry.now ≡ other.now }
+    ensures apart { entry.now ≡ other.now → IsTrue result }
+{
+    entry == other
+}
+
+// Takes a publication back from the shelf, where one was made for an entry that isn't added.
+fn take_back(shelf: &mut Shelf, publishes: bool)
+    requires { IsSome (back_to publishes shelf.old) }
+    ensures { Some shelf.new.now ≡ back_to publishes shelf.old }
+{
+    if publishes {
+        shelf.undo();
+    }
+}
