@@ -28,4 +28,6 @@ mod sqlite_keeper;
 #[cfg(test)]
 mod stores;
 #[cfg(test)]
+mod turns;
+#[cfg(test)]
 mod words;

@@ -1,0 +1,17 @@
+pub mod Totals
+pub mod Prefixes
+pub mod Views
+pub mod Parting
+pub mod Drawing
+pub mod Accounts
+pub mod Seats
+pub mod Seeing
+pub mod Passing
+pub mod Notifying
+pub mod Opening
+pub mod Making
+pub mod Stretches
+pub mod Closing
+pub mod Gathering
+pub mod Dealing
+pub mod Turning

@@ -1,0 +1,5 @@
+pub mod Lists
+pub mod Meaning
+pub mod Rule
+pub mod Steps
+pub mod Passes

@@ -1,0 +1,34 @@
+-- What the value of a turnstile stands for, and what one turn does to it.
+use Rattle.std.specs.Prelude.{◌≡◌, ℕ, ◌+◌, ◌≤◌, ◌==◌, List, [], ◌∷◌, ◌++◌, length, Option, Some, None, if◌then◌else◌}
+use Rattle.turnstile.specs.declared.view.Member.{Member}
+use Rattle.turnstile.specs.Lists.{IsPrefix}
+
+-- the list that a value stands for, its count of faults, the numbers that stay, and the number of the first entry
+pub record Meaning (T E : Type 0) : Type 0 where
+  pub entries : T → List E
+  pub faults : T → ℕ
+  pub stays : T → List ℕ
+  pub first : ℕ
+
+-- the record of its four parts
+abbrev pub meaning : {T E : Type 0} → (T → List E) → (T → ℕ) → (T → List ℕ) → ℕ → Meaning T E
+meaning entries faults stays first = record { entries = entries; faults = faults; stays = stays; first = first }
+
+module _ {T E : Type 0} (m : Meaning T E) where
+  -- The value y goes on from x: its list has one entry more, at the end, or none, the count of faults has not fallen,
+  -- and the numbers that stay are as before.
+  pub record GoesOn (x y : T) : Type 0 where
+    pub list : IsPrefix (m.entries x) (m.entries y)
+    pub one : length (m.entries y) ≤ length (m.entries x) + 1
+    pub faults : m.faults x ≤ m.faults y
+    pub stays : m.stays y ≡ m.stays x
+
+-- what an answer adds to what its pass was told
+abbrev pub told_of : {D : Type 0} → Option D → ℕ → ℕ → ℕ → List (Member D)
+told_of (Some piece) at from to = record { piece = piece; at = at; from = from; to = to } ∷ []
+told_of None at from to = []
+
+-- the places of a pass's own entries after a turn, by the number of the first entry and the length of the list before
+-- the turn and after it
+abbrev pub mine_after : ℕ → ℕ → ℕ → List ℕ → List ℕ
+mine_after first before after mine = if after == before then mine else mine ++ (first + before) ∷ []

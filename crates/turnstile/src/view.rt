@@ -1,0 +1,37 @@
+// What a seat at the table knows. Contracts alone see it: no value of these types is made.
+use std::collections::LinkedList;
+
+// Whether a seat has a ticket, and whether it is in turn.
+pub enum Stage {
+    Idle,
+    Waiting,
+    InTurn,
+}
+
+/// What a pass was told in one turn: the piece of data, the length of the list before the turn, and the counts of
+/// faults at its start and at its end.
+pub struct Member<D> {
+    pub piece: D,
+    pub at: u64,
+    pub from: u64,
+    pub to: u64,
+}
+
+// What the pass with this number has made and was told, and the numbers that stay.
+pub struct Account<D> {
+    pub number: u64,
+    pub stays: LinkedList<u64>,
+    pub mine: LinkedList<u64>,
+    pub told: LinkedList<Member<D>>,
+}
+
+// A seat's stage, its ticket, the count of faults at the start of its turn, the list that it has seen, the list that
+// a seat which it took in had seen, and the accounts that it has.
+pub struct View<E, D> {
+    pub stage: Stage,
+    pub ticket: u64,
+    pub from: u64,
+    pub seen: LinkedList<E>,
+    pub aside: LinkedList<E>,
+    pub accounts: LinkedList<Account<D>>,
+}
