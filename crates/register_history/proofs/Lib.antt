@@ -25,3 +25,4 @@ pub mod NextIssue
 pub mod SentTexts
 pub mod SoundTrail
 pub mod OwnChanges
+pub mod Stepping

@@ -9,3 +9,4 @@ pub mod Kept
 pub mod Standing
 pub mod Touching
 pub mod Damage
+pub mod Steps

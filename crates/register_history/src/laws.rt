@@ -1,24 +1,27 @@
 //! Laws of the definitions. Each is the contract of a function that does nothing.
-ghost use Rattle.std.specs.Prelude.{◌≡◌, ℤ, List, Contains};
+ghost use Rattle.std.specs.Prelude.{◌≡◌, ◌<◌, ℤ, List, Contains, length};
 ghost use Rattle.lei_records.specs.Tables.{IsSound};
 ghost use Rattle.lei_outside.specs.Keeping.{KeptTables};
 ghost use Rattle.lei_outside.specs.declared.keeper.KeptCell.{KeptCell};
 ghost use Rattle.register_history.specs.Damage.{DamageExcludes, DamageIsOne, EntryTextsDiffer, LineTellsCell};
 ghost use Rattle.register_words.specs.declared.limits.Limits.{Limits};
-ghost use Rattle.upload_ledger.specs.History.{History};
+ghost use Rattle.upload_ledger.specs.History.{History, publications};
 ghost use Rattle.successor_rules.specs.Successors.{HasChains};
 ghost use Rattle.relation_rules.specs.Parents.{AreApart, HasParents};
 ghost use Rattle.register_words.specs.declared.reply.Refusal.TheVariants.{KeeperFault, NoMemory};
 ghost use Rattle.register_words.specs.declared.reply.Reply.{Reply};
 ghost use Rattle.register_words.specs.declared.reply.Reply.TheVariants.{Words};
 ghost use Rattle.register_words.specs.declared.request.Asked.{Asked};
+ghost use Rattle.register_words.specs.declared.request.Request.{Request};
 ghost use Rattle.register_history.specs.Legal.{Legal, MomentsNeverFall, Session, UploadsAreNumbered, replies_to};
 ghost use Rattle.register_history.specs.Parties.{ChangesArePermitted, ChangesMakeRecords};
 ghost use Rattle.copy_forms.specs.Trails.{IsSound as IsSoundTrail};
 ghost use Rattle.register_history.specs.Publications.{trail};
 ghost use Rattle.register_history.specs.Kept.{TablesAreOne};
 ghost use Rattle.register_history.specs.Register.{CellsHaveTheRows, after};
+ghost use Rattle.register_history.specs.Replies.{Step};
 ghost use Rattle.register_history.specs.State.{OfficeState};
+ghost use Rattle.register_history.specs.Steps.{AddsOneOrNone};
 
 /// In a history that can come about no entry's moment is later than that of the next one.
 pub fn moments_never_fall()
@@ -28,6 +31,17 @@ pub fn moments_never_fall()
 /// In a history that can come about each issuer's uploads have the numbers 1, 2, 3 and so on.
 pub fn uploads_are_numbered()
     ensures { (office : OfficeState) → Legal office → UploadsAreNumbered office.history }
+{}
+
+/// A step adds one entry to the history or none, and leaves the limits.
+pub fn steps_add_one_entry_or_none()
+    ensures { (old new : OfficeState) (request : Request) (moment : ℤ) (answered : Reply) →
+        Step old request moment answered new → AddsOneOrNone old new }
+{}
+
+/// A history that can come about has at most 1,000,000 publications.
+pub fn publications_are_few()
+    ensures { (office : OfficeState) → Legal office → length (publications office.history) < 1_000_001 }
 {}
 
 /// In a register that can come about no two live records have the same authority key, and no two active relationships

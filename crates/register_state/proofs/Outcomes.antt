@@ -24,6 +24,7 @@ use Rattle.register_words.specs.declared.reply.Refusal.TheVariants.{KeeperFault}
 use Rattle.register_words.specs.declared.reply.Reply.{Reply}
 use Rattle.register_words.specs.declared.reply.Reply.TheVariants.{Words}
 use Rattle.register_words.specs.declared.request.Call.{Call}
+use Rattle.register_words.specs.Requests.{IsRequest}
 use Rattle.register_words.specs.declared.request.Request.{Request}
 use Rattle.register_words.specs.declared.request.Request.TheVariants.{Accredit, Copy, Delta, Kept, Publish, Show, Status, Upload}
 use Rattle.register_history.specs.Publications.{trail}
@@ -44,8 +45,9 @@ pub adds_of : (office : OfficeState) (request : Request) (outcome : Outcome) (de
     → Decides office request outcome (Ok decision) → list ≡ writes_of office entry
 adds_of office request outcome decision entry list is decides = (let D : Decision → Type 0 = λ d. Decides office request outcome (Ok d) in (subst D is decides).1)
 
-pub next_of : (office : OfficeState) (decision : Decision) (entry : KeptEntry) (list : WriteList) → decision ≡ Adds entry list → AddsNext office (Ok decision) → FitsNext office entry
-next_of office decision entry list is next = (let D : Decision → Type 0 = λ d. AddsNext office (Ok d) in subst D is next)
+pub next_of : (office : OfficeState) (request : Request) (decision : Decision) (entry : KeptEntry) (list : WriteList) → decision ≡ Adds entry list → AddsNext office request (Ok decision)
+    → IsRequest request × FitsNext office entry
+next_of office request decision entry list is next = (let D : Decision → Type 0 = λ d. AddsNext office request (Ok d) in subst D is next)
 
 -- the reply of an outcome that adds nothing is not that
 abbrev IsNoFault : Outcome → Type 0

@@ -8,6 +8,7 @@ use Rattle.lei_outside.specs.declared.faults.NoMemory.{NoMemory}
 use Rattle.register_state.specs.Books.{writes_of}
 use Rattle.register_state.specs.declared.decision.Decision.{Decision}
 use Rattle.register_state.specs.declared.decision.Decision.TheVariants.{Adds, Stays}
+use Rattle.register_words.specs.Requests.{IsRequest}
 use Rattle.register_words.specs.declared.request.Request.{Request}
 use Rattle.register_history.specs.Replies.{Outcome, adds, reply_of, stays, takes_memory}
 use Rattle.register_history.specs.State.{OfficeState}
@@ -33,11 +34,11 @@ abbrev pub FitsNext : OfficeState → KeptEntry → Type 0
 FitsNext office entry =
     (entry.seq ≡ length office.history + 1) × IsAscii entry.office × AreFew (office.history ++ entry ∷ [])
 
--- an entry that is decided to be added is such an entry
-abbrev pub AddsNext : OfficeState → Result Decision NoMemory → Type 0
-AddsNext office (Ok (Stays reply)) = Unit {0}
-AddsNext office (Ok (Adds entry list)) = FitsNext office entry
-AddsNext office (Err wanted) = Unit {0}
+-- an entry that is decided to be added is such an entry, for a request as readers make it
+abbrev pub AddsNext : OfficeState → Request → Result Decision NoMemory → Type 0
+AddsNext office request (Ok (Stays reply)) = Unit {0}
+AddsNext office request (Ok (Adds entry list)) = IsRequest request × FitsNext office entry
+AddsNext office request (Err wanted) = Unit {0}
 
 -- what is answered where an entry was to be added: its reply, or why it wasn't
 abbrev pub reply_or : Result Reply KeepFault → Reply

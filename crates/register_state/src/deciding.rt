@@ -1,6 +1,5 @@
 //! What is decided of a request. Nothing but the shelf changes by it, where a publication is made.
 ghost use Rattle.std.specs.Prelude.{◌≡◌, IfOk};
-ghost use Rattle.lei_code.specs.Code.{IsValid};
 ghost use Rattle.lei_records.specs.Tables.{row_at};
 ghost use Rattle.upload_format.specs.Bodies.{upload as items_of};
 ghost use Rattle.upload_ledger.specs.History.{accredited};
@@ -8,7 +7,7 @@ ghost use Rattle.register_words.specs.declared.request.Request.TheVariants.{Accr
 ghost use Rattle.register_state.specs.Shelving.{IsShelved, Shelves};
 ghost use Rattle.register_state.specs.Deciding.{AddsNext, Decides, Tells};
 ghost use Rattle.register_history.specs.Replies.{accredit_outcome, body_outcome, json_reply, kept_outcome, outcome_at, show_outcome, status_outcome, upload_outcome};
-ghost use Rattle.register_words.specs.Requests.{IsNumbered, IsRequest};
+ghost use Rattle.register_words.specs.Requests.{IsNumbered, IsUploadNumber};
 ghost use Rattle.register_history.specs.Register.{after};
 
 use crate::books::Books;
@@ -43,9 +42,8 @@ impl Books {
         requires numbered { IsNumbered request.now }
         requires shelf { IsShelved self.now shelf.old.now }
         ensures decides { Decides self.now request.now (outcome_at self.now request.now moment) result }
-        ensures next { AddsNext self.now result }
+        ensures next { AddsNext self.now request.now result }
         ensures shelf { Shelves self.now shelf.old result shelf.new }
-        ensures request { IsRequest request.now }
     {
         match request {
             Request::Accredit(issuer) => self.accredit(issuer, moment),
@@ -63,11 +61,8 @@ impl Books {
 
     // Shows the record of this LEI.
     fn show(&self, lei: &Lei) -> Result<Reply, NoMemory>
-        ensures tells { Tells (Show lei.now) (show_outcome (row_at (after self.now.limits self.now.history) lei.now)) result }
-        ensures lei { IsValid lei.now }
+        ensures { Tells (Show lei.now) (show_outcome (row_at (after self.now.limits self.now.history) lei.now)) result }
     {
-        // What is asked for is an LEI.
-        let _ = lei.as_bytes();
         match self.table.show(lei) {
             Some(record) => {
                 let item = Item::Record(record.share()?);
@@ -79,11 +74,8 @@ impl Books {
 
     // Tells what was answered to the issuer's upload of this number.
     fn kept(&self, issuer: &Lei, number: u32) -> Result<Reply, NoMemory>
-        ensures tells { Tells (Kept issuer.now number) (kept_outcome self.now.history issuer.now number) result }
-        ensures lei { IsValid issuer.now }
+        ensures { Tells (Kept issuer.now number) (kept_outcome self.now.history issuer.now number) result }
     {
-        // What is asked for is an LEI.
-        let _ = issuer.as_bytes();
         if self.ledger.accredited(issuer).is_none() {
             return Ok(Reply::Words(Refusal::IssuerUnknown));
         }
@@ -104,10 +96,9 @@ impl Books {
     fn accredit(&self, issuer: &Lei, moment: Moment) -> Result<Decision, NoMemory>
         ensures decides { Decides self.now (Accredit issuer.now)
             (accredit_outcome self.now issuer.now moment (accredited self.now.history issuer.now)) result }
-        ensures next { AddsNext self.now result }
-        ensures lei { IsValid issuer.now }
+        ensures next { AddsNext self.now (Accredit issuer.now) result }
     {
-        // What is asked for is an LEI.
+        // A step of the proof: what is accredited is named by an LEI.
         let _ = issuer.as_bytes();
         if let Some(text) = self.ledger.accredited(issuer) {
             return Ok(Decision::Stays(kept_reply(self.alloc, text)?));
@@ -121,12 +112,10 @@ impl Books {
 
     #[tactic(auto, unfolding(register_history::specs::Replies::upload_outcome))]
     fn upload(&self, reader: &mut Reader, call: &Call, moment: Moment) -> Result<Decision, NoMemory>
+        requires { IsUploadNumber call.now.number }
         ensures decides { Decides self.now (Upload call.now) (upload_outcome self.now call.now moment) result }
-        ensures next { AddsNext self.now result }
-        ensures lei { IsValid call.now.office }
+        ensures next { AddsNext self.now (Upload call.now) result }
     {
-        // What sends it is named by an LEI.
-        let _ = call.office.as_bytes();
         if call.body.len() as u64 > self.limits.body {
             return Ok(refused(Refusal::TooLong));
         }
@@ -145,10 +134,13 @@ impl Books {
         call: &Call,
         moment: Moment,
     ) -> Result<Decision, NoMemory>
+        requires { IsUploadNumber call.now.number }
         ensures decides { Decides self.now (Upload call.now)
             (body_outcome self.now call.now moment (items_of call.now.body)) result }
-        ensures next { IsValid call.now.office → AddsNext self.now result }
+        ensures next { AddsNext self.now (Upload call.now) result }
     {
+        // A step of the proof: what sends it is named by an LEI.
+        let _ = call.office.as_bytes();
         let upload = match reader.read(self.alloc, call.body.as_slice()) {
             Ok(upload) => upload,
             Err(UploadFault::Malformed(fault)) => return Ok(refused(Refusal::Malformed(fault))),

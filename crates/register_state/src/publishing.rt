@@ -44,7 +44,7 @@ impl Books {
         requires shelf { IsShelved self.now shelf.old.now }
         ensures decides { Decides self.now (Publish number)
             (publish_outcome self.now number moment (published self.now.history number)) result }
-        ensures next { AddsNext self.now result }
+        ensures next { AddsNext self.now (Publish number) result }
         ensures shelf { Shelves self.now shelf.old result shelf.new }
     {
         if let Some(text) = self.ledger.publication(number) {

@@ -10,11 +10,11 @@ use Rattle.register_words.specs.Words.{number_limit}
 abbrev pub IsUploadNumber : ℕ → Type 0
 IsUploadNumber number = IsFrom1To number_limit number
 
--- where a request has a number, it lies in its range
+-- where a request takes a new number, of an upload or a publication, it lies in its range
 abbrev pub IsNumbered : Request → Type 0
 IsNumbered (Accredit issuer) = Unit {0}
 IsNumbered (Upload call) = IsUploadNumber call.number
-IsNumbered (Kept issuer number) = IsUploadNumber number
+IsNumbered (Kept issuer number) = Unit {0}
 IsNumbered (Publish number) = IsUploadNumber number
 IsNumbered (Show lei) = Unit {0}
 IsNumbered (Copy sheet form) = Unit {0}

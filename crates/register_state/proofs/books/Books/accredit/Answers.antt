@@ -10,5 +10,8 @@ returns-clause-next c =
     let office = c.args.self.now in
     let A : OfficeState → Type 0 = λ o. AreLimits o.limits in
     let entries = c.entries.ensures ∙ ap (λ o. o.history) c.self.view_is in
-    accreditation-next office.limits office.history c.args.issuer.now c.args.moment c.in_ok-entry.entry (subst A c.self.view_is c.self.invariant.of_limits) c.as_bytes.ensures.valid c.is_full.ensures.few
-    (c.in_ok-entry.ensures ∙ ap (λ h. accreditation h c.args.issuer.now c.args.moment) entries) (sym c.is_full.ensures.value ∙ c.if-is_full.false)
+    let valid = c.as_bytes.ensures.valid in (
+      valid,
+      accreditation-next office.limits office.history c.args.issuer.now c.args.moment c.in_ok-entry.entry (subst A c.self.view_is c.self.invariant.of_limits) valid c.is_full.ensures.few
+          (c.in_ok-entry.ensures ∙ ap (λ h. accreditation h c.args.issuer.now c.args.moment) entries) (sym c.is_full.ensures.value ∙ c.if-is_full.false),
+    )

@@ -16,12 +16,15 @@ pub judge-requires-clause-fits : goal.judge-requires-clause-fits
 judge-requires-clause-fits c = rw c.self.invariant.of_table.rows (after-fit c.self.inside.limits c.self.inside.ledger.entries).fits
 
 pub returns-clause-next : goal.returns-clause-next
-returns-clause-next c = λ valid.
+returns-clause-next c =
     let office = c.args.self.now in
     let A : OfficeState → Type 0 = λ o. AreLimits o.limits in
     let verdicts = c.as_slice-2.result.now in
+    let valid = c.as_bytes.ensures.valid in
     let entries = c.entries.ensures ∙ ap (λ o. o.history) c.self.view_is in
-    let added = c.in_ok-entry.ensures ∙ ap (λ h. upload_entry h c.args.call.now c.args.moment verdicts) entries in
-    upload-next office.limits office.history c.args.call.now c.args.moment verdicts c.in_ok-entry.entry (subst A c.self.view_is c.self.invariant.of_limits) valid added
-    (sym c.is_full.ensures.value ∙ c.if-is_full.false)
-    (ap (is_too_much office) (sym c.as_slice-else-is_full.ensures) ∙ (sym c.is_too_much.ensures ∙ c.if-is_too_much.false))
+    let added = c.in_ok-entry.ensures ∙ ap (λ h. upload_entry h c.args.call.now c.args.moment verdicts) entries in (
+      (valid, c.requires),
+      upload-next office.limits office.history c.args.call.now c.args.moment verdicts c.in_ok-entry.entry (subst A c.self.view_is c.self.invariant.of_limits) valid added
+          (sym c.is_full.ensures.value ∙ c.if-is_full.false)
+          (ap (is_too_much office) (sym c.as_slice-else-is_full.ensures) ∙ (sym c.is_too_much.ensures ∙ c.if-is_too_much.false)),
+    )
