@@ -14,7 +14,7 @@ use Rattle.std.proofs.lemmas.Map.Text.{is_eq-slice_cmp}
 use Rattle.lei_records.specs.declared.view.Seen.{Seen}
 use Rattle.lei_records.specs.Cells.{Cells, lei_in, akey, holds}
 use Rattle.lei_records.specs.Rows.{Row}
-use Rattle.lei_records.specs.Tables.{KeyTexts, Table, key_cmp, record_key, row_at, records_of, holder_of, holds_key, other_holder, seen, cells_of, IsKeyed, HasHolders, IsSound}
+use Rattle.lei_records.specs.Tables.{KeyTexts, Table, key_cmp, record_key, row_at, records_of, holder_of, holds_key, other_holder, seen, cells_of, IsKeyed, AuthorityKeysAreUnique, IsSound}
 use Rattle.authority_rules.specs.Taken.{unless_own, seen_holder, taken}
 use Rattle.authority_rules.proofs.MapLemmas.{find-values, values-find}
 
@@ -128,7 +128,7 @@ abbrev holder_at : Table → Option (List ℕ × List ℕ) → Option (List ℕ)
 holder_at table None = None
 holder_at table (Some key) = holder_of table key.0 key.1
 
-other_than : (table : Table) (authority id own : List ℕ) → IsKeyed table → HasHolders table → (held : Option (List ℕ)) → holder_of table authority id ≡ held
+other_than : (table : Table) (authority id own : List ℕ) → IsKeyed table → AuthorityKeysAreUnique table → (held : Option (List ℕ)) → holder_of table authority id ≡ held
     → unless_own own (seen held) ≡ seen (first_of table (is_other (Some (authority, id)) own))
 other_than table authority id own keyed holders None is =
     let never : (lei : List ℕ) → Hit table (is_other (Some (authority, id)) own) lei → ⊥ = λ lei hit.
@@ -154,7 +154,7 @@ other_than table authority id own keyed holders (Some lei) is =
           ap seen (sym (first_of-only table (is_other (Some (authority, id)) own) lei keyed other only))
     ] refl
 
-other_of : (table : Table) (key : Option (List ℕ × List ℕ)) (own : List ℕ) → IsKeyed table → HasHolders table
+other_of : (table : Table) (key : Option (List ℕ × List ℕ)) (own : List ℕ) → IsKeyed table → AuthorityKeysAreUnique table
     → unless_own own (seen (holder_at table key)) ≡ seen (first_of table (is_other key own))
 other_of table None own keyed holders =
     ap seen (sym (first_of-none table (is_other None own) keyed (λ lei hit. let clash : false ≡ true = hit.passes in cc)))
@@ -162,7 +162,7 @@ other_of table (Some key) own keyed holders = other_than table key.0 key.1 own k
 
 -- over a table without two holders of a key, the holder of the row's key is another one exactly
 -- where one is among all rows
-pub other_holder-seen : (table : Table) (row : Row) → IsKeyed table → HasHolders table
+pub other_holder-seen : (table : Table) (row : Row) → IsKeyed table → AuthorityKeysAreUnique table
     → unless_own (lei_in row) (seen (holder_at table (akey row))) ≡ seen (other_holder table row)
 other_holder-seen table row keyed holders = other_of table (akey row) (lei_in row) keyed holders
 
@@ -171,7 +171,7 @@ key_seen table None = refl
 key_seen table (Some key) = refl
 
 -- the same by the cells of the table
-pub taken-cells : (table : Table) (row : Row) → IsKeyed table → HasHolders table → taken (cells_of table) row ≡ seen (other_holder table row)
+pub taken-cells : (table : Table) (row : Row) → IsKeyed table → AuthorityKeysAreUnique table → taken (cells_of table) row ≡ seen (other_holder table row)
 taken-cells table row keyed holders =
     ap (unless_own (lei_in row)) (key_seen table (akey row)) ∙ other_holder-seen table row keyed holders
 

@@ -9,7 +9,7 @@ use Rattle.lei_records.specs.declared.item.Item.{Item}
 use Rattle.lei_records.specs.Cells.{lei_in, rec_cell, is_live, akey, is_key, holds}
 use Rattle.lei_records.specs.Rows.{Row}
 use Rattle.lei_records.specs.Spelled.{IsRow}
-use Rattle.lei_records.specs.Tables.{KeyTexts, Table, key_cmp, record_key, put, row_at, record_of, holder_of, holds_key, IsKeyed, HasHolders, HasRows, IsSound}
+use Rattle.lei_records.specs.Tables.{KeyTexts, Table, key_cmp, record_key, put, row_at, record_of, holder_of, holds_key, IsKeyed, AuthorityKeysAreUnique, HasRows, IsSound}
 use Rattle.authority_rules.specs.Taken.{IsFree}
 use Rattle.authority_rules.proofs.HolderLemmas.{keys_total, same_key, key_eq, bytes_same, bytes_itself, Hit, first_of-hit, hit-first_of, first_of-none, first_of-only, hit_code, both_true, first_true, second_true, some_apart, is_other}
 
@@ -90,8 +90,8 @@ free_key table row authority id lei keyed free held hit =
           absurd (some_apart found.0 (sym found.1 ∙ free live))
     ] refl
 
-pub HasHolders-put : (table : Table) (row : Row) → IsKeyed table → HasHolders table → IsFree table row → HasHolders (with_row table row)
-HasHolders-put table row keyed holders free authority id a b first second at_a at_b holds_a holds_b =
+pub AuthorityKeysAreUnique-put : (table : Table) (row : Row) → IsKeyed table → AuthorityKeysAreUnique table → IsFree table row → AuthorityKeysAreUnique (with_row table row)
+AuthorityKeysAreUnique-put table row keyed holders free authority id a b first second at_a at_b holds_a holds_b =
     split table row a first (a ≡ b) at_a
     (λ own_a same_a. split table row b second (a ≡ b) at_b
     (λ own_b same_b. own_a ∙ sym own_b)
@@ -108,7 +108,7 @@ HasHolders-put table row keyed holders free authority id a b first second at_a a
 pub IsSound-put : (table : Table) (row : Row) → IsSound table → IsRow row → IsFree table row → IsSound (with_row table row)
 IsSound-put table row sound is_row free = record {
   keyed = IsKeyed-put table row sound.keyed;
-  holders = HasHolders-put table row sound.keyed sound.holders free;
+  holders = AuthorityKeysAreUnique-put table row sound.keyed sound.holders free;
   rows = HasRows-put table row is_row sound.rows;
   relations_keyed = sound.relations_keyed;
   relation_rows = sound.relation_rows;
@@ -124,7 +124,7 @@ abbrev pub other_than : List ℕ → Option (List ℕ) → Option (List ℕ)
 other_than own None = None
 other_than own (Some lei) = cond (bytes_eq lei own) None (Some lei)
 
-kept : (table : Table) (row : Row) (authority id : List ℕ) → IsKeyed table → HasHolders table → IsFree table row → holds authority id row ≡ false
+kept : (table : Table) (row : Row) (authority id : List ℕ) → IsKeyed table → AuthorityKeysAreUnique table → IsFree table row → holds authority id row ≡ false
     → (held : Option (List ℕ)) → holder_of table authority id ≡ held → holder_of (with_row table row) authority id ≡ other_than (lei_in row) held
 kept table row authority id keyed holders free not_held None is =
     first_of-none (with_row table row) (holds authority id) (IsKeyed-put table row keyed) (λ lei hit.
@@ -150,7 +150,7 @@ kept table row authority id keyed holders free not_held (Some lei) is =
     ] refl
 
 -- the holder of a key is the row, where it holds it, and else the one before, but for the row's own record
-pub holder_of-put : (table : Table) (row : Row) (authority id : List ℕ) → IsKeyed table → HasHolders table → IsFree table row
+pub holder_of-put : (table : Table) (row : Row) (authority id : List ℕ) → IsKeyed table → AuthorityKeysAreUnique table → IsFree table row
     → holder_of (with_row table row) authority id ≡ cond (holds authority id row) (Some (lei_in row)) (other_than (lei_in row) (holder_of table authority id))
 holder_of-put table row authority id keyed holders free =
     elim (holds authority id row) as (λ b. holds authority id row ≡ b
@@ -160,6 +160,6 @@ holder_of-put table row authority id keyed holders free =
           row_at-put table row (lei_in row) ∙ ap (λ b. cond b (Some row) (row_at table (lei_in row))) (bytes_itself (lei_in row)) in
           let hit : Hit (with_row table row) (holds authority id) (lei_in row) = record { row = row; at = at; passes = t } in
           first_of-only (with_row table row) (holds authority id) (lei_in row) (IsKeyed-put table row keyed) hit
-          (λ other h. HasHolders-put table row keyed holders free authority id other (lei_in row) h.row row h.at at h.passes t)
+          (λ other h. AuthorityKeysAreUnique-put table row keyed holders free authority id other (lei_in row) h.row row h.at at h.passes t)
       | false ↦ λ t. kept table row authority id keyed holders free t (holder_of table authority id) refl
     ] refl

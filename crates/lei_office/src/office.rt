@@ -4,8 +4,8 @@ ghost use Rattle.lei_shapes.specs.Moment.{IsMoment};
 ghost use Rattle.lei_outside.specs.Count.{Rose};
 ghost use Rattle.lei_outside.specs.Keeping.{LeavesNoMore, Stays};
 ghost use Rattle.lei_records.specs.Tables.{IsSound};
-ghost use Rattle.successor_rules.specs.Successors.{HasChains};
-ghost use Rattle.relation_rules.specs.Parents.{AreApart, HasParents};
+ghost use Rattle.successor_rules.specs.Successors.{SuccessorChainsEnd};
+ghost use Rattle.relation_rules.specs.Parents.{AreApart, ParentChainsEnd};
 ghost use Rattle.upload_ledger.specs.History.{last_entry};
 ghost use Rattle.register_words.specs.declared.reply.Refusal.TheVariants.{KeeperFault};
 ghost use Rattle.register_words.specs.declared.reply.Reply.TheVariants.{Words};
@@ -62,8 +62,8 @@ impl<K: Keeper> Office<K> {
         ensures limits { IfOk result (λ opened. opened.office.limits ≡ limits) }
         ensures legal { IfOk result (λ opened. Legal opened.office) }
         ensures sound { IfOk result (λ opened. IsSound (after opened.office.limits opened.office.history)) }
-        ensures chained { IfOk result (λ opened. HasChains (after opened.office.limits opened.office.history)) }
-        ensures parents { IfOk result (λ opened. HasParents (after opened.office.limits opened.office.history)) }
+        ensures chained { IfOk result (λ opened. SuccessorChainsEnd (after opened.office.limits opened.office.history)) }
+        ensures parents { IfOk result (λ opened. ParentChainsEnd (after opened.office.limits opened.office.history)) }
         ensures apart { IfOk result (λ opened. AreApart (after opened.office.limits opened.office.history)) }
         ensures permitted { IfOk result (λ opened. ChangesArePermitted opened.office) }
         ensures moments { IfOk result (λ opened. MomentsNeverFall opened.office.history) }
@@ -124,8 +124,8 @@ impl<K: Keeper> Office<K> {
         ensures fault { result ≡ Words KeeperFault → Rose (K.faults self.old.keeper) (K.faults self.new.keeper) }
         ensures legal { Legal self.new.office }
         ensures sound { IsSound (after self.new.office.limits self.new.office.history) }
-        ensures chained { HasChains (after self.new.office.limits self.new.office.history) }
-        ensures parents { HasParents (after self.new.office.limits self.new.office.history) }
+        ensures chained { SuccessorChainsEnd (after self.new.office.limits self.new.office.history) }
+        ensures parents { ParentChainsEnd (after self.new.office.limits self.new.office.history) }
         ensures apart { AreApart (after self.new.office.limits self.new.office.history) }
         ensures permitted { ChangesArePermitted self.new.office }
         ensures moments { MomentsNeverFall self.new.office.history }

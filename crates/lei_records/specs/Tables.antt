@@ -189,8 +189,8 @@ abbrev pub IsKeyed : Table → Type 0
 IsKeyed table = (key : KeyTexts) (row : Row) → get table.records key ≡ Some row → key ≡ record_key (lei_in row)
 
 -- No two live records have the same authority key.
-abbrev pub HasHolders : Table → Type 0
-HasHolders table = (authority id : Text) (a b : Lei) (first second : Row)
+abbrev pub AuthorityKeysAreUnique : Table → Type 0
+AuthorityKeysAreUnique table = (authority id : Text) (a b : Lei) (first second : Row)
     → row_at table a ≡ Some first → row_at table b ≡ Some second
     → IsTrue (holds authority id first) → IsTrue (holds authority id second) → a ≡ b
 
@@ -224,7 +224,7 @@ HasExceptionRows table = (key : KeyTexts) (row : Row) → get table.exceptions k
 -- says. No two live records have the same authority key, and no two active relationships the same start and type.
 pub record IsSound (table : Table) : Type 0 where
   pub keyed : IsKeyed table
-  pub holders : HasHolders table
+  pub holders : AuthorityKeysAreUnique table
   pub rows : HasRows table
   pub relations_keyed : AreRelationsKeyed table
   pub relation_rows : HasRelationRows table

@@ -28,10 +28,10 @@ use Rattle.lei_records.proofs.RowLemmas.{IsRowOf-row_of}
 use Rattle.lei_records.specs.Checks.{FailedCheck, first_failing}
 use Rattle.lei_records.specs.Parents.{parent_type, parents_of}
 use Rattle.lei_records.specs.Walks.{successors_of}
-use Rattle.relation_rules.specs.Parents.{AreApart, HasParents}
+use Rattle.relation_rules.specs.Parents.{AreApart, ParentChainsEnd}
 use Rattle.authority_rules.proofs.MapLemmas.{find-values}
 use Rattle.successor_rules.specs.Chains.{EndsIn}
-use Rattle.successor_rules.specs.Successors.{HasChains}
+use Rattle.successor_rules.specs.Successors.{SuccessorChainsEnd}
 use Rattle.register_judge.specs.Checks.{earlier_checks, limit_check, record_checks}
 use Rattle.register_judge.specs.declared.sitting.Sitting.{Sitting}
 use Rattle.register_judge.specs.Taking.{Taken, take, in_front, is_new_record, verdict_of, written, writes_of, item_checks, HasRow, HaveRows}
@@ -152,8 +152,8 @@ may_put table sitting (Readied.Good item ∷ items) sound fits rows =
 pub record IsFit (limit : ℕ) (table : Table) : Type 0 where
   pub sound : IsSound table
   pub fits : record_count table ≤ limit
-  pub chains : HasChains table
-  pub parents : HasParents table
+  pub chains : SuccessorChainsEnd table
+  pub parents : ParentChainsEnd table
   pub apart : AreApart table
 
 pub entry-fit : (limits : Limits) (table : Table) (e : KeptEntry) → IsFit limits.records table → IsFit limits.records (after_entry limits table e)

@@ -6,8 +6,8 @@ ghost use Rattle.lei_outside.specs.declared.keeper.KeptCell.{KeptCell};
 ghost use Rattle.register_history.specs.Damage.{DamageExcludes, DamageIsOne, EntryTextsDiffer, LineTellsCell};
 ghost use Rattle.register_words.specs.declared.limits.Limits.{Limits};
 ghost use Rattle.upload_ledger.specs.History.{History, publications};
-ghost use Rattle.successor_rules.specs.Successors.{HasChains};
-ghost use Rattle.relation_rules.specs.Parents.{AreApart, HasParents};
+ghost use Rattle.successor_rules.specs.Successors.{SuccessorChainsEnd};
+ghost use Rattle.relation_rules.specs.Parents.{AreApart, ParentChainsEnd};
 ghost use Rattle.register_words.specs.declared.reply.Refusal.TheVariants.{KeeperFault, NoMemory};
 ghost use Rattle.register_words.specs.declared.reply.Reply.{Reply};
 ghost use Rattle.register_words.specs.declared.reply.Reply.TheVariants.{Words};
@@ -52,13 +52,13 @@ pub fn registers_are_sound()
 
 /// In a register that can come about each successor that a record names is held, and each chain of successors ends.
 pub fn successors_are_chained()
-    ensures { (office : OfficeState) → Legal office → HasChains (after office.limits office.history) }
+    ensures { (office : OfficeState) → Legal office → SuccessorChainsEnd (after office.limits office.history) }
 {}
 
 /// In a register that can come about each chain of direct parents ends. For one start and type at most one relationship
 /// is active, which is part of a sound table.
 pub fn parents_are_chained()
-    ensures { (office : OfficeState) → Legal office → HasParents (after office.limits office.history) }
+    ensures { (office : OfficeState) → Legal office → ParentChainsEnd (after office.limits office.history) }
 {}
 
 /// In a register that can come about no active parent stands beside the exception of its category.

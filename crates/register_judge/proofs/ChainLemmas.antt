@@ -19,7 +19,7 @@ use Rattle.authority_rules.proofs.PutLemmas.{row_at-put}
 use Rattle.successor_rules.specs.declared.walks.Walked.{Walked}
 use Rattle.successor_rules.specs.Chains.{AllEnd, IsTurned}
 use Rattle.lei_records.specs.Walks.{successor_of, successors_of}
-use Rattle.successor_rules.specs.Successors.{HasChains}
+use Rattle.successor_rules.specs.Successors.{SuccessorChainsEnd}
 use Rattle.lei_records.specs.Walks.{is_met, is_long}
 use Rattle.successor_rules.specs.Walks.{walked}
 use Rattle.successor_rules.proofs.ChainLemmas.{keeps_ends}
@@ -67,7 +67,7 @@ stays_held table row lei held =
     subst IsSome (sym (row_at-put table row lei))
     (elim (bytes_eq lei (lei_in row)) as (λ b. IsSome (cond b (Some row) (row_at table lei))) [ true ↦ refl | false ↦ held ])
 
-all_held : (rules : Rules) (table : Table) (row : Row) → HasChains table → Pass rules table row (successor_in row)
+all_held : (rules : Rules) (table : Table) (row : Row) → SuccessorChainsEnd table → Pass rules table row (successor_in row)
     → (lei : List ℕ) (other : Row) (next : List ℕ) → row_at (put table (Item.Record row)) lei ≡ Some other → successor_in other ≡ Some next
     → IsSome (row_at (put table (Item.Record row)) next)
 all_held rules table row chains passes lei other next at names =
@@ -96,7 +96,7 @@ turned table row successor names =
 none_of : (lei : List ℕ) → Contains [] lei → ⊥
 none_of lei at = search rules
 
-all_end : (rules : Rules) (table : Table) (row : Row) (successor : Option (List ℕ)) → HasChains table → successor_in row ≡ successor → Pass rules table row successor
+all_end : (rules : Rules) (table : Table) (row : Row) (successor : Option (List ℕ)) → SuccessorChainsEnd table → successor_in row ≡ successor → Pass rules table row successor
     → AllEnd (successors_of (put table (Item.Record row)))
 all_end rules table row None chains names passes =
     keeps_ends (successors_of table) (successors_of (put table (Item.Record row))) (lei_in row) [] 0 chains.ends (turned table row None names)
@@ -107,27 +107,27 @@ all_end rules table row (Some successor) chains names passes =
 
 -- ---- a record, and items
 
-pub chains-put : (rules : Rules) (table : Table) (row : Row) → HasChains table → Pass rules table row (successor_in row) → HasChains (put table (Item.Record row))
+pub chains-put : (rules : Rules) (table : Table) (row : Row) → SuccessorChainsEnd table → Pass rules table row (successor_in row) → SuccessorChainsEnd (put table (Item.Record row))
 chains-put rules table row chains passes = record {
   held = all_held rules table row chains passes;
   ends = all_end rules table row (successor_in row) chains refl passes;
 }
 
 -- an accepted item leaves each successor held and each chain ending: a relationship and an exception leave the records
-accepted_chains : (table : Table) (sitting : Sitting) (item : Item) → HasChains table
-    → first_failing (item_checks table sitting item) ≡ None → HasChains (put table item)
+accepted_chains : (table : Table) (sitting : Sitting) (item : Item) → SuccessorChainsEnd table
+    → first_failing (item_checks table sitting item) ≡ None → SuccessorChainsEnd (put table item)
 accepted_chains table sitting (Item.Record row) chains passes = chains-put sitting.rules table row chains (successors_pass table sitting row passes)
 accepted_chains table sitting (Item.Relation row) chains passes = record { held = chains.held; ends = chains.ends }
 accepted_chains table sitting (Item.Exception item) chains passes = record { held = chains.held; ends = chains.ends }
 
-item_chains : (table : Table) (sitting : Sitting) (item : Item) (failed : Option FailedCheck) → HasChains table
+item_chains : (table : Table) (sitting : Sitting) (item : Item) (failed : Option FailedCheck) → SuccessorChainsEnd table
     → first_failing (item_checks table sitting item) ≡ failed
-    → HasChains (put_all (writes_of (verdict_of failed) (Readied.Good item)) table)
-item_chains table sitting item None chains is = put-written HasChains table item (accepted_chains table sitting item chains is)
+    → SuccessorChainsEnd (put_all (writes_of (verdict_of failed) (Readied.Good item)) table)
+item_chains table sitting item None chains is = put-written SuccessorChainsEnd table item (accepted_chains table sitting item chains is)
 item_chains table sitting item (Some check) chains is = chains
 
-pub take-chains : (table : Table) (sitting : Sitting) (items : List Readied) → HasChains table
-    → HasChains (take table sitting items).table
+pub take-chains : (table : Table) (sitting : Sitting) (items : List Readied) → SuccessorChainsEnd table
+    → SuccessorChainsEnd (take table sitting items).table
 take-chains table sitting [] chains = chains
 take-chains table sitting (Readied.Bad check ∷ items) chains = take-chains table sitting items chains
 take-chains table sitting (Readied.Good item ∷ items) chains =

@@ -6,7 +6,7 @@ use Rattle.lei_records.specs.declared.item.Item.{Item}
 use Rattle.lei_records.specs.declared.item.Readied.{Readied}
 use Rattle.lei_records.specs.Checks.{first_failing}
 use Rattle.lei_records.specs.Tables.{IsSound, Table, put, put_all}
-use Rattle.relation_rules.specs.Parents.{AreApart, HasParents}
+use Rattle.relation_rules.specs.Parents.{AreApart, ParentChainsEnd}
 use Rattle.relation_rules.proofs.ApartLemmas.{exceptions_keep_apart, relations_keep_apart}
 use Rattle.relation_rules.proofs.ChainLemmas.{keeps_parents}
 use Rattle.register_judge.specs.declared.sitting.Sitting.{Sitting}
@@ -37,7 +37,7 @@ take_keeps P keeps table sitting (Readied.Good item ∷ items) sound has rows =
 
 -- ---- parents, and exceptions beside them
 
-parents_kept : Keeps HasParents
+parents_kept : Keeps ParentChainsEnd
 parents_kept table sitting (Item.Record row) sound has passes = record { ends = has.ends }
 parents_kept table sitting (Item.Relation row) sound has passes = keeps_parents table sitting.issuer row sound has passes
 parents_kept table sitting (Item.Exception item) sound has passes = record { ends = has.ends }
@@ -47,9 +47,9 @@ apart_kept table sitting (Item.Record row) sound apart passes = apart
 apart_kept table sitting (Item.Relation row) sound apart passes = relations_keep_apart table sitting.issuer row sound apart passes
 apart_kept table sitting (Item.Exception item) sound apart passes = exceptions_keep_apart table sitting.issuer item.0 item.1 apart passes
 
-pub take-parents : (table : Table) (sitting : Sitting) (items : List Readied) → IsSound table → HasParents table → HaveRows items
-    → HasParents (take table sitting items).table
-take-parents = take_keeps HasParents parents_kept
+pub take-parents : (table : Table) (sitting : Sitting) (items : List Readied) → IsSound table → ParentChainsEnd table → HaveRows items
+    → ParentChainsEnd (take table sitting items).table
+take-parents = take_keeps ParentChainsEnd parents_kept
 
 pub take-apart : (table : Table) (sitting : Sitting) (items : List Readied) → IsSound table → AreApart table → HaveRows items
     → AreApart (take table sitting items).table

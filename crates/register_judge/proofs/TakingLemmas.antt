@@ -17,13 +17,13 @@ use Rattle.lei_records.specs.declared.view.Seen.{Seen}
 use Rattle.lei_records.specs.Cells.{lei_in, successor_in, rec_cell, is_live, akey, holds}
 use Rattle.lei_records.specs.Checks.{Finding, code_detail, fails_if, first_failing}
 use Rattle.lei_records.specs.Rows.{Row}
-use Rattle.lei_records.specs.Tables.{Table, record_key, put, put_write, put_all, row_at, record_of, record_count, holder_of, other_holder, seen, cells_of, row_key, IsKeyed, HasHolders, AreRelationsKeyed, HasActives, IsSound}
+use Rattle.lei_records.specs.Tables.{Table, record_key, put, put_write, put_all, row_at, record_of, record_count, holder_of, other_holder, seen, cells_of, row_key, IsKeyed, AuthorityKeysAreUnique, AreRelationsKeyed, HasActives, IsSound}
 use Rattle.lei_records.proofs.OptionLemmas.{none_where}
 use Rattle.lei_records.proofs.PassLemmas.{all_pass, first_failing-append}
 use Rattle.authority_rules.specs.Taken.{taken, IsFree}
 use Rattle.authority_rules.proofs.HolderLemmas.{keys_total, some_apart, taken-cells}
 use Rattle.authority_rules.proofs.SoundLemmas.{IsSound-put_exception}
-use Rattle.authority_rules.proofs.PutLemmas.{record_of-put, holder_of-put, IsKeyed-put, HasHolders-put, IsSound-put, other_than}
+use Rattle.authority_rules.proofs.PutLemmas.{record_of-put, holder_of-put, IsKeyed-put, AuthorityKeysAreUnique-put, IsSound-put, other_than}
 use Rattle.successor_rules.specs.declared.walks.Walked.{Walked}
 use Rattle.lei_records.specs.Walks.{successor_of}
 use Rattle.lei_records.specs.Walks.{is_met, is_long}
@@ -51,7 +51,7 @@ use Rattle.register_judge.proofs.RelationLemmas.{cells-put_exception, cells-put_
 -- ---- a record on a table, by the table's cells
 
 -- C19 is asked of a live record alone
-key_by_table : (table : Table) (item : Row) → IsKeyed table → HasHolders table
+key_by_table : (table : Table) (item : Row) → IsKeyed table → AuthorityKeysAreUnique table
     → check_key (cells_of table) item ≡ checked_of (first_failing (c19 (other_holder table item) item ∷ []))
 key_by_table table item keyed holders =
     let other = other_holder table item in
@@ -73,7 +73,7 @@ in_turn (Some cell) true long behind = refl
 in_turn (Some cell) false true behind = refl
 in_turn (Some cell) false false behind = refl
 
-successor_by_table : (rules : Rules) (table : Table) (item : Row) (successor : Option (List ℕ)) → IsKeyed table → HasHolders table
+successor_by_table : (rules : Rules) (table : Table) (item : Row) (successor : Option (List ℕ)) → IsKeyed table → AuthorityKeysAreUnique table
     → check_successor rules (cells_of table) item successor
     ≡ checked_of (first_failing (successor_checks rules table item successor ++ c19 (other_holder table item) item ∷ []))
 successor_by_table rules table item None keyed holders = key_by_table table item keyed holders
@@ -86,7 +86,7 @@ successor_by_table Rules.First table item (Some successor) keyed holders =
     ∙ in_turn found (is_met (successor_of table) (lei_in item) successor) (is_long (successor_of table) successor) (c19 (other_holder table item) item ∷ []))
 
 -- the cells of a table come to the first check before C20 that fails on it
-record_by_cells : (table : Table) (sitting : Sitting) (item : Row) → IsKeyed table → HasHolders table
+record_by_cells : (table : Table) (sitting : Sitting) (item : Row) → IsKeyed table → AuthorityKeysAreUnique table
     → check_record (cells_of table) sitting item ≡ checked_of (first_failing (earlier_checks table sitting item))
 unfolding check_record
 record_by_cells table sitting item keyed holders =
@@ -134,7 +134,7 @@ with_room : (earlier room : Option FailedCheck) (none : Bool)
 with_room None room none = λ i. Ok (record { verdict = verdict_of room; new = sym (and-true none) i })
 with_room (Some check) room none = λ i. Ok (record { verdict = Verdict.Rejected check; new = sym (and-false none) i })
 
-record_by_table : (table : Table) (sitting : Sitting) (limit count : ℕ) (item : Row) → IsKeyed table → HasHolders table → IsCounted table sitting limit count
+record_by_table : (table : Table) (sitting : Sitting) (limit count : ℕ) (item : Row) → IsKeyed table → AuthorityKeysAreUnique table → IsCounted table sitting limit count
     → judge_record (cells_of table) (is_at_limit sitting count) sitting item ≡ Ok (outcome_on table (over_table sitting limit) (Readied.Good (Item.Record item)))
 record_by_table table sitting limit count item keyed holders counted =
     let held = record_of table (lei_in item) in
@@ -158,7 +158,7 @@ by_checks (Some check) = refl
 -- have one authority key, nor two active relationships one start and type.
 pub record CellsTell (table : Table) : Type 0 where
   pub keyed : IsKeyed table
-  pub holders : HasHolders table
+  pub holders : AuthorityKeysAreUnique table
   pub relations_keyed : AreRelationsKeyed table
   pub actives : HasActives table
 
@@ -179,7 +179,7 @@ seen_cond true x o = refl
 seen_cond false x o = refl
 
 -- putting a free record into a table puts it over the table's cells
-cells_put : (table : Table) (item : Row) → IsKeyed table → HasHolders table → IsFree table item → put_record (cells_of table) item ≡ cells_of (put table (Item.Record item))
+cells_put : (table : Table) (item : Row) → IsKeyed table → AuthorityKeysAreUnique table → IsFree table item → put_record (cells_of table) item ≡ cells_of (put table (Item.Record item))
 cells_put table item keyed holders free = λ i. record (cells_of table) {
   record_cell = λ lei. sym (ap seen (record_of-put table item lei) ∙ seen_cond (bytes_eq lei (lei_in item)) (rec_cell item) (record_of table lei)) i;
   holder = λ authority id. sym (ap seen (holder_of-put table item authority id keyed holders free)
@@ -250,7 +250,7 @@ after_record table sitting item told passes =
     record {
       told = record {
         keyed = IsKeyed-put table item told.keyed;
-        holders = HasHolders-put table item told.keyed told.holders free;
+        holders = AuthorityKeysAreUnique-put table item told.keyed told.holders free;
         relations_keyed = told.relations_keyed;
         actives = told.actives;
       };

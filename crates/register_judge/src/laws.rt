@@ -6,12 +6,12 @@ ghost use Rattle.lei_records.specs.Cells.{successor_in};
 ghost use Rattle.lei_records.specs.Checks.{first_failing};
 ghost use Rattle.lei_records.specs.Rows.{Row};
 ghost use Rattle.lei_records.specs.Tables.{Table, IsSound, put, put_all};
-ghost use Rattle.relation_rules.specs.Parents.{AreApart, HasParents};
+ghost use Rattle.relation_rules.specs.Parents.{AreApart, ParentChainsEnd};
 ghost use Rattle.register_judge.specs.declared.sitting.Rules.{Rules};
 ghost use Rattle.register_judge.specs.declared.sitting.Sitting.{Sitting};
 ghost use Rattle.register_judge.specs.Checks.{successor_checks};
 ghost use Rattle.register_judge.specs.Taking.{take, HaveRows};
-ghost use Rattle.successor_rules.specs.Successors.{HasChains};
+ghost use Rattle.successor_rules.specs.Successors.{SuccessorChainsEnd};
 
 /// Items leave a sound table sound.
 pub fn items_keep_tables_sound()
@@ -28,21 +28,21 @@ pub fn writes_make_the_table()
 /// Where each successor that a table's records name is held and each chain ends, this still holds after a record was put
 /// that passes the checks of its successor.
 pub fn accepted_successors_keep_chains()
-    ensures { (rules : Rules) (table : Table) (row : Row) → HasChains table
+    ensures { (rules : Rules) (table : Table) (row : Row) → SuccessorChainsEnd table
         → first_failing (successor_checks rules table row (successor_in row)) ≡ None
-        → HasChains (put table (Item.Record row)) }
+        → SuccessorChainsEnd (put table (Item.Record row)) }
 {}
 
 /// It still holds behind items, whatever they are.
 pub fn items_keep_chains()
     ensures { (table : Table) (sitting : Sitting) (items : List Readied)
-        → HasChains table → HasChains (take table sitting items).table }
+        → SuccessorChainsEnd table → SuccessorChainsEnd (take table sitting items).table }
 {}
 
 /// Items leave each chain of direct parents of a sound table with an end.
 pub fn items_keep_parents()
     ensures { (table : Table) (sitting : Sitting) (items : List Readied)
-        → IsSound table → HasParents table → HaveRows items → HasParents (take table sitting items).table }
+        → IsSound table → ParentChainsEnd table → HaveRows items → ParentChainsEnd (take table sitting items).table }
 {}
 
 /// They leave no active parent of a sound table beside the exception of its category.

@@ -119,7 +119,10 @@ impl Books {
         if call.body.len() as u64 > self.limits.body {
             return Ok(refused(Refusal::TooLong));
         }
-        match self.ledger.place(&call.office, call.number, call.body.as_slice()) {
+        match self
+            .ledger
+            .place(&call.office, call.number, call.body.as_slice())
+        {
             Place::UnknownOffice => Ok(refused(Refusal::IssuerUnknown)),
             Place::Repeat(answer) => Ok(Decision::Stays(kept_reply(self.alloc, answer)?)),
             Place::Taken => Ok(refused(Refusal::NumberTaken)),

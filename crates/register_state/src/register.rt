@@ -109,7 +109,10 @@ impl Register {
         ensures failed { IsErrOf result KeepFault.Failed → Rose (K.faults keeper.old) (K.faults keeper.new) }
     {
         let moment = self.books.stamp(moment);
-        match self.books.decide(rt, &mut self.shelf, &mut self.reader, request, moment) {
+        match self
+            .books
+            .decide(rt, &mut self.shelf, &mut self.reader, request, moment)
+        {
             Ok(Decision::Stays(reply)) => Ok(reply),
             Ok(Decision::Adds(entry, writes)) => {
                 let publishes = entry.kind == PUBLISH;
@@ -140,7 +143,10 @@ impl Register {
         ensures stays { OnErr result (self.new ≡ self.old) }
     {
         let moment = self.books.stamp(moment);
-        match self.books.decide(rt, &mut self.shelf, &mut self.reader, request, moment) {
+        match self
+            .books
+            .decide(rt, &mut self.shelf, &mut self.reader, request, moment)
+        {
             Ok(Decision::Stays(reply)) => Ok(Some(Decision::Stays(reply))),
             Ok(Decision::Adds(entry, writes)) => {
                 let publishes = entry.kind == PUBLISH;

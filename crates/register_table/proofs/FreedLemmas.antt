@@ -14,7 +14,7 @@ use Rattle.lei_records.specs.Tables.{active_of, holder_of, relations_of}
 use Rattle.authority_rules.proofs.HolderLemmas.{bytes_same, first_true, second_true, some_apart}
 use Rattle.authority_rules.proofs.UnderKeys.{found_none}
 use Rattle.register_table.specs.declared.ends.Ends.{Ends}
-use Rattle.register_table.specs.declared.holders.Holders.{Holders}
+use Rattle.register_table.specs.declared.authority_key_index.AuthorityKeyIndex.{AuthorityKeyIndex}
 use Rattle.register_table.specs.declared.parts.Note.{Note}
 use Rattle.register_table.specs.declared.parts.Parts.{Parts}
 use Rattle.register_table.specs.Held.{rows}
@@ -94,7 +94,7 @@ active_same start s kind k row t =
 module _ (parts : Parts) (are : AreParts parts) where
   -- ---- by authority and id
 
-  module _ (newer : Holders) (authority id : List ℕ) where
+  module _ (newer : AuthorityKeyIndex) (authority id : List ℕ) where
     abbrev after : Parts
     after = record parts { holders = newer }
 

@@ -12,7 +12,7 @@ use Rattle.lei_records.specs.Relations.{end_in, is_active_of, is_same_type}
 use Rattle.lei_records.specs.Rows.{Row}
 use Rattle.authority_rules.proofs.HolderLemmas.{bytes_same, first_true, second_true, some_apart}
 use Rattle.register_table.specs.declared.ends.Ends.{Ends}
-use Rattle.register_table.specs.declared.holders.Holders.{Holders}
+use Rattle.register_table.specs.declared.authority_key_index.AuthorityKeyIndex.{AuthorityKeyIndex}
 use Rattle.register_table.specs.declared.parts.Note.{Note}
 use Rattle.register_table.specs.declared.parts.Parts.{Parts}
 use Rattle.register_table.specs.Held.{Held}
@@ -83,7 +83,7 @@ module _ (parts : Parts) where
     pub key_taken : is_some (holder_in parts.holders authority id) ≡ true → IsMarked (taken parts) (Some (Item.Record row))
     key_taken some a i held = ap is_some (own_key a i held) ∙ some
 
-    module _ (are : AreParts parts) (newer : Holders) (none : holder_in parts.holders authority id ≡ None)
+    module _ (are : AreParts parts) (newer : AuthorityKeyIndex) (none : holder_in parts.holders authority id ≡ None)
         (put : (a i : List ℕ) → holder_in newer a i ≡ cond (holds a i row) (Some (lei_in row)) (holder_in parts.holders a i)) where
       abbrev after : Parts
       after = record parts { holders = newer }

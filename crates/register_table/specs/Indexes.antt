@@ -11,15 +11,15 @@ use Rattle.lei_records.specs.Cells.{holds}
 use Rattle.lei_records.specs.Relations.{is_active_of}
 use Rattle.lei_records.specs.Rows.{Row}
 use Rattle.register_table.specs.declared.ends.Ends.{Ends}
-use Rattle.register_table.specs.declared.holders.Holders.{Holders}
+use Rattle.register_table.specs.declared.authority_key_index.AuthorityKeyIndex.{AuthorityKeyIndex}
 
 -- What stands under an authority key: the LEI that was noted there last, or none once the key was freed. A key has
 -- nothing under it where none was ever noted, or where it was dropped.
-abbrev pub noted_holder : Holders → Text → Text → Option (Option Lei)
+abbrev pub noted_holder : AuthorityKeyIndex → Text → Text → Option (Option Lei)
 noted_holder holders authority id = option_and_then (λ ids. get_by_text ids id) (get_by_text holders.map authority)
 
 -- The LEI under an authority key, where one stands there.
-abbrev pub holder_in : Holders → Text → Text → Option Lei
+abbrev pub holder_in : AuthorityKeyIndex → Text → Text → Option Lei
 holder_in holders authority id = option_and_then (λ noted. noted) (noted_holder holders authority id)
 
 -- What stands under a start and the text of a type: the end that was noted there last, or none once it was freed.
@@ -51,7 +51,7 @@ IsBare None = ⊥
 IsBare (Some ids) = IsEmpty ids
 
 -- A record holds an authority key under which nobody was noted.
-pub record HoldsNewKey (row : Row) (holders : Holders) : Type 0 where
+pub record HoldsNewKey (row : Row) (holders : AuthorityKeyIndex) : Type 0 where
   pub authority : Text
   pub id : Text
   pub held : holds authority id row ≡ true
@@ -70,14 +70,14 @@ pub record Marks : Type 0 where
   pub by_start : Lei → RelationType → Bool
 
 -- The keys under which something stands.
-abbrev pub noted_in : Holders → Ends → Marks
+abbrev pub noted_in : AuthorityKeyIndex → Ends → Marks
 noted_in holders ends = record {
   by_key = λ authority id. is_some (noted_holder holders authority id);
   by_start = λ start kind. is_some (noted_end ends start kind);
 }
 
 -- The keys under which a LEI stands.
-abbrev pub taken_in : Holders → Ends → Marks
+abbrev pub taken_in : AuthorityKeyIndex → Ends → Marks
 taken_in holders ends = record {
   by_key = λ authority id. is_some (holder_in holders authority id);
   by_start = λ start kind. is_some (end_in_index ends start kind);

@@ -11,7 +11,7 @@ use Rattle.lei_records.specs.Relations.{end_in, is_active_of}
 use Rattle.lei_records.specs.Rows.{Row}
 use Rattle.lei_records.specs.Tables.{KeyTexts, Table, active_of, holder_of}
 use Rattle.register_table.specs.declared.ends.Ends.{Ends}
-use Rattle.register_table.specs.declared.holders.Holders.{Holders}
+use Rattle.register_table.specs.declared.authority_key_index.AuthorityKeyIndex.{AuthorityKeyIndex}
 use Rattle.register_table.specs.declared.parts.Note.{Note}
 use Rattle.register_table.specs.declared.parts.Parts.{Parts}
 use Rattle.register_table.specs.Cells.{IsOwnCell, cell_in}
@@ -34,12 +34,12 @@ end_after (Some (Item.Relation row)) before start kind =
 end_after item before start kind = before start kind
 
 -- These are the indexes with an item noted.
-pub record AreNoted (item : Option Item) (holders : Holders) (ends : Ends) (newer : Holders) (later : Ends) : Type 0 where
+pub record AreNoted (item : Option Item) (holders : AuthorityKeyIndex) (ends : Ends) (newer : AuthorityKeyIndex) (later : Ends) : Type 0 where
   pub by_key : (authority id : Text) → holder_in newer authority id ≡ holder_after item (holder_in holders) authority id
   pub by_start : (start : Lei) (kind : RelationType) → end_in_index later start kind ≡ end_after item (end_in_index ends) start kind
 
 -- An item has a key under which nothing was noted.
-abbrev pub IsNew : Option Item → Holders → Ends → Type 0
+abbrev pub IsNew : Option Item → AuthorityKeyIndex → Ends → Type 0
 IsNew (Some (Item.Record row)) holders ends = HoldsNewKey row holders
 IsNew (Some (Item.Relation row)) holders ends = HasNewEnd row ends
 IsNew item holders ends = ⊥

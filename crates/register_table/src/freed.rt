@@ -7,7 +7,7 @@ ghost use Rattle.register_table.specs.Held.{rows};
 ghost use Rattle.register_table.specs.Parts.{AreParts, CanBeUndone, IsMarked, IsNoteOf, IsNoteWithin, IsWithin, Stays, held_by, note_of, noted, taken};
 ghost use Rattle.register_table.specs.Undos.{undone};
 
-use crate::holders::held_key;
+use crate::authority_key_index::held_key;
 use crate::parts::{Note, Parts};
 use crate::writes::undo_notes;
 use lei_outside::NoMemory;

@@ -2,11 +2,11 @@
 //! last ones can be taken back without memory.
 #![tactic(auto)]
 
+mod authority_key_index;
 mod cells;
 mod counts;
 mod ends;
 mod freed;
-mod holders;
 mod keys;
 mod parts;
 mod reading;

@@ -7,9 +7,9 @@ ghost use Rattle.register_table.specs.Indexes.{end_in_index, holder_in, noted_in
 ghost use Rattle.register_table.specs.Parts.{AreNoted, AreParts, IsMarked, IsNew, Stays, noted, taken};
 ghost use Rattle.register_table.specs.Undos.{with_cell};
 
+use crate::authority_key_index::AuthorityKeyIndex;
 use crate::cells::{CellMap, Slot};
 use crate::ends::Ends;
-use crate::holders::Holders;
 use lei_outside::NoMemory;
 use lei_records::{Item, RowKey};
 
@@ -17,7 +17,7 @@ use lei_records::{Item, RowKey};
 #[derive(Drop)]
 pub struct Parts {
     pub cells: CellMap,
-    pub holders: Holders,
+    pub holders: AuthorityKeyIndex,
     pub ends: Ends,
 }
 
@@ -48,7 +48,11 @@ pub fn put(parts: &mut Parts, key: RowKey, slot: Slot) -> Result<Option<Slot>, N
 }
 
 // Notes what an item holds in the indexes.
-fn index(holders: &mut Holders, ends: &mut Ends, item: &Option<Item>) -> Result<(), NoMemory>
+fn index(
+    holders: &mut AuthorityKeyIndex,
+    ends: &mut Ends,
+    item: &Option<Item>,
+) -> Result<(), NoMemory>
     ensures ok { OnOk result (AreNoted item.now holders.old ends.old holders.new ends.new) }
     ensures err { OnErr result (AreNoted None holders.old ends.old holders.new ends.new) }
     ensures noted { Stays (noted_in holders.old ends.old) (noted_in holders.new ends.new) }

@@ -6,10 +6,10 @@ ghost use Rattle.register_table.specs.Held.{IsKept, no_rows, rows};
 ghost use Rattle.register_table.specs.Touched.{shown, touched};
 ghost use Rattle.register_table.specs.Undos.{IsLater, MayApply, touch_all};
 
+use crate::authority_key_index::AuthorityKeyIndex;
 use crate::cells::CellMap;
 use crate::ends::Ends;
 use crate::freed::{drop_freed, free_keys, take_back};
-use crate::holders::Holders;
 use crate::parts::{Note, Parts};
 use crate::stamps::{Stamp, stamp_writes, stamps_within};
 use crate::touched::Touched;
@@ -105,7 +105,7 @@ impl Table {
     {
         let parts = Parts {
             cells: CellMap::new(alloc),
-            holders: Holders::new(alloc),
+            holders: AuthorityKeyIndex::new(alloc),
             ends: Ends::new(alloc),
         };
         Ok(Table {

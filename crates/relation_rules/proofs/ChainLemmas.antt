@@ -24,7 +24,7 @@ use Rattle.successor_rules.proofs.ChainLemmas.{keeps_ends}
 use Rattle.successor_rules.proofs.WalkLemmas.{ended_walk_keeps_ends}
 use Rattle.relation_rules.specs.Checks.{c37, is_direct_parent, is_from, other_end, relation_checks}
 use Rattle.lei_records.specs.Parents.{is_direct, parent_of, parents_of}
-use Rattle.relation_rules.specs.Parents.{HasParents}
+use Rattle.relation_rules.specs.Parents.{ParentChainsEnd}
 use Rattle.relation_rules.proofs.ActiveLemmas.{active_of-put, closed, left_of, opened, same_bytes}
 use Rattle.lei_records.proofs.PassLemmas.{AllPass, all_pass}
 use Rattle.relation_rules.proofs.PutLemmas.{fitting}
@@ -123,12 +123,12 @@ module _ (table : Table) (row : Row) (sound : IsSound table) (passes : (c37 (oth
       (λ none. keeps_ends (parents_of table) (parents_of (put table (Item.Relation row))) start [] 0 all
       (turned [] (ap option_to_list (here ∙ none))) (λ target at. absurd (no_member target at)))
 
-pub keeps_parents : (table : Table) (issuer : List ℕ) (row : Row) → IsSound table → HasParents table
-    → first_failing (relation_checks table issuer row) ≡ None → HasParents (put table (Item.Relation row))
+pub keeps_parents : (table : Table) (issuer : List ℕ) (row : Row) → IsSound table → ParentChainsEnd table
+    → first_failing (relation_checks table issuer row) ≡ None → ParentChainsEnd (put table (Item.Relation row))
 keeps_parents table issuer row sound has passes =
     let all : AllPass (relation_checks table issuer row) = all_pass (relation_checks table issuer row) passes in
     let from_37 = all.others.others.others.others.others.others.others in
-    elim (is_direct_parent row) as (λ b. is_direct_parent row ≡ b → HasParents (put table (Item.Relation row))) [
+    elim (is_direct_parent row) as (λ b. is_direct_parent row ≡ b → ParentChainsEnd (put table (Item.Relation row))) [
       | true ↦ λ t.
           let met : is_met (parent_of table) (start_in row) (end_in row) ≡ false = other_false _ _ from_37.others.first t in
           let long : is_long (parent_of table) (end_in row) ≡ false = other_false _ _ from_37.others.others.first t in

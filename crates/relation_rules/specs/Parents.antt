@@ -7,7 +7,7 @@ use Rattle.lei_records.specs.Tables.{Table, active_of, has_exception}
 use Rattle.successor_rules.specs.Chains.{AllEnd}
 
 -- Each chain of direct parents ends.
-pub record HasParents (table : Table) : Type 0 where
+pub record ParentChainsEnd (table : Table) : Type 0 where
   pub ends : AllEnd (parents_of table)
 
 -- Where an exception stands, the entity has no active parent of its category.

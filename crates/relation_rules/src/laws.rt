@@ -7,7 +7,7 @@ ghost use Rattle.lei_records.specs.Rows.{Row};
 ghost use Rattle.lei_records.specs.Spelled.{IsExceptionRow, IsRelationRow};
 ghost use Rattle.lei_records.specs.Tables.{IsSound, Table, put};
 ghost use Rattle.relation_rules.specs.Checks.{c37, exception_checks, other_end, relation_checks};
-ghost use Rattle.relation_rules.specs.Parents.{AreApart, HasParents};
+ghost use Rattle.relation_rules.specs.Parents.{AreApart, ParentChainsEnd};
 
 /// A relationship beside which no active one of its start and type has another end, or that isn't active, can be put
 /// into a sound table, which stays sound.
@@ -24,16 +24,16 @@ pub fn exceptions_keep_tables_sound()
 
 /// A relationship that passes its checks on a sound table leaves each chain of direct parents with an end.
 pub fn accepted_relations_keep_parents()
-    ensures { (table : Table) (issuer : Lei) (row : Row) → IsSound table → HasParents table
-        → first_failing (relation_checks table issuer row) ≡ None → HasParents (put table (Item.Relation row)) }
+    ensures { (table : Table) (issuer : Lei) (row : Row) → IsSound table → ParentChainsEnd table
+        → first_failing (relation_checks table issuer row) ≡ None → ParentChainsEnd (put table (Item.Relation row)) }
 {}
 
 /// A record and an exception leave the chains of direct parents as they are, and a record the exceptions too.
 pub fn records_and_exceptions_keep_parents()
-    ensures records { (table : Table) (row : Row) → HasParents table → HasParents (put table (Item.Record row)) }
+    ensures records { (table : Table) (row : Row) → ParentChainsEnd table → ParentChainsEnd (put table (Item.Record row)) }
     ensures apart { (table : Table) (row : Row) → AreApart table → AreApart (put table (Item.Record row)) }
     ensures exceptions { (table : Table) (item : Row × Bool)
-        → HasParents table → HasParents (put table (Item.Exception item)) }
+        → ParentChainsEnd table → ParentChainsEnd (put table (Item.Exception item)) }
 {}
 
 /// Items that pass their checks on a sound table leave no active parent beside the exception of its category.

@@ -30,7 +30,7 @@ walk cells start first = walk_over (λ lei. successor_seen (cells.record_cell le
 -- ---- what holds of a register's successors
 
 -- Each successor that a record names has a record itself, and each chain of successors ends.
-pub record HasChains (table : Table) : Type 0 where
+pub record SuccessorChainsEnd (table : Table) : Type 0 where
   pub held : (lei : Lei) (row : Row) (next : Lei) → row_at table lei ≡ Some row
       → successor_in row ≡ Some next → IsSome (row_at table next)
   pub ends : AllEnd (successors_of table)

@@ -3,7 +3,7 @@ use Rattle.std.specs.BTreeMap.{get_by_text}
 use Rattle.std.proofs.Common.{rules}
 use Rattle.std.proofs.lemmas.Result.{on_ok_weaker, on_err_weaker}
 use Rattle.register_table.proofs.IndexLemmas.{lei_under-changed, lei_under-same, text_at-update}
-use Rattle.register_table.proofs.holders.Holders.note.Goals as goal
+use Rattle.register_table.proofs.authority_key_index.AuthorityKeyIndex.note.Goals as goal
 
 pub returns-in-Some-clause-put : goal.returns-in-Some-clause-put
 returns-in-Some-clause-put c =

@@ -20,17 +20,17 @@ type Ids = BTreeMap<String, Option<Lei>>;
 /// By authority key, the LEI of the record that took it last. It may have given the key up again. A key that is freed
 /// stays without a LEI until it is dropped.
 #[derive(Drop)]
-pub struct Holders {
+pub struct AuthorityKeyIndex {
     pub alloc: Global,
     pub map: BTreeMap<String, Ids>,
 }
 
-impl Holders {
+impl AuthorityKeyIndex {
     /// Nobody has a key.
     pub fn new(alloc: Global) -> Self
         ensures { (authority id : List ℕ) → noted_holder result authority id ≡ None }
     {
-        Holders {
+        AuthorityKeyIndex {
             alloc,
             map: BTreeMap::new(alloc),
         }

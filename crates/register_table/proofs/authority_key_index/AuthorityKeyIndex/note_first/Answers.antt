@@ -1,7 +1,7 @@
 use Rattle.std.proofs.Common.{Some, None, string_bytes, ap, cond, ◌∙◌}
 use Rattle.std.specs.Str.{bytes_eq}
 use Rattle.register_table.proofs.IndexLemmas.{lei_under-changed, text_at-empty, text_at-update}
-use Rattle.register_table.proofs.holders.Holders.note_first.Goals as goal
+use Rattle.register_table.proofs.authority_key_index.AuthorityKeyIndex.note_first.Goals as goal
 
 pub returns-clause-put : goal.returns-clause-put
 returns-clause-put c =

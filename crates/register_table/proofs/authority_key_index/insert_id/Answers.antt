@@ -1,6 +1,6 @@
 use Rattle.std.specs.Prelude.{Some, string_bytes, refl}
 use Rattle.register_table.proofs.IndexLemmas.{text_at-update}
-use Rattle.register_table.proofs.holders.insert_id.Goals as goal
+use Rattle.register_table.proofs.authority_key_index.insert_id.Goals as goal
 
 pub returns-clause-put : goal.returns-clause-put
 returns-clause-put c =

@@ -2,7 +2,7 @@ use Rattle.std.proofs.Common.{◌≡◌, Some, refl, rules}
 use Rattle.std.specs.BTreeMap.{get_by_text}
 use Rattle.register_table.specs.Indexes.{freed}
 use Rattle.register_table.proofs.IndexLemmas.{lei_under-changed, text_at-update}
-use Rattle.register_table.proofs.holders.Holders.free.Goals as goal
+use Rattle.register_table.proofs.authority_key_index.AuthorityKeyIndex.free.Goals as goal
 
 pub returns-in-Some : goal.returns-in-Some
 returns-in-Some c =

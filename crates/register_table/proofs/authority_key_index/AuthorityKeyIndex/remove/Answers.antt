@@ -1,6 +1,6 @@
 use Rattle.std.proofs.Common.{None, refl, ◌∙◌}
 use Rattle.register_table.proofs.IndexLemmas.{same_without, text_at-update}
-use Rattle.register_table.proofs.holders.Holders.remove.Goals as goal
+use Rattle.register_table.proofs.authority_key_index.AuthorityKeyIndex.remove.Goals as goal
 
 pub returns-then-remove_id : goal.returns-then-remove_id
 returns-then-remove_id c a i =

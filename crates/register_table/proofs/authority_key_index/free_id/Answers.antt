@@ -3,7 +3,7 @@ use Rattle.std.specs.BTreeMap.{get_by_text}
 use Rattle.std.specs.Str.{bytes_eq}
 use Rattle.authority_rules.proofs.HolderLemmas.{bytes_same}
 use Rattle.register_table.proofs.IndexLemmas.{freed_when, text_at-update}
-use Rattle.register_table.proofs.holders.free_id.Goals as goal
+use Rattle.register_table.proofs.authority_key_index.free_id.Goals as goal
 
 pub returns-in-Some : goal.returns-in-Some
 returns-in-Some c i =

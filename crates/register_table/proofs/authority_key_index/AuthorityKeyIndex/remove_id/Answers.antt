@@ -3,7 +3,7 @@ use mathlib.Core.Bool.{true≢false}
 use Rattle.std.specs.BTreeMap.{get_by_text}
 use Rattle.register_table.proofs.IndexLemmas.{lei_under-changed, text_at-update}
 use Rattle.register_table.specs.Indexes.{IsBare}
-use Rattle.register_table.proofs.holders.Holders.remove_id.Goals as goal
+use Rattle.register_table.proofs.authority_key_index.AuthorityKeyIndex.remove_id.Goals as goal
 
 pub returns-in-Some-clause-removed : goal.returns-in-Some-clause-removed
 returns-in-Some-clause-removed c =

@@ -1,7 +1,7 @@
 use Rattle.std.specs.Prelude.{Some, refl}
 use Rattle.std.proofs.Common.{rules}
 use Rattle.register_table.proofs.IndexLemmas.{text_at-update}
-use Rattle.register_table.proofs.holders.note_id.Goals as goal
+use Rattle.register_table.proofs.authority_key_index.note_id.Goals as goal
 
 pub returns-in-Some-clause-put : goal.returns-in-Some-clause-put
 returns-in-Some-clause-put c =
