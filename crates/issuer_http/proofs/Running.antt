@@ -1,4 +1,4 @@
--- What was answered, and what was answered behind it.
+-- What was answered, and what was answered after it.
 use Rattle.std.proofs.Common.{Contains, ◌≡◌, ℕ, ℤ, List, [], ◌∷◌, ◌++◌, length, take, Ok, Err, refl, sym, ap, ◌∙◌, subst, append_assoc, arith, length-append}
 use Rattle.std.proofs.lemmas.List.{append-nil, map-append}
 use Rattle.lei_outside.specs.Count.{Rose}
@@ -52,7 +52,7 @@ asks-length : (wants : List Want) → length (asks_of wants) ≡ length wants
 asks-length [] = refl
 asks-length (want ∷ wants) = let rest : length (asks_of wants) ≡ length wants = asks-length wants in omega (arith, rest)
 
--- the responses to what was wanted, and to what was wanted behind it
+-- the responses to what was wanted, and to what was wanted after it
 texts-join : (wants more : List Want) (replies others : List Reply) → length replies ≡ length wants
     → response_texts (wants ++ more) (replies ++ others) ≡ response_texts wants replies ++ response_texts more others
 texts-join [] more [] others same = refl

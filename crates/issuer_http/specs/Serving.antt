@@ -1,10 +1,9 @@
 -- What serving a connection does, and how it ends.
 use Rattle.std.specs.Prelude.{◌≡◌, ◌⊎◌, ◌<◌, ◌≤◌, ℕ, ℤ, Bool, true, false, List, [], ◌∷◌, ◌++◌, length, map, take, drop, All, Contains, if◌then◌else◌, Option, Some, None, Result, Ok, Err, MatchResult}
+use Rattle.http_heads.specs.Heads.{IsHeadRead}
 use Rattle.http_heads.specs.Requests.{IsRead}
-use Rattle.http_heads.specs.Wishes.{IsWishRead}
-use Rattle.http_heads.specs.declared.head.HeadFault.{HeadFault}
-use Rattle.http_heads.specs.declared.wishes.Ask.{Ask}
-use Rattle.http_heads.specs.declared.wishes.WishRead.{WishRead}
+use Rattle.http_heads.specs.declared.head.Head.{Head}
+use Rattle.http_heads.specs.declared.head.HeadRead.{HeadRead}
 use Rattle.lei_outside.specs.Count.{Rose}
 use Rattle.lei_outside.specs.Told.{Grows, IsAtEnd, Loses, WritesFront}
 use Rattle.lei_outside.specs.declared.faults.SinkFault.{SinkFault}
@@ -102,7 +101,7 @@ AnswersTo before bytes rest after =
 
 -- There are no bytes, or they begin a request that isn't whole yet.
 abbrev pub NeedsMore : List ℕ → Type 0
-NeedsMore bytes = (bytes ≡ []) ⊎ IsRead bytes WishRead.More
+NeedsMore bytes = (bytes ≡ []) ⊎ IsRead bytes HeadRead.More
 
 -- All whole requests of the bytes were answered, and none of them asks to close.
 abbrev pub AnswersAll : Progress → List ℕ → Progress → Type 0
@@ -111,17 +110,17 @@ AnswersAll before bytes after = (rest : List ℕ) × AnswersTo before bytes rest
 -- The whole requests of the bytes were answered up to the first that asks to close, and with it.
 abbrev pub AnswersToLast : Progress → List ℕ → Progress → Type 0
 AnswersToLast before bytes after =
-    (wants : List Want) × (rest : List ℕ) × (ask : Ask) × Wants bytes wants rest × StayOpen wants
-    × IsRead rest (WishRead.Asks ask) × (ask.last ≡ true) × Ran before (wants ++ want_of rest ask ∷ []) after
+    (wants : List Want) × (rest : List ℕ) × (head : Head) × Wants bytes wants rest × StayOpen wants
+    × IsRead rest (HeadRead.Whole head) × (head.last ≡ true) × Ran before (wants ++ want_of rest head ∷ []) after
 
--- All whole requests of the bytes were answered, none of which asks to close, and then that the head behind them is refused.
+-- All whole requests of the bytes were answered, none of which asks to close, and then that the head after them is refused.
 abbrev pub AnswersToBadHead : Progress → List ℕ → Progress → Type 0
 AnswersToBadHead before bytes after =
-    (wants : List Want) × (rest : List ℕ) × (fault : HeadFault) × Wants bytes wants rest × StayOpen wants
-    × IsRead rest (WishRead.Bad fault) × Ran before (wants ++ refused fault ∷ []) after
+    (wants : List Want) × (rest : List ℕ) × (fault : Refusal) × Wants bytes wants rest × StayOpen wants
+    × IsRead rest (HeadRead.Bad fault) × Ran before (wants ++ refused fault ∷ []) after
 
 -- Some whole requests in front of the bytes were answered, none but perhaps the last of which asks to close, or all of
--- them and that the head behind them is refused. Of the last response perhaps a front alone was written.
+-- them and that the head after them is refused. Of the last response perhaps a front alone was written.
 abbrev pub AnswersSome : Progress → List ℕ → Progress → Type 0
 AnswersSome before bytes after =
     (wants : List Want) × (rest : List ℕ) × (last : List Want) × Wants bytes wants rest × StayOpen wants
@@ -151,7 +150,7 @@ pub record Serves (before : Progress) (left : Option (List ℕ)) (after : Progre
   pub ends : EndsWith ended before bytes left_now after
 
 -- What comes of a link that has these bytes left, where neither of its sides fails and memory is never wanting: they were
--- all taken, and all whole requests answered, or those up to the first that asks to close, or all and that the head behind
+-- all taken, and all whole requests answered, or those up to the first that asks to close, or all and that the head after
 -- them is refused; or they are as many as end a connection.
 abbrev pub Completes : Ended → Progress → List ℕ → Progress → Type 0
 Completes ended before bytes after =
@@ -162,9 +161,9 @@ Completes ended before bytes after =
 -- ---- inside
 
 -- Where the head of the request at the front of the bytes was read, it says this.
-abbrev pub IsAwaited : List ℕ → Option Ask → Type 0
+abbrev pub IsAwaited : List ℕ → Option Head → Type 0
 IsAwaited bytes None = Unit {0}
-IsAwaited bytes (Some ask) = IsWishRead bytes (WishRead.Asks ask)
+IsAwaited bytes (Some head) = IsHeadRead bytes (HeadRead.Whole head)
 
 -- What was answered ended the connection, and why.
 abbrev pub Stops : Ended → Progress → List ℕ → Progress → Type 0
@@ -175,11 +174,11 @@ Stops Ended.BadHead before bytes after = AnswersToBadHead before bytes after
 Stops Ended.InputLimit before bytes after = ⊥
 Stops Ended.NoMemory before bytes after = AnswersSome before bytes after
 
--- All whole requests in front of the bytes were answered, and what is behind them waits for more; or the connection ended.
+-- All whole requests in front of the bytes were answered, and what is after them waits for more; or the connection ended.
 abbrev pub Walks : Progress → List ℕ → Result Walked Ended → Progress → Type 0
 Walks before bytes result after = MatchResult result
     (λ walked. (walked.used ≤ length bytes) × AnswersTo before bytes (drop walked.used bytes) after
-    × IsRead (drop walked.used bytes) WishRead.More × IsAwaited (drop walked.used bytes) walked.awaited)
+    × IsRead (drop walked.used bytes) HeadRead.More × IsAwaited (drop walked.used bytes) walked.awaited)
     (λ ended. Stops ended before bytes after)
 
 -- What was wanted was answered, and the connection goes on or ends.
