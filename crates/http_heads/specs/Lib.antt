@@ -4,3 +4,4 @@ pub mod Heads
 pub mod Asking
 pub mod Requests
 pub mod Responses
+pub mod Laws

@@ -5,6 +5,7 @@
 mod asking;
 mod head;
 mod headers;
+pub mod laws;
 mod responses;
 mod routes;
 mod words;
