@@ -11,7 +11,7 @@ use Rattle.httparse.specs.declared.spans.HeaderSpan.{HeaderSpan}
 use Rattle.httparse.specs.declared.spans.RequestSpans.{RequestSpans}
 use Rattle.httparse.proofs.GrammarLemmas.{ReadsRequest-append}
 use Rattle.register_words.specs.declared.reply.Refusal.{Refusal}
-use Rattle.http_heads.specs.Heads.{IsFrontRead, IsHead, IsHeadRead, Tells, unfinished}
+use Rattle.http_heads.specs.Heads.{IsFrontRead, IsHead, IsHeadRead, Tells, unfinished_read}
 use Rattle.http_heads.specs.declared.head.Head.{Head}
 use Rattle.http_heads.specs.declared.head.HeadRead.{HeadRead}
 
@@ -83,7 +83,7 @@ never_more : (front tail : List ℕ) → NeverHasRequest front → NeverHasReque
 never_more front tail never further = subst HasNoRequest (sym (append_assoc front tail further)) (never (tail ++ further))
 
 -- what isn't there yet stays away where all bytes are there that count
-stays_away : (front tail bytes more : List ℕ) (read : HeadRead) → (8192 ≤ length bytes → tail ≡ []) → length bytes ≤ length more → read ≢ HeadRead.More → HasNoRequest front → MayBecomeRequest front → read ≡ unfinished (length bytes) → (nat_lt (length bytes) 8192 ≡ true) ⊎ (nat_lt (length bytes) 8192 ≡ false) → IsFrontRead (front ++ tail) more read
+stays_away : (front tail bytes more : List ℕ) (read : HeadRead) → (8192 ≤ length bytes → tail ≡ []) → length bytes ≤ length more → read ≢ HeadRead.More → HasNoRequest front → MayBecomeRequest front → read ≡ unfinished_read (length bytes) → (nat_lt (length bytes) 8192 ≡ true) ⊎ (nat_lt (length bytes) 8192 ≡ false) → IsFrontRead (front ++ tail) more read
 stays_away front tail bytes more read full grows other none may is (inl few) =
     absurd (other (is ∙ ap (λ b. if b then HeadRead.More else HeadRead.Bad Refusal.HeadTooLong) few))
 stays_away front tail bytes more read full grows other none may is (inr many) =

@@ -89,14 +89,14 @@ Tells bytes head (HeadRead.Whole read) = (fault_of head ≡ None) × IsHead byte
 
 -- What is answered of so many bytes, the first of which have no whole head and may have one later: 8,192 bytes have to be
 -- enough.
-abbrev pub unfinished : ℕ → HeadRead
-unfinished size = if nat_lt size 8192 then HeadRead.More else HeadRead.Bad Refusal.HeadTooLong
+abbrev pub unfinished_read : ℕ → HeadRead
+unfinished_read size = if nat_lt size 8192 then HeadRead.More else HeadRead.Bad Refusal.HeadTooLong
 
 -- What is answered of bytes with this front: the head isn't there yet; or no head begins so; or what the head tells that is
 -- there.
 abbrev pub IsFrontRead : List ℕ → List ℕ → HeadRead → Type 0
 IsFrontRead front bytes read =
-    (HasNoRequest front × MayBecomeRequest front × (read ≡ unfinished (length bytes)))
+    (HasNoRequest front × MayBecomeRequest front × (read ≡ unfinished_read (length bytes)))
     ⊎ ((NeverHasRequest front × (read ≡ HeadRead.Bad Refusal.Head))
     ⊎ ((head : RequestHead) × (rest : List ℕ) × ReadsRequest front head rest × Tells bytes head read))
 

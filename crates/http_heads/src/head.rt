@@ -3,7 +3,7 @@ ghost use Rattle.std.specs.Prelude.{◌≡◌, ◌≤◌, length, slice_range, t
 ghost use Rattle.std.specs.Str.{IsUtf8};
 ghost use Rattle.httparse.specs.Grammar.{RequestHead};
 ghost use Rattle.httparse.specs.Spans.{IsRequestAt, IsRequestWithin, RequestOverflows};
-ghost use Rattle.http_heads.specs.Heads.{IsFrontRead, IsHeadRead, Tells, body_length, fault_by, fault_of_headers, fault_of_length, lacks_length, method_of, unfinished};
+ghost use Rattle.http_heads.specs.Heads.{IsFrontRead, IsHeadRead, Tells, body_length, fault_by, fault_of_headers, fault_of_length, lacks_length, method_of, unfinished_read};
 ghost use Rattle.http_heads.specs.Requests.{IsRead, with_body};
 ghost use Rattle.http_heads.specs.Routes.{path_of, place_of, routes};
 
@@ -58,9 +58,9 @@ pub fn read_head(router: &Router<Place>, bytes: &[u8]) -> HeadRead
     let front = front_of(bytes);
     let mut spans = [EMPTY_HEADER_SPAN; MAX_HEADERS];
     match parse_request(front, &mut spans) {
-        Ok(Status::Complete(found)) => judged(router, front, &spans, found),
-        Ok(Status::Partial) => unfinished(bytes.len()),
-        Err(Error::TooManyHeaders) => crowded(front, bytes),
+        Ok(Status::Complete(found)) => head_found(router, front, &spans, found),
+        Ok(Status::Partial) => unfinished_read(bytes.len()),
+        Err(Error::TooManyHeaders) => overfull_front(front, bytes),
         Err(_) => HeadRead::Bad(Refusal::Head),
     }
 }
@@ -106,8 +106,8 @@ fn front_of(bytes: &[u8]) -> &[u8]
     &bytes[..MAX_HEAD]
 }
 
-fn unfinished(size: usize) -> HeadRead
-    ensures { result ≡ unfinished size }
+fn unfinished_read(size: usize) -> HeadRead
+    ensures { result ≡ unfinished_read size }
 {
     if size < MAX_HEAD {
         HeadRead::More
@@ -117,7 +117,7 @@ fn unfinished(size: usize) -> HeadRead
 }
 
 // What is answered of bytes with this front, whose head has too many headers, if it has one.
-fn crowded(front: &[u8], bytes: &[u8]) -> HeadRead
+fn overfull_front(front: &[u8], bytes: &[u8]) -> HeadRead
     requires few { length front.now ≤ 8192 }
     requires many { RequestOverflows 32 front.now }
     ensures { IsFrontRead front.now bytes.now result }
@@ -125,13 +125,13 @@ fn crowded(front: &[u8], bytes: &[u8]) -> HeadRead
     let mut spans = [EMPTY_HEADER_SPAN; ROOM];
     match parse_request(front, &mut spans) {
         Ok(Status::Complete(_)) => HeadRead::Bad(Refusal::HeadTooLong),
-        Ok(Status::Partial) => unfinished(bytes.len()),
+        Ok(Status::Partial) => unfinished_read(bytes.len()),
         Err(_) => HeadRead::Bad(Refusal::Head),
     }
 }
 
 // What a whole head tells that has room for its headers.
-fn judged(
+fn head_found(
     router: &Router<Place>,
     front: &[u8],
     spans: &[HeaderSpan],

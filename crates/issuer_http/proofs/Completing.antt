@@ -3,7 +3,7 @@ use Rattle.std.proofs.Common.{◌≡◌, ◌⊎◌, ℕ, ◌≤◌, List, [], �
 use Rattle.std.proofs.lemmas.List.{append-nil}
 use Rattle.lei_outside.specs.Told.{IsAtEnd, Loses}
 use Rattle.issuer_http.specs.Requests.{Want}
-use Rattle.issuer_http.specs.Serving.{AnswersAll, AnswersToBadHead, AnswersToLast, Completes, EndsWith, Progress, Ran, Serves, input_limit}
+use Rattle.issuer_http.specs.Serving.{AnswersAll, AnswersToBadHead, AnswersToLast, Completes, EndsWith, Progress, AnswersWants, Serves, input_limit}
 use Rattle.issuer_http.specs.declared.ended.Ended.{Ended}
 use Rattle.issuer_http.proofs.Reading.{bad_more, read_more}
 use Rattle.issuer_http.proofs.Wanting.{want_more, wants_more}
@@ -12,7 +12,7 @@ use Rattle.issuer_http.proofs.Wanting.{want_more, wants_more}
 last_more : (before after : Progress) (bytes more : List ℕ) → AnswersToLast before bytes after
     → AnswersToLast before (bytes ++ more) after
 last_more before after bytes more (wants, rest, head, are, stay, read, last, ran) =
-    let R : Want → Type 0 = λ want. Ran before (wants ++ want ∷ []) after in (
+    let R : Want → Type 0 = λ want. AnswersWants before (wants ++ want ∷ []) after in (
       wants,
       rest ++ more,
       head,

@@ -7,7 +7,7 @@ use Rattle.http_heads.specs.declared.head.Head.{Head}
 use Rattle.issuer_http.specs.Serving.{AnswersTo, EndsWith, IsAwaited, NeedsMore, Progress, Serves, Stops, Walks, input_limit, read_limit}
 use Rattle.issuer_http.specs.ReadBuffers.{Fills}
 use Rattle.issuer_http.specs.declared.ended.Ended.{Ended}
-use Rattle.issuer_http.specs.declared.walking.Walked.{Walked}
+use Rattle.issuer_http.specs.declared.walking.WalkEnd.{WalkEnd}
 use Rattle.issuer_http.proofs.Reading.{head_more}
 use Rattle.issuer_http.proofs.Stepping.{some_of, stops_join, to_join, to_nothing, written_so}
 use Rattle.issuer_http.proofs.Wanting.{wants_more}
@@ -86,7 +86,7 @@ loses_more begin start mid left count n most now held filled awaited at fills =
     Loses-join start mid left at.bytes fills.0 at.loses fills.3
 
 pub goes_on : (begin : Progress) (start mid left : Option (List ℕ)) (count n most : ℕ) (now then : Progress)
-    (held filled held_now : List ℕ) (awaited : Option Head) (walked : Walked)
+    (held filled held_now : List ℕ) (awaited : Option Head) (walked : WalkEnd)
     → Midway begin start mid count now held awaited → Fills mid left held filled n most → count + n < input_limit
     → Walks now filled (Ok walked) then → held_now ≡ drop walked.used filled
     → Midway begin start left (count + n) then held_now walked.awaited

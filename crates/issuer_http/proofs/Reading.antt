@@ -8,7 +8,7 @@ use Rattle.std.proofs.lemmas.Bool.Decides.{nat_tests}
 use Rattle.httparse.specs.Grammar.{LineEnd, RequestHead, crlf, lf, print_blank, print_end, print_field, print_request, print_version}
 use Rattle.http_heads.proofs.MoreBytes as heads
 use Rattle.http_heads.proofs.MoreBytes.{range_more}
-use Rattle.http_heads.specs.Heads.{IsHead, IsHeadRead, unfinished}
+use Rattle.http_heads.specs.Heads.{IsHead, IsHeadRead}
 use Rattle.http_heads.specs.Requests.{IsRead, size_of, target_in}
 use Rattle.http_heads.specs.declared.head.Head.{Head}
 use Rattle.http_heads.specs.declared.head.HeadRead.{HeadRead}

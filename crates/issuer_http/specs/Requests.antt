@@ -38,8 +38,8 @@ abbrev pub want_of : List ℕ → Head → Want
 want_of bytes head = record { asked = asked_in bytes head; last = head.last }
 
 -- A head that is refused, which is the last that is read.
-abbrev pub refused : Refusal → Want
-refused fault = record { asked = Asked.Refuse fault; last = true }
+abbrev pub refusal_want : Refusal → Want
+refusal_want fault = record { asked = Asked.Refuse fault; last = true }
 
 -- The bytes after the whole request at the front.
 abbrev pub after_request : List ℕ → Head → List ℕ
@@ -56,5 +56,5 @@ Wants bytes (want ∷ wants) rest =
 abbrev pub AreNext : List ℕ → List Want → Type 0
 AreNext bytes [] = Unit {0}
 AreNext bytes (want ∷ []) = ((head : Head) × IsRead bytes (HeadRead.Whole head) × (want ≡ want_of bytes head))
-    ⊎ ((fault : Refusal) × IsRead bytes (HeadRead.Bad fault) × (want ≡ refused fault))
+    ⊎ ((fault : Refusal) × IsRead bytes (HeadRead.Bad fault) × (want ≡ refusal_want fault))
 AreNext bytes (want ∷ next ∷ wants) = ⊥

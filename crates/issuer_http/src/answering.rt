@@ -8,7 +8,7 @@ ghost use Rattle.register_words.specs.Requests.{IsNumbered};
 ghost use Rattle.register_words.specs.declared.request.Asked.TheVariants.{Ask as Asks};
 ghost use Rattle.http_heads.specs.Routes.{routes};
 ghost use Rattle.issuer_http.specs.Requests.{want_of};
-ghost use Rattle.issuer_http.specs.Serving.{Answered, AnswersHead, AnswersOne, after_sent, progress};
+ghost use Rattle.issuer_http.specs.Serving.{AnswersWant, AnswersHead, AnswersOne, after_sent, progress};
 ghost use Rattle.issuer_http.specs.declared.ended.Ended.{Ended};
 
 use crate::Ended;
@@ -42,7 +42,7 @@ fn answer_request<R: Threads + Sync, K: Keeper, L: Link, C: Clock>(
     scratch: &mut Scratch,
 ) -> Result<(), SinkFault>
     requires { IsNumbered request.now }
-    ensures answered { Answered
+    ensures answered { AnswersWant
         (progress office.old.office (K.faults office.old.keeper) (C.given clock.old) (L.written link.old))
         (record { asked = Asks request.now; last = last }) result
         (progress office.new.office (K.faults office.new.keeper) (C.given clock.new) (L.written link.new)) }
@@ -69,7 +69,7 @@ fn reply_to<R: Threads + Sync, K: Keeper, L: Link, C: Clock>(
 ) -> Result<(), SinkFault>
     requires routes { reader.router.now ≡ routes }
     requires read { IsRead bytes.now (HeadRead.Whole head.now) }
-    ensures answered { Answered
+    ensures answered { AnswersWant
         (progress office.old.office (K.faults office.old.keeper) (C.given clock.old) (L.written link.old))
         (want_of bytes.now head.now) result
         (progress office.new.office (K.faults office.new.keeper) (C.given clock.new) (L.written link.new)) }

@@ -20,7 +20,7 @@ use std::thread::Threads;
 
 /// How far the requests of a block were answered.
 #[derive(Drop)]
-pub struct Walked {
+pub struct WalkEnd {
     /// How many bytes they take.
     pub used: usize,
     /// What the head of the next one says, where it was read.
@@ -37,7 +37,7 @@ pub fn answer_all<R: Threads + Sync, K: Keeper, L: Link, C: Clock>(
     link: &mut L,
     clock: &mut C,
     scratch: &mut Scratch,
-) -> Result<Walked, Ended>
+) -> Result<WalkEnd, Ended>
     requires routes { reader.router.now ≡ routes }
     requires awaited { IsAwaited block.now awaited.now }
     ensures answered { Walks
@@ -67,10 +67,10 @@ pub fn answer_all<R: Threads + Sync, K: Keeper, L: Link, C: Clock>(
     }
 }
 
-fn waiting(used: usize, awaited: Option<Head>) -> Walked
+fn waiting(used: usize, awaited: Option<Head>) -> WalkEnd
     ensures { result ≡ record { used = used; awaited = awaited } }
 {
-    Walked { used, awaited }
+    WalkEnd { used, awaited }
 }
 
 // What the head at the front of a block says.

@@ -1,5 +1,5 @@
 use Rattle.std.proofs.Common.{◌≡◌, ◌-◌, length}
-use Rattle.issuer_http.proofs.Stepping.{Walking}
+use Rattle.issuer_http.proofs.Stepping.{WalkState}
 use Rattle.issuer_http.proofs.walking.answer_all.Given as goal
 use Rattle.issuer_http.specs.Serving.{progress}
 
@@ -12,7 +12,7 @@ invariant-loop-found g l =
     let read_faults = g.L.Link.read_faults in
     let write_faults = g.L.Link.write_faults in
     record {
-      walking : Walking (progress l.fn.office.office (keeper_faults l.fn.office.keeper) (given l.fn.clock) (written l.fn.link))
+      walking : WalkState (progress l.fn.office.office (keeper_faults l.fn.office.keeper) (given l.fn.clock) (written l.fn.link))
           l.block l.used l.found
           (progress l.office.office (keeper_faults l.office.keeper) (given l.clock) (written l.link));
       kept : write_faults l.link ≡ write_faults l.fn.link;
