@@ -200,19 +200,17 @@ fn fault_of_length(body: ContentLength) -> Option<Refusal>
     }
 }
 
-fn lacks_length(
-    router: &Router<Place>,
-    body: ContentLength,
-    method: Method,
-    target: &[u8],
-) -> bool
+fn lacks_length(router: &Router<Place>, body: ContentLength, method: Method, target: &[u8]) -> bool
     requires routes { router.now ≡ routes }
     requires text { IsUtf8 target.now }
     ensures { result ≡ lacks_length method (place_of (path_of target.now)) body }
 {
     match (method, body) {
         (Method::Put, ContentLength::Absent) => {
-            matches!(place_of(router, path_of(text_of(target))), Some(Place::Upload))
+            matches!(
+                place_of(router, path_of(text_of(target))),
+                Some(Place::Upload)
+            )
         }
         _ => false,
     }

@@ -78,7 +78,9 @@ fn joint_length(number: Option<usize>, others: ContentLength) -> ContentLength
 {
     match (number, others) {
         (Some(number), ContentLength::Absent) => ContentLength::Bytes(number),
-        (Some(number), ContentLength::Bytes(other)) if number == other => ContentLength::Bytes(number),
+        (Some(number), ContentLength::Bytes(other)) if number == other => ContentLength::Bytes(
+            number,
+        ),
         _ => ContentLength::Wrong,
     }
 }

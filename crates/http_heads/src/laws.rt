@@ -19,12 +19,10 @@ pub fn phrases_are_standard()
     ensures server_error { phrase_of 500 ≡ codes "Internal Server Error" }
     ensures unavailable { phrase_of 503 ≡ codes "Service Unavailable" }
     ensures insufficient_storage { phrase_of 507 ≡ codes "Insufficient Storage" }
-{
-}
+{}
 
 /// The router has these paths, each with the names of its parameters and the place to which it leads, and no others.
 #[tactic(auto, unfolding(crate::specs::Routes::routes, crate::specs::Routes::with_route, matchit::proofs::OnLiterals::matchit_on_literals))]
 pub fn routes_have_these_paths()
     ensures { map row_of routes ≡ rows_in_order }
-{
-}
+{}

@@ -80,11 +80,7 @@ pub struct RequestReader<'r> {
 
 /// What the whole request at the front of the bytes asks. Its one error is want of memory for the body of an upload, which is
 /// copied once.
-pub fn asked_in(
-    reader: RequestReader<'_>,
-    bytes: &[u8],
-    head: &Head,
-) -> Result<Asked, NoMemory>
+pub fn asked_in(reader: RequestReader<'_>, bytes: &[u8], head: &Head) -> Result<Asked, NoMemory>
     requires routes { reader.router.now ≡ routes }
     requires read { IsRead bytes.now (HeadRead.Whole head.now) }
     ensures ok { IfOk result (λ asked. asked ≡ asked_in bytes.now head.now) }
