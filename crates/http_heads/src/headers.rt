@@ -77,10 +77,8 @@ fn joint_length(number: Option<usize>, others: ContentLength) -> ContentLength
     ensures { result ≡ joint_length number others }
 {
     match (number, others) {
-        (Some(number), ContentLength::Absent) => ContentLength::Bytes(number),
-        (Some(number), ContentLength::Bytes(other)) if number == other => ContentLength::Bytes(
-            number,
-        ),
+        (Some(here), ContentLength::Absent) => ContentLength::Bytes(here),
+        (Some(here), ContentLength::Bytes(other)) if here == other => ContentLength::Bytes(here),
         _ => ContentLength::Wrong,
     }
 }

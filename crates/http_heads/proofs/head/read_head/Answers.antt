@@ -1,6 +1,6 @@
 use Rattle.std.proofs.Common.{ℕ, List, subst}
 use Rattle.http_heads.specs.Heads.{IsFrontRead}
-use Rattle.http_heads.proofs.MoreBytes.{front_read, target_text}
+use Rattle.http_heads.proofs.MoreBytes.{front_read}
 use Rattle.http_heads.proofs.Rooms.{whole}
 use Rattle.http_heads.proofs.head.read_head.Goals as goal
 
