@@ -2,6 +2,6 @@ pub mod Rooms
 pub mod Numbers
 pub mod HeaderLemmas
 pub mod RouteLemmas
-pub mod WishLemmas
+pub mod RouteTexts
 pub mod MoreBytes
 pub mod HeadPieces

@@ -5,8 +5,8 @@ use Rattle.std.specs.List.{list_any, slice_split}
 use Rattle.std.specs.Str.{all_ascii_digits, bytes_eq}
 use Rattle.std.specs.Str.Parse.{digits_value}
 use Rattle.httparse.specs.Grammar.{trim_ows}
-use Rattle.http_heads.specs.declared.headers.Stated.{Stated}
-use Rattle.http_heads.specs.declared.headers.Told.{Told}
+use Rattle.http_heads.specs.declared.headers.ContentLength.{ContentLength}
+use Rattle.http_heads.specs.declared.headers.HeaderFacts.{HeaderFacts}
 
 -- A header: its name, and its value without the white space around it.
 abbrev pub Header : Type 0
@@ -37,22 +37,23 @@ unfoldable pub length_in : List ℕ → Option ℕ
 length_in value =
     if nat_le 1 (length value) && nat_le (length value) 10 && all_ascii_digits value then Some (digits_value 10 value) else None
 
--- What one value and all others state together: their one number. Where one of them states none, or two state different
--- numbers, it is wrong.
-abbrev pub stated_with : Option ℕ → Stated → Stated
-stated_with None others = Stated.Wrong
-stated_with (Some number) Stated.Absent = Stated.Bytes number
-stated_with (Some number) (Stated.Bytes other) = if number == other then Stated.Bytes number else Stated.Wrong
-stated_with (Some number) Stated.Wrong = Stated.Wrong
+-- The length that one value and all others state together: their one number. Where one of them states none, or two state
+-- different numbers, it is wrong.
+abbrev pub joint_length : Option ℕ → ContentLength → ContentLength
+joint_length None others = ContentLength.Wrong
+joint_length (Some number) ContentLength.Absent = ContentLength.Bytes number
+joint_length (Some number) (ContentLength.Bytes other) =
+    if number == other then ContentLength.Bytes number else ContentLength.Wrong
+joint_length (Some number) ContentLength.Wrong = ContentLength.Wrong
 
--- What the values state together. Where there are none, it is absent.
-abbrev pub stated_in : List (List ℕ) → Stated
-stated_in [] = Stated.Absent
-stated_in (value ∷ values) = stated_with (length_in value) (stated_in values)
+-- The length that the values state together. Where there are none, it is absent.
+abbrev pub length_of_values : List (List ℕ) → ContentLength
+length_of_values [] = ContentLength.Absent
+length_of_values (value ∷ values) = joint_length (length_in value) (length_of_values values)
 
--- What the headers state of the length of the body.
-abbrev pub stated : List Header → Stated
-stated headers = stated_in (values_of (codes "content-length") headers)
+-- The length of the body that the headers state.
+abbrev pub content_length : List Header → ContentLength
+content_length headers = length_of_values (values_of (codes "content-length") headers)
 
 -- ---- Connection
 
@@ -60,7 +61,7 @@ stated headers = stated_in (values_of (codes "content-length") headers)
 abbrev pub has_close : List ℕ → Bool
 has_close value = list_any (λ part. are_alike (trim_ows part) (codes "close")) (slice_split (λ byte. byte == 44) value)
 
--- It is a Connection header that asks to close the connection behind the answer.
+-- It is a Connection header that asks to close the connection after the answer.
 abbrev pub is_close : Header → Bool
 is_close header = has_name (codes "connection") header && has_close header.1
 
@@ -71,5 +72,9 @@ asks_to_close headers = list_any is_close headers
 -- ---- all of it
 
 -- What the headers say.
-abbrev pub told_by : List Header → Told
-told_by headers = record { coded = is_coded headers; stated = stated headers; closes = asks_to_close headers }
+abbrev pub header_facts : List Header → HeaderFacts
+header_facts headers = record {
+  coded = is_coded headers;
+  body = content_length headers;
+  closes = asks_to_close headers;
+}

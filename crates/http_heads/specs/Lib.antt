@@ -1,6 +1,7 @@
 pub mod Headers
-pub mod Heads
 pub mod Routes
-pub mod Wishes
+pub mod Heads
+pub mod Asking
 pub mod Requests
 pub mod Responses
+pub mod Laws

@@ -4,7 +4,7 @@ use Rattle.std.specs.List.{flat_map}
 use Rattle.http.specs.StatusCode.{reason_phrase}
 use Rattle.http_heads.specs.declared.responses.Content.{Content}
 use Rattle.http_heads.specs.declared.responses.Response.{Response}
-use Rattle.http_heads.specs.declared.routes.Allowed.{Allowed}
+use Rattle.register_words.specs.declared.reply.Allowed.{Allowed}
 
 -- The phrase of a status code of three digits (RFC 9110), where it has one.
 abbrev pub phrase_of : ℕ → List ℕ

@@ -1,12 +1,18 @@
 //! The head of a request, read from the front of some bytes.
-ghost use Rattle.std.specs.Prelude.{◌≡◌, ◌≤◌, ◌⊎◌, length, take, None, Some};
-ghost use Rattle.httparse.specs.Grammar.{HasNoRequest, MayBecomeRequest, NeverHasRequest, ReadsRequest, RequestHead};
+ghost use Rattle.std.specs.Prelude.{◌≡◌, ◌≤◌, length, slice_range, take};
+ghost use Rattle.std.specs.Str.{IsUtf8};
+ghost use Rattle.httparse.specs.Grammar.{RequestHead};
 ghost use Rattle.httparse.specs.Spans.{IsRequestAt, IsRequestWithin, RequestOverflows};
-ghost use Rattle.http_heads.specs.Heads.{IsFrontRead, IsHeadRead, Tells, fault_of_length, fault_of_told, unfinished, verb_of};
+ghost use Rattle.http_heads.specs.Heads.{IsFrontRead, IsHeadRead, Tells, body_length, fault_by, fault_of_headers, fault_of_length, lacks_length, method_of, unfinished_read};
+ghost use Rattle.http_heads.specs.Requests.{IsRead, with_body};
+ghost use Rattle.http_heads.specs.Routes.{path_of, place_of, routes};
 
-use crate::headers::{Stated, Told, read_headers};
+use crate::headers::{ContentLength, HeaderFacts, read_headers};
+use crate::routes::{Method, Place, path_of, place_of};
 use httparse::spans::{EMPTY_HEADER_SPAN, HeaderSpan, RequestSpans, Span, parse_request};
 use httparse::{Error, Status};
+use matchit::Router;
+use register_words::Refusal;
 
 /// A head has to be whole within so many bytes. This project's profile.
 pub const MAX_HEAD: usize = 8_192;
@@ -20,39 +26,18 @@ const MAX_BODY: usize = 4_194_304;
 // Room for the headers of any head, since a header has three bytes or more.
 const ROOM: usize = 2_731;
 
-/// The method of a request, as far as one can have it here.
-#[derive(Clone, Copy, Debug, PartialEq, Eq)]
-pub enum Verb {
-    Put,
-    Get,
-    Other,
-}
-
-/// Why a head is refused, so that nothing behind it is read.
-#[derive(Clone, Copy, Debug, PartialEq, Eq)]
-pub enum HeadFault {
-    /// The bytes are no head, or the length of its body is wrong.
-    Head,
-    /// It isn't whole within 8,192 bytes, or has more than 32 headers.
-    HeadTooLong,
-    /// Its body is coded.
-    LengthRequired,
-    /// Its body has more than 4,194,304 bytes.
-    TooLong,
-}
-
 /// What a head says that isn't refused.
 #[derive(Clone, Copy, Debug, PartialEq, Eq)]
 pub struct Head {
-    pub verb: Verb,
+    pub method: Method,
     /// Where the target lies.
     pub target: Span,
-    /// How many bytes the body has.
-    pub stated: Stated,
-    /// Whether the connection is to be closed behind the answer.
-    pub last: bool,
     /// The length of the head, where the body begins.
     pub size: usize,
+    /// The length of the body, at most 4,194,304.
+    pub body: usize,
+    /// Whether the connection is to be closed after the answer.
+    pub last: bool,
 }
 
 /// What is read at the front of some bytes.
@@ -60,26 +45,58 @@ pub struct Head {
 pub enum HeadRead {
     /// The head isn't whole yet.
     More,
-    Bad(HeadFault),
+    /// The head is refused, and nothing after it is read.
+    Bad(Refusal),
     Whole(Head),
 }
 
 /// Reads the head at the front of the bytes. It takes no memory.
-pub fn read_head(bytes: &[u8]) -> HeadRead
+pub fn read_head(router: &Router<Place>, bytes: &[u8]) -> HeadRead
+    requires { router.now ≡ routes }
     ensures { IsHeadRead bytes.now result }
 {
     let front = front_of(bytes);
     let mut spans = [EMPTY_HEADER_SPAN; MAX_HEADERS];
     match parse_request(front, &mut spans) {
-        Ok(Status::Complete(found)) => judged(front, &spans, found),
-        Ok(Status::Partial) => unfinished(bytes.len()),
-        Err(Error::TooManyHeaders) => crowded(front, bytes.len()),
-        Err(_) => HeadRead::Bad(HeadFault::Head),
+        Ok(Status::Complete(found)) => head_found(router, front, &spans, found),
+        Ok(Status::Partial) => unfinished_read(bytes.len()),
+        Err(Error::TooManyHeaders) => overfull_front(front, bytes),
+        Err(_) => HeadRead::Bad(Refusal::Head),
+    }
+}
+
+/// Reads the request at the front of the bytes: with `Whole` its body is there. It takes no memory.
+pub fn read_whole(router: &Router<Place>, bytes: &[u8]) -> HeadRead
+    requires { router.now ≡ routes }
+    ensures { IsRead bytes.now result }
+{
+    let head = read_head(router, bytes);
+    with_body(bytes.len(), head)
+}
+
+/// What is read of so many bytes whose head says this.
+pub fn with_body(size: usize, read: HeadRead) -> HeadRead
+    ensures { result ≡ with_body size read }
+{
+    match read {
+        HeadRead::More => HeadRead::More,
+        HeadRead::Bad(fault) => HeadRead::Bad(fault),
+        HeadRead::Whole(head) => if_there(size, head),
+    }
+}
+
+fn if_there(size: usize, head: Head) -> HeadRead
+    ensures { result ≡ with_body size (HeadRead.Whole head) }
+{
+    if head.size <= size && head.body <= size - head.size {
+        HeadRead::Whole(head)
+    } else {
+        HeadRead::More
     }
 }
 
 // The bytes within which a head has to be whole.
-pub fn front_of(bytes: &[u8]) -> &[u8]
+fn front_of(bytes: &[u8]) -> &[u8]
     ensures front { result.now ≡ take 8192 bytes.now }
     ensures few { length result.now ≤ 8192 }
 {
@@ -89,77 +106,144 @@ pub fn front_of(bytes: &[u8]) -> &[u8]
     &bytes[..MAX_HEAD]
 }
 
-fn unfinished(size: usize) -> HeadRead
-    ensures { result ≡ unfinished size }
+fn unfinished_read(size: usize) -> HeadRead
+    ensures { result ≡ unfinished_read size }
 {
     if size < MAX_HEAD {
         HeadRead::More
     } else {
-        HeadRead::Bad(HeadFault::HeadTooLong)
+        HeadRead::Bad(Refusal::HeadTooLong)
     }
 }
 
-// What is answered of a front whose head has too many headers, if it has one.
-fn crowded(front: &[u8], size: usize) -> HeadRead
+// What is answered of bytes with this front, whose head has too many headers, if it has one.
+fn overfull_front(front: &[u8], bytes: &[u8]) -> HeadRead
     requires few { length front.now ≤ 8192 }
     requires many { RequestOverflows 32 front.now }
-    ensures { IsFrontRead front.now size result }
+    ensures { IsFrontRead front.now bytes.now result }
 {
     let mut spans = [EMPTY_HEADER_SPAN; ROOM];
     match parse_request(front, &mut spans) {
-        Ok(Status::Complete(_)) => HeadRead::Bad(HeadFault::HeadTooLong),
-        Ok(Status::Partial) => unfinished(size),
-        Err(_) => HeadRead::Bad(HeadFault::Head),
+        Ok(Status::Complete(_)) => HeadRead::Bad(Refusal::HeadTooLong),
+        Ok(Status::Partial) => unfinished_read(bytes.len()),
+        Err(_) => HeadRead::Bad(Refusal::Head),
     }
 }
 
 // What a whole head tells that has room for its headers.
-fn judged(front: &[u8], spans: &[HeaderSpan], found: RequestSpans) -> HeadRead
+fn head_found(
+    router: &Router<Place>,
+    front: &[u8],
+    spans: &[HeaderSpan],
+    found: RequestSpans,
+) -> HeadRead
+    requires routes { router.now ≡ routes }
     requires room { length spans.now ≤ 32 }
     requires within { IsRequestWithin front.now spans.now found }
+    requires text { IsUtf8 (slice_range front.now found.path.start found.path.end) }
     ensures { (head : RequestHead) → IsRequestAt front.now spans.now found head → Tells front.now head result }
 {
-    let told = read_headers(front, &spans[..found.headers]);
-    match fault_of(told) {
+    let facts = read_headers(front, &spans[..found.headers]);
+    let method = method_of(found.method.of(front));
+    match fault_by(router, facts, method, found.path.of(front)) {
         Some(fault) => HeadRead::Bad(fault),
         None => HeadRead::Whole(Head {
-            verb: verb_of(found.method.of(front)),
+            method,
             target: found.path,
-            stated: told.stated,
-            last: found.version == 0 || told.closes,
             size: found.len,
+            body: body_length(facts.body),
+            last: found.version == 0 || facts.closes,
         }),
     }
 }
 
-fn fault_of(told: Told) -> Option<HeadFault>
-    ensures { result ≡ fault_of_told told }
+// Why a head is refused that has as many headers as it may have.
+fn fault_by(
+    router: &Router<Place>,
+    facts: HeaderFacts,
+    method: Method,
+    target: &[u8],
+) -> Option<Refusal>
+    requires routes { router.now ≡ routes }
+    requires text { IsUtf8 target.now }
+    ensures { result ≡ fault_by facts method (place_of (path_of target.now)) }
 {
-    if told.coded {
-        Some(HeadFault::LengthRequired)
-    } else {
-        fault_of_length(told.stated)
+    match fault_of_headers(facts) {
+        Some(fault) => Some(fault),
+        None => {
+            if lacks_length(router, facts.body, method, target) {
+                Some(Refusal::LengthRequired)
+            } else {
+                None
+            }
+        }
     }
 }
 
-fn fault_of_length(stated: Stated) -> Option<HeadFault>
-    ensures { result ≡ fault_of_length stated }
+fn fault_of_headers(facts: HeaderFacts) -> Option<Refusal>
+    ensures { result ≡ fault_of_headers facts }
 {
-    match stated {
-        Stated::Bytes(number) if number > MAX_BODY => Some(HeadFault::TooLong),
-        Stated::Wrong => Some(HeadFault::Head),
+    if facts.coded {
+        Some(Refusal::LengthRequired)
+    } else {
+        fault_of_length(facts.body)
+    }
+}
+
+fn fault_of_length(body: ContentLength) -> Option<Refusal>
+    ensures { result ≡ fault_of_length body }
+{
+    match body {
+        ContentLength::Bytes(number) if number > MAX_BODY => Some(Refusal::TooLong),
+        ContentLength::Wrong => Some(Refusal::Head),
         _ => None,
     }
 }
 
-fn verb_of(method: &[u8]) -> Verb
-    ensures { result ≡ verb_of method.now }
+fn lacks_length(router: &Router<Place>, body: ContentLength, method: Method, target: &[u8]) -> bool
+    requires routes { router.now ≡ routes }
+    requires text { IsUtf8 target.now }
+    ensures { result ≡ lacks_length method (place_of (path_of target.now)) body }
 {
-    if method == b"PUT".as_slice() {
-        return Verb::Put;
+    match (method, body) {
+        (Method::Put, ContentLength::Absent) => {
+            matches!(
+                place_of(router, path_of(text_of(target))),
+                Some(Place::Upload)
+            )
+        }
+        _ => false,
     }
-    if method == b"GET".as_slice() {
-        return Verb::Get;
+}
+
+/// Bytes as the text that they are.
+pub fn text_of(bytes: &[u8]) -> &str
+    requires { IsUtf8 bytes.now }
+    ensures { result.now ≡ bytes.now }
+{
+    match str::from_utf8(bytes) {
+        Ok(text) => text,
+        Err(_) => unreachable!(),
     }
-    Verb::Other
+}
+
+fn body_length(body: ContentLength) -> usize
+    ensures { result ≡ body_length body }
+{
+    match body {
+        ContentLength::Bytes(number) => number,
+        ContentLength::Absent | ContentLength::Wrong => 0,
+    }
+}
+
+fn method_of(name: &[u8]) -> Method
+    ensures { result ≡ method_of name.now }
+{
+    if name == b"PUT".as_slice() {
+        return Method::Put;
+    }
+    if name == b"GET".as_slice() {
+        return Method::Get;
+    }
+    Method::Other
 }

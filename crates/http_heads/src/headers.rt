@@ -3,14 +3,14 @@ ghost use Rattle.std.specs.Prelude.{◌≡◌, ◌<◌, ◌≤◌, ◌∷◌, Li
 ghost use Rattle.std.specs.Str.Parse.{digits_value};
 ghost use Rattle.std.specs.Str.{all_ascii_digits};
 ghost use Rattle.httparse.specs.Spans.{IsHeaderWithin, header_bytes};
-ghost use Rattle.http_heads.specs.Headers.{Header, is_close, length_in, stated, stated_with, told_by};
+ghost use Rattle.http_heads.specs.Headers.{Header, content_length, header_facts, is_close, length_in, joint_length};
 
 use crate::words::{are_alike, has_close};
 use httparse::spans::HeaderSpan;
 
 /// What the Content-Length headers of a head state together.
 #[derive(Clone, Copy, Debug, PartialEq, Eq)]
-pub enum Stated {
+pub enum ContentLength {
     /// There are none.
     Absent,
     /// The body has so many bytes.
@@ -21,39 +21,39 @@ pub enum Stated {
 
 // What the headers of a head say.
 #[derive(Clone, Copy)]
-pub struct Told {
+pub struct HeaderFacts {
     // There is a Transfer-Encoding.
     pub coded: bool,
-    pub stated: Stated,
+    pub body: ContentLength,
     // A Connection header has the part `close`.
     pub closes: bool,
 }
 
 // What the headers say that lie at these places of the front.
-pub fn read_headers(front: &[u8], headers: &[HeaderSpan]) -> Told
+pub fn read_headers(front: &[u8], headers: &[HeaderSpan]) -> HeaderFacts
     requires { All (IsHeaderWithin (length front.now)) headers.now }
-    ensures { result ≡ told_by (map (header_bytes front.now) headers.now) }
+    ensures { result ≡ header_facts (map (header_bytes front.now) headers.now) }
 {
-    let mut told = Told {
+    let mut facts = HeaderFacts {
         coded: false,
-        stated: Stated::Absent,
+        body: ContentLength::Absent,
         closes: false,
     };
     for index in (0..headers.len()).rev() {
         let header = headers[index];
-        told = with_header(header.name.of(front), header.value.of(front), told);
+        facts = with_header(header.name.of(front), header.value.of(front), facts);
     }
-    told
+    facts
 }
 
-// What a header says, and those behind it.
-fn with_header(name: &[u8], value: &[u8], told: Told) -> Told
-    ensures { (others : List Header) → told ≡ told_by others → result ≡ told_by ((name.now, value.now) ∷ others) }
+// What a header says, and those after it.
+fn with_header(name: &[u8], value: &[u8], facts: HeaderFacts) -> HeaderFacts
+    ensures { (others : List Header) → facts ≡ header_facts others → result ≡ header_facts ((name.now, value.now) ∷ others) }
 {
-    Told {
-        coded: are_alike(name, b"transfer-encoding") | told.coded,
-        stated: with_length(name, value, told.stated),
-        closes: is_close(name, value) | told.closes,
+    HeaderFacts {
+        coded: are_alike(name, b"transfer-encoding") | facts.coded,
+        body: with_length(name, value, facts.body),
+        closes: is_close(name, value) | facts.closes,
     }
 }
 
@@ -63,23 +63,23 @@ fn is_close(name: &[u8], value: &[u8]) -> bool
     are_alike(name, b"connection") && has_close(value)
 }
 
-fn with_length(name: &[u8], value: &[u8], others: Stated) -> Stated
-    ensures { (headers : List Header) → others ≡ stated headers → result ≡ stated ((name.now, value.now) ∷ headers) }
+fn with_length(name: &[u8], value: &[u8], others: ContentLength) -> ContentLength
+    ensures { (headers : List Header) → others ≡ content_length headers → result ≡ content_length ((name.now, value.now) ∷ headers) }
 {
     if are_alike(name, b"content-length") {
-        stated_with(length_in(value), others)
+        joint_length(length_in(value), others)
     } else {
         others
     }
 }
 
-fn stated_with(number: Option<usize>, others: Stated) -> Stated
-    ensures { result ≡ stated_with number others }
+fn joint_length(number: Option<usize>, others: ContentLength) -> ContentLength
+    ensures { result ≡ joint_length number others }
 {
     match (number, others) {
-        (Some(number), Stated::Absent) => Stated::Bytes(number),
-        (Some(number), Stated::Bytes(other)) if number == other => Stated::Bytes(number),
-        _ => Stated::Wrong,
+        (Some(here), ContentLength::Absent) => ContentLength::Bytes(here),
+        (Some(here), ContentLength::Bytes(other)) if here == other => ContentLength::Bytes(here),
+        _ => ContentLength::Wrong,
     }
 }
 

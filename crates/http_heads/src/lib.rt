@@ -1,16 +1,17 @@
-//! The heads of HTTP requests: what is read at the front of some bytes, which heads are refused, and what
-//! they ask; and the heads of responses.
+//! Requests and responses of HTTP, but for what a connection does: the heads of requests and which are refused, what a request
+//! asks, and the heads of responses.
 #![tactic(auto)]
 
+mod asking;
 mod head;
 mod headers;
+pub mod laws;
 mod responses;
 mod routes;
-mod wishes;
 mod words;
 
-pub use head::{Head, HeadFault, HeadRead, MAX_HEAD, Verb, read_head};
-pub use headers::Stated;
+pub use asking::asked_of;
+pub use head::{Head, HeadRead, MAX_HEAD, read_head, read_whole, text_of, with_body};
+pub use headers::ContentLength;
 pub use responses::{Content, Response, put_head};
-pub use routes::{Action, Allowed, Place, router};
-pub use wishes::{Ask, Wish, WishRead, next_ask, next_wish, with_body};
+pub use routes::{Method, Place, router};

@@ -3,9 +3,9 @@ ghost use Rattle.std.specs.Prelude.{◌≡◌, ◌++◌, ◌≤◌, ◌<◌, fla
 ghost use Rattle.http.specs.StatusCode.{reason_phrase};
 ghost use Rattle.http_heads.specs.Responses.{allow_header, close_header, phrase_of, response_head, type_of};
 
-use crate::routes::Allowed;
 use http::StatusCode;
 use lei_outside::NoMemory;
+use register_words::Allowed;
 
 /// What the text of a response is.
 #[derive(Clone, Copy, Debug, PartialEq, Eq)]
@@ -26,11 +26,11 @@ pub struct Response {
     pub size: usize,
     /// The methods of the route, where the request's method is another.
     pub allow: Option<Allowed>,
-    /// Whether the connection is closed behind the response.
+    /// Whether the connection is closed after the response.
     pub closes: bool,
 }
 
-/// Puts the head of a response behind what is there. After an `Err` a part of it may have been put.
+/// Puts the head of a response after what is there. After an `Err` a part of it may have been put.
 pub fn put_head(out: &mut Vec<u8>, response: &Response) -> Result<(), NoMemory>
     ensures { OnOk result (out.new.items ≡ out.old.items ++ response_head response.now) }
 {

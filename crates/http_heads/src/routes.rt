@@ -1,11 +1,18 @@
-//! The routes of requests: which place a target has, and what a method does there.
-ghost use Rattle.std.specs.Prelude.{◌≡◌, IfOk, OnOk, None, Some, Ok, Err, option_map};
-ghost use Rattle.http_heads.specs.Routes.{Routes, action_at, part_of, path_of, place_of, routes, with_route};
+//! The routes of requests, and the places to which they lead.
+ghost use Rattle.std.specs.Prelude.{◌≡◌, IfOk, OnOk};
+ghost use Rattle.http_heads.specs.Routes.{path_of, place_of, routes, with_route};
 
-use crate::Verb;
 use lei_outside::NoMemory;
 use matchit::Router;
 use std::alloc::Global;
+
+/// The method of a request (RFC 9110), as far as a route can know it.
+#[derive(Clone, Copy, Debug, PartialEq, Eq)]
+pub enum Method {
+    Put,
+    Get,
+    Other,
+}
 
 /// A place that requests name.
 #[derive(Clone, Copy, Debug, PartialEq, Eq)]
@@ -17,27 +24,6 @@ pub enum Place {
     Copy,
     Delta,
     Status,
-}
-
-/// What a request does, by its route and method.
-#[derive(Clone, Copy, Debug, PartialEq, Eq)]
-pub enum Action {
-    Accredit,
-    Upload,
-    Kept,
-    Publish,
-    Show,
-    Copy,
-    Delta,
-    Status,
-}
-
-/// The methods that a route knows.
-#[derive(Clone, Copy, Debug, PartialEq, Eq)]
-pub enum Allowed {
-    Put,
-    Get,
-    GetPut,
 }
 
 /// The router of all routes. Its one error is want of memory.
@@ -92,31 +78,5 @@ pub fn place_of(router: &Router<Place>, path: &str) -> Option<Place>
     match router.at(path) {
         Ok(found) => Some(*found.value),
         Err(_) => None,
-    }
-}
-
-/// The part of this number between the slashes of a path, counted from 0.
-pub fn part_of(path: &str, number: usize) -> Option<&str>
-    ensures { option_map (λ part. part.now) result ≡ part_of path.now number }
-{
-    path.split('/').nth(number)
-}
-
-/// What a method does at a place, or the methods that the place knows.
-pub fn action_at(place: Place, verb: Verb) -> Result<Action, Allowed>
-    ensures { result ≡ action_at place verb }
-{
-    match (place, verb) {
-        (Place::Issuer, Verb::Put) => Ok(Action::Accredit),
-        (Place::Upload, Verb::Put) => Ok(Action::Upload),
-        (Place::Upload, Verb::Get) => Ok(Action::Kept),
-        (Place::Publication, Verb::Put) => Ok(Action::Publish),
-        (Place::Record, Verb::Get) => Ok(Action::Show),
-        (Place::Copy, Verb::Get) => Ok(Action::Copy),
-        (Place::Delta, Verb::Get) => Ok(Action::Delta),
-        (Place::Status, Verb::Get) => Ok(Action::Status),
-        (Place::Issuer | Place::Publication, _) => Err(Allowed::Put),
-        (Place::Upload, _) => Err(Allowed::GetPut),
-        (Place::Record | Place::Copy | Place::Delta | Place::Status, _) => Err(Allowed::Get),
     }
 }

@@ -40,7 +40,7 @@ fn without_end(bytes: &[u8]) -> &[u8]
 
 // The bytes without the spaces and tabs at both ends.
 #[tactic(auto, unfolding(httparse::specs::Grammar::trim_ows))]
-fn trimmed(bytes: &[u8]) -> &[u8]
+fn without_ends(bytes: &[u8]) -> &[u8]
     ensures { result.now ≡ trim_ows bytes.now }
 {
     without_end(without_front(bytes))
@@ -52,5 +52,5 @@ pub fn has_close(value: &[u8]) -> bool
 {
     value
         .split(|byte| *byte == b',')
-        .any(|part| are_alike(trimmed(part), b"close"))
+        .any(|part| are_alike(without_ends(part), b"close"))
 }

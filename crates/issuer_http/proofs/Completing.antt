@@ -3,24 +3,24 @@ use Rattle.std.proofs.Common.{◌≡◌, ◌⊎◌, ℕ, ◌≤◌, List, [], �
 use Rattle.std.proofs.lemmas.List.{append-nil}
 use Rattle.lei_outside.specs.Told.{IsAtEnd, Loses}
 use Rattle.issuer_http.specs.Requests.{Want}
-use Rattle.issuer_http.specs.Serving.{AnswersAll, AnswersToBadHead, AnswersToLast, Completes, EndsWith, Progress, Ran, Serves, input_limit}
+use Rattle.issuer_http.specs.Serving.{AnswersAll, AnswersToBadHead, AnswersToLast, Completes, EndsWith, Progress, AnswersWants, Serves, input_limit}
 use Rattle.issuer_http.specs.declared.ended.Ended.{Ended}
-use Rattle.issuer_http.proofs.Reading.{bad_more, read_more, whole_of}
+use Rattle.issuer_http.proofs.Reading.{bad_more, read_more}
 use Rattle.issuer_http.proofs.Wanting.{want_more, wants_more}
 
 -- what was answered of bytes was answered of more
 last_more : (before after : Progress) (bytes more : List ℕ) → AnswersToLast before bytes after
     → AnswersToLast before (bytes ++ more) after
-last_more before after bytes more (wants, rest, ask, are, stay, read, last, ran) =
-    let R : Want → Type 0 = λ want. Ran before (wants ++ want ∷ []) after in (
+last_more before after bytes more (wants, rest, head, are, stay, read, last, ran) =
+    let R : Want → Type 0 = λ want. AnswersWants before (wants ++ want ∷ []) after in (
       wants,
       rest ++ more,
-      ask,
+      head,
       wants_more bytes more wants rest are,
       stay,
-      read_more rest more ask read,
+      read_more rest more head read,
       last,
-      subst R (sym (want_more rest more ask (whole_of rest ask read).fits)) ran,
+      subst R (sym (want_more rest more head read)) ran,
     )
 
 bad_head_more : (before after : Progress) (bytes more : List ℕ) → AnswersToBadHead before bytes after

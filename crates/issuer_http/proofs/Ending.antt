@@ -3,18 +3,18 @@ use Rattle.std.proofs.Common.{◌≡◌, ◌⊎◌, ℕ, ◌+◌, ◌<◌, ◌�
 use Rattle.std.proofs.lemmas.List.{append-nil}
 use Rattle.lei_outside.specs.Told.{Loses}
 use Rattle.lei_outside.proofs.Told.{Loses-none, Loses-join}
-use Rattle.http_heads.specs.declared.wishes.Ask.{Ask}
+use Rattle.http_heads.specs.declared.head.Head.{Head}
 use Rattle.issuer_http.specs.Serving.{AnswersTo, EndsWith, IsAwaited, NeedsMore, Progress, Serves, Stops, Walks, input_limit, read_limit}
-use Rattle.issuer_http.specs.Window.{Fills}
+use Rattle.issuer_http.specs.ReadBuffers.{Fills}
 use Rattle.issuer_http.specs.declared.ended.Ended.{Ended}
-use Rattle.issuer_http.specs.declared.walking.Walked.{Walked}
-use Rattle.issuer_http.proofs.Reading.{ask_more}
+use Rattle.issuer_http.specs.declared.walking.WalkEnd.{WalkEnd}
+use Rattle.issuer_http.proofs.Reading.{head_more}
 use Rattle.issuer_http.proofs.Stepping.{some_of, stops_join, to_join, to_nothing, written_so}
 use Rattle.issuer_http.proofs.Wanting.{wants_more}
 
 -- So many bytes were taken, of which these are held, and all whole requests before them were answered.
 pub record Midway (begin : Progress) (start left : Option (List ℕ)) (count : ℕ) (now : Progress) (held : List ℕ)
-    (awaited : Option Ask) : Type 0 where
+    (awaited : Option Head) : Type 0 where
   pub bytes : List ℕ
   pub long : length bytes ≡ count
   pub below : count < input_limit
@@ -38,7 +38,7 @@ begins at left held none =
 
 -- nothing was written since
 pub unwritten : (begin : Progress) (start left : Option (List ℕ)) (count : ℕ) (now : Progress) (held : List ℕ)
-    (awaited : Option Ask) (written : Option (List ℕ)) → Midway begin start left count now held awaited
+    (awaited : Option Head) (written : Option (List ℕ)) → Midway begin start left count now held awaited
     → written ≡ now.written → Midway begin start left count (written_so now written) held awaited
 unwritten begin start left count now held awaited written at same =
     let M : Option (List ℕ) → Type 0 = λ w. Midway begin start left count (written_so now w) held awaited in
@@ -46,22 +46,22 @@ unwritten begin start left count now held awaited written at same =
 
 -- ---- more bytes
 
-awaited_more : (held more : List ℕ) (awaited : Option Ask) → IsAwaited held awaited → IsAwaited (held ++ more) awaited
+awaited_more : (held more : List ℕ) (awaited : Option Head) → IsAwaited held awaited → IsAwaited (held ++ more) awaited
 awaited_more held more None is = tt
-awaited_more held more (Some ask) is = ask_more held more ask is
+awaited_more held more (Some head) is = head_more held more head is
 
 pub awaits_more : (begin : Progress) (start mid left : Option (List ℕ)) (count n most : ℕ) (now : Progress)
-    (held window : List ℕ) (awaited : Option Ask) → Midway begin start mid count now held awaited
-    → Fills mid left held window n most → IsAwaited window awaited
-awaits_more begin start mid left count n most now held window awaited at fills =
+    (held filled : List ℕ) (awaited : Option Head) → Midway begin start mid count now held awaited
+    → Fills mid left held filled n most → IsAwaited filled awaited
+awaits_more begin start mid left count n most now held filled awaited at fills =
     let A : List ℕ → Type 0 = λ l. IsAwaited l awaited in
     subst A (sym fills.4) (awaited_more held fills.0 awaited at.awaits)
 
--- the bytes before the window were answered
+-- the bytes before the filled were answered
 answers_more : (begin : Progress) (start mid left : Option (List ℕ)) (count n most : ℕ) (now : Progress)
-    (held window : List ℕ) (awaited : Option Ask) → (at : Midway begin start mid count now held awaited)
-    → (fills : Fills mid left held window n most) → AnswersTo begin (at.bytes ++ fills.0) window now
-answers_more begin start mid left count n most now held window awaited at fills =
+    (held filled : List ℕ) (awaited : Option Head) → (at : Midway begin start mid count now held awaited)
+    → (fills : Fills mid left held filled n most) → AnswersTo begin (at.bytes ++ fills.0) filled now
+answers_more begin start mid left count n most now held filled awaited at fills =
     let A : List ℕ → Type 0 = λ l. AnswersTo begin (at.bytes ++ fills.0) l now in
     let answered = at.answered in
     subst A (sym fills.4) (
@@ -72,33 +72,33 @@ answers_more begin start mid left count n most now held window awaited at fills 
     )
 
 long_more : (begin : Progress) (start mid left : Option (List ℕ)) (count n most : ℕ) (now : Progress)
-    (held window : List ℕ) (awaited : Option Ask) → (at : Midway begin start mid count now held awaited)
-    → (fills : Fills mid left held window n most) → length (at.bytes ++ fills.0) ≡ count + n
-long_more begin start mid left count n most now held window awaited at fills =
+    (held filled : List ℕ) (awaited : Option Head) → (at : Midway begin start mid count now held awaited)
+    → (fills : Fills mid left held filled n most) → length (at.bytes ++ fills.0) ≡ count + n
+long_more begin start mid left count n most now held filled awaited at fills =
     let long = at.long in
     let more = fills.1 in
     omega (arith, long, more, length-append at.bytes fills.0)
 
 loses_more : (begin : Progress) (start mid left : Option (List ℕ)) (count n most : ℕ) (now : Progress)
-    (held window : List ℕ) (awaited : Option Ask) → (at : Midway begin start mid count now held awaited)
-    → (fills : Fills mid left held window n most) → Loses start left (at.bytes ++ fills.0)
-loses_more begin start mid left count n most now held window awaited at fills =
+    (held filled : List ℕ) (awaited : Option Head) → (at : Midway begin start mid count now held awaited)
+    → (fills : Fills mid left held filled n most) → Loses start left (at.bytes ++ fills.0)
+loses_more begin start mid left count n most now held filled awaited at fills =
     Loses-join start mid left at.bytes fills.0 at.loses fills.3
 
 pub goes_on : (begin : Progress) (start mid left : Option (List ℕ)) (count n most : ℕ) (now then : Progress)
-    (held window held_now : List ℕ) (awaited : Option Ask) (walked : Walked)
-    → Midway begin start mid count now held awaited → Fills mid left held window n most → count + n < input_limit
-    → Walks now window (Ok walked) then → held_now ≡ drop walked.used window
+    (held filled held_now : List ℕ) (awaited : Option Head) (walked : WalkEnd)
+    → Midway begin start mid count now held awaited → Fills mid left held filled n most → count + n < input_limit
+    → Walks now filled (Ok walked) then → held_now ≡ drop walked.used filled
     → Midway begin start left (count + n) then held_now walked.awaited
-goes_on begin start mid left count n most now then held window held_now awaited walked at fills below walk same =
+goes_on begin start mid left count n most now then held filled held_now awaited walked at fills below walk same =
     let M : List ℕ → Type 0 = λ l. Midway begin start left (count + n) then l walked.awaited in
     subst M (sym same) (record {
       bytes = at.bytes ++ fills.0;
-      long = long_more begin start mid left count n most now held window awaited at fills;
+      long = long_more begin start mid left count n most now held filled awaited at fills;
       below = below;
-      loses = loses_more begin start mid left count n most now held window awaited at fills;
-      answered = to_join begin now then (at.bytes ++ fills.0) window (drop walked.used window)
-          (answers_more begin start mid left count n most now held window awaited at fills) walk.1;
+      loses = loses_more begin start mid left count n most now held filled awaited at fills;
+      answered = to_join begin now then (at.bytes ++ fills.0) filled (drop walked.used filled)
+          (answers_more begin start mid left count n most now held filled awaited at fills) walk.1;
       waits = inr walk.2;
       awaits = walk.3;
     })
@@ -112,7 +112,7 @@ takes_no_more start mid left bytes first second =
     let L : List ℕ → Type 0 = λ l. Loses start left l in
     subst L (append-nil bytes) (Loses-join start mid left bytes [] first second)
 
-below_limit : (begin : Progress) (start left : Option (List ℕ)) (count : ℕ) (now : Progress) (held : List ℕ) (awaited : Option Ask)
+below_limit : (begin : Progress) (start left : Option (List ℕ)) (count : ℕ) (now : Progress) (held : List ℕ) (awaited : Option Head)
     → (at : Midway begin start left count now held awaited) → length at.bytes < input_limit
 below_limit begin start left count now held awaited at = let long = at.long in let below = at.below in omega (arith, long, below)
 
@@ -121,9 +121,9 @@ length-none [] is = refl
 length-none (x ∷ xs) is = absurd (omega (arith, is))
 
 pub ends_closed : (begin : Progress) (start mid left : Option (List ℕ)) (count n most : ℕ) (now : Progress)
-    (held window : List ℕ) (awaited : Option Ask) → Midway begin start mid count now held awaited
-    → Fills mid left held window n most → n ≡ 0 → Serves begin start now left Ended.Closed
-ends_closed begin start mid left count n most now held window awaited at fills none =
+    (held filled : List ℕ) (awaited : Option Head) → Midway begin start mid count now held awaited
+    → Fills mid left held filled n most → n ≡ 0 → Serves begin start now left Ended.Closed
+ends_closed begin start mid left count n most now held filled awaited at fills none =
     let L : List ℕ → Type 0 = λ l. Loses mid left l in
     record {
       bytes = at.bytes;
@@ -135,7 +135,7 @@ ends_closed begin start mid left count n most now held window awaited at fills n
     }
 
 pub ends_unread : (begin : Progress) (start mid left : Option (List ℕ)) (count : ℕ) (now : Progress) (held : List ℕ)
-    (awaited : Option Ask) (ended : Ended) → Midway begin start mid count now held awaited → Loses mid left []
+    (awaited : Option Head) (ended : Ended) → Midway begin start mid count now held awaited → Loses mid left []
     → (ended ≡ Ended.ReadFault) ⊎ (ended ≡ Ended.NoMemory) → Serves begin start now left ended
 ends_unread begin start mid left count now held awaited ended at unread (inl is) =
     let S : Ended → Type 0 = λ e. Serves begin start now left e in
@@ -153,19 +153,19 @@ ends_unread begin start mid left count now held awaited ended at unread (inr is)
     })
 
 pub ends_at_limit : (begin : Progress) (start mid left : Option (List ℕ)) (count n most : ℕ) (now : Progress)
-    (held window : List ℕ) (awaited : Option Ask) → Midway begin start mid count now held awaited
-    → Fills mid left held window n most → 0 < n → n ≤ read_limit → count + n ≡ input_limit
+    (held filled : List ℕ) (awaited : Option Head) → Midway begin start mid count now held awaited
+    → Fills mid left held filled n most → 0 < n → n ≤ read_limit → count + n ≡ input_limit
     → Serves begin start now left Ended.InputLimit
-ends_at_limit begin start mid left count n most now held window awaited at fills some few full =
+ends_at_limit begin start mid left count n most now held filled awaited at fills some few full =
     let same = fills.1 in
     record {
       bytes = at.bytes ++ fills.0;
-      takes = loses_more begin start mid left count n most now held window awaited at fills;
+      takes = loses_more begin start mid left count n most now held filled awaited at fills;
       ends = (
         at.bytes,
         fills.0,
         refl,
-        long_more begin start mid left count n most now held window awaited at fills ∙ full,
+        long_more begin start mid left count n most now held filled awaited at fills ∙ full,
         omega (arith, same, some),
         omega (arith, same, few),
         (held, at.answered, at.waits),
@@ -182,18 +182,18 @@ ends_of Ended.InputLimit begin now bytes left below stops = absurd stops
 ends_of Ended.NoMemory begin now bytes left below stops = (below, stops)
 
 pub ends_walking : (begin : Progress) (start mid left : Option (List ℕ)) (count n most : ℕ) (now then : Progress)
-    (held window : List ℕ) (awaited : Option Ask) (ended : Ended) → Midway begin start mid count now held awaited
-    → Fills mid left held window n most → count + n < input_limit → Walks now window (Err ended) then
+    (held filled : List ℕ) (awaited : Option Head) (ended : Ended) → Midway begin start mid count now held awaited
+    → Fills mid left held filled n most → count + n < input_limit → Walks now filled (Err ended) then
     → Serves begin start then left ended
-ends_walking begin start mid left count n most now then held window awaited ended at fills below walk =
-    let long = long_more begin start mid left count n most now held window awaited at fills in
+ends_walking begin start mid left count n most now then held filled awaited ended at fills below walk =
+    let long = long_more begin start mid left count n most now held filled awaited at fills in
     let few : length (at.bytes ++ fills.0) < input_limit = omega (arith, long, below) in
     record {
       bytes = at.bytes ++ fills.0;
-      takes = loses_more begin start mid left count n most now held window awaited at fills;
+      takes = loses_more begin start mid left count n most now held filled awaited at fills;
       ends = ends_of ended begin then (at.bytes ++ fills.0) left few
-          (stops_join ended begin now then (at.bytes ++ fills.0) window
-          (answers_more begin start mid left count n most now held window awaited at fills) walk);
+          (stops_join ended begin now then (at.bytes ++ fills.0) filled
+          (answers_more begin start mid left count n most now held filled awaited at fills) walk);
     }
 
 -- there was no memory to begin with

@@ -5,9 +5,9 @@ use Rattle.std.proofs.lemmas.List.Edits.{take-paste}
 use Rattle.std.proofs.Math.Seq.{take-append-add}
 use lib.Seq.{paste}
 use Rattle.lei_outside.specs.Told.{Reads}
-use Rattle.issuer_http.specs.Window.{Fills}
+use Rattle.issuer_http.specs.ReadBuffers.{Fills}
 
--- a block is written behind what is held, and n bytes of it are kept
+-- a block is written after what is held, and n bytes of it are kept
 pub filled : (size held n : ℕ) (items block rest beyond : List ℕ) → held ≤ length items → n ≤ length block
     → held + n ≤ size → take (held + n) (take size ((take held items ++ (block ++ rest)) ++ beyond)) ≡ take held
     items ++ take n block
@@ -21,7 +21,7 @@ filled size held n items block rest beyond within some fits =
     ∙ ap (λ k. take (k + n) (front ++ all)) (sym long) ∙ take-append-add front all n
     ∙ ap (λ l. front ++ l) (take-append-le n block (rest ++ beyond) some)
 
--- and so a read that gives n bytes fills the buffer behind what is held
+-- and so a read that gives n bytes fills the buffer after what is held
 pub fills : {E : Type 0} (before after : Option (List ℕ)) (result : Result ℕ E) (size held most : ℕ)
     (start items block rest beyond : List ℕ) → take held items ≡ start
     → held ≤ length items → held + length block ≤ size → length block ≤ most → Reads before after result block
@@ -37,7 +37,7 @@ fills before after (Ok n) size held most start items block rest beyond same with
 )
 fills before after (Err fault) size held most start items block rest beyond same within fits few reads = tt
 
--- what is behind the first n bytes moves to the front
+-- what is after the first n bytes moves to the front
 pub used_up : (held n : ℕ) (items : List ℕ) → held ≤ length items → n ≤ held
     → take (held - n) (paste items 0 (drop n items) (held - n)) ≡ drop n (take held items)
 used_up held n items within some =

@@ -1,100 +1,195 @@
 -- The numbers of requests that are read, and the refusals of the reader.
-use Rattle.std.proofs.Common.{◌≡◌, ℕ, List, [], ◌∷◌, Option, Some, None, inr, refl, sym, subst}
+use Rattle.std.proofs.Common.{◌≡◌, ℕ, List, [], ◌∷◌, length, Bool, true, false, Option, Some, None, inl, inr, refl, sym, ap, ◌∙◌, subst}
 use Rattle.std.specs.Option.{option_and_then}
-use Rattle.register_words.proofs.Numbers.{number_within-range}
-use Rattle.register_words.specs.Words.{base_of, code_of, form_of, number_of, sheet_of}
-use Rattle.http_heads.specs.Requests.{IsRead, body_in}
-use Rattle.http_heads.specs.Routes.{part_of}
-use Rattle.http_heads.specs.Wishes.{or_path, wish_at, wish_of}
-use Rattle.http_heads.specs.declared.head.HeadFault.{HeadFault}
-use Rattle.http_heads.specs.declared.routes.Action.{Action}
-use Rattle.http_heads.specs.declared.routes.Allowed.{Allowed}
-use Rattle.http_heads.specs.declared.wishes.Ask.{Ask}
-use Rattle.http_heads.specs.declared.wishes.Wish.{Wish}
-use Rattle.http_heads.specs.declared.wishes.WishRead.{WishRead}
-use Rattle.std.specs.Prelude.{Result, Ok, Err}
+use Rattle.std.specs.Prelude.{codes, nat_lt, option_map, if◌then◌else◌}
+use Rattle.std.proofs.lemmas.Bool.{false≢true}
+use Rattle.httparse.specs.Grammar.{RequestHead}
+use Rattle.matchit.specs.Params.{named}
+use Rattle.matchit.specs.Router.{RouteOf}
 use Rattle.register_history.specs.Legal.{AskStep}
-use Rattle.register_words.specs.Requests.{IsNumbered}
 use Rattle.register_history.specs.State.{OfficeState}
+use Rattle.register_words.proofs.Numbers.{number_within-range}
+use Rattle.register_words.specs.Requests.{IsNumbered}
+use Rattle.register_words.specs.Words.{base_of, code_of, form_of, number_of, sheet_of}
 use Rattle.register_words.specs.declared.reply.Refusal.{Refusal}
 use Rattle.register_words.specs.declared.reply.Refusal.TheVariants.{NoMemory}
 use Rattle.register_words.specs.declared.reply.Reply.TheVariants.{Words}
 use Rattle.register_words.specs.declared.request.Asked.{Asked}
 use Rattle.register_words.specs.declared.request.Asked.TheVariants.{Ask as Asks, Refuse}
 use Rattle.register_words.specs.declared.request.Request.{Request}
+use Rattle.http_heads.specs.Asking.{MayWantMemory, accredit_in, asked_at, asked_of, asked_on, asks, copy_in, delta_in, key_in, kept_in, publish_in, show_in, upload_in, words_by}
+use Rattle.http_heads.specs.Asking as asking
+use Rattle.http_heads.specs.Headers.{header_facts}
+use Rattle.http_heads.specs.Heads.{IsHeadRead, fault_by, fault_of, fault_of_headers, fault_of_length, fault_of_upload, first_fault, headers_of, lacks_length, method_of}
+use Rattle.http_heads.specs.Requests.{IsRead, asked_in, body_in, target_in}
+use Rattle.http_heads.specs.Routes.{path_of, place_of, route_of}
+use Rattle.http_heads.specs.declared.head.Head.{Head}
+use Rattle.http_heads.specs.declared.head.HeadRead.{HeadRead}
+use Rattle.http_heads.specs.declared.headers.ContentLength.{ContentLength}
+use Rattle.http_heads.specs.declared.headers.HeaderFacts.{HeaderFacts}
+use Rattle.http_heads.specs.declared.routes.Method.{Method}
+use Rattle.http_heads.specs.declared.routes.Place.{Place}
 use Rattle.issuer_http.specs.Faults.{keeper_faults}
-use Rattle.issuer_http.specs.Requests.{MayWantMemory, asked_in, asked_of, refusal_of}
-use Rattle.issuer_http.proofs.Reading.{each_read, whole_of}
+use Rattle.issuer_http.proofs.Reading.{bad_of_read}
 
--- what is asked has a number in its range, and a refusal of the reader tells no fault of the keeper
+-- ---- what is asked has a number in its range, and a refusal of the reader tells no fault of the keeper
+
 abbrev pub AsksInRange : Asked → Type 0
 AsksInRange (Refuse refusal) = keeper_faults (Words refusal ∷ []) ≡ 0
 AsksInRange (Asks request) = IsNumbered request
 
-abbrev InRange : Wish → Type 0
-InRange wish = (body : List ℕ) → AsksInRange (asked_of wish body)
+abbrev InRange : Option Request → Type 0
+InRange request = AsksInRange (asks request)
 
-bind_range : {A : Type 0} (o : Option A) (f : A → Option Wish) → ((x : A) → o ≡ Some x → InRange (or_path (f x)))
-    → InRange (or_path (option_and_then f o))
-bind_range None f each = λ body. refl
+bind_range : {A : Type 0} (o : Option A) (f : A → Option Request) → ((x : A) → o ≡ Some x → InRange (f x))
+    → InRange (option_and_then f o)
+bind_range None f each = refl
 bind_range (Some x) f each = each x refl
 
-wish_range : (action : Action) (path : List ℕ) → InRange (or_path (wish_of action path))
-unfolding wish_of
-wish_range Action.Accredit path =
-    bind_range (part_of path 3) _ (λ lou _. bind_range (code_of lou) _ (λ issuer _ body. tt))
-wish_range Action.Upload path =
-    bind_range (part_of path 3) _ (λ lou _. bind_range (part_of path 5) _ (λ word _. bind_range (code_of lou) _
-    (λ issuer _. bind_range (number_of word) _ (λ number is body. number_within-range 1 1_000_000 word number is))))
-wish_range Action.Kept path =
-    bind_range (part_of path 3) _ (λ lou _. bind_range (part_of path 5) _ (λ word _. bind_range (code_of lou) _
-    (λ issuer _. bind_range (number_of word) _ (λ number is body. number_within-range 1 1_000_000 word number is))))
-wish_range Action.Publish path =
-    bind_range (part_of path 3) _ (λ word _. bind_range (number_of word) _
-    (λ number is body. number_within-range 1 1_000_000 word number is))
-wish_range Action.Show path =
-    bind_range (part_of path 3) _ (λ word _. bind_range (code_of word) _ (λ lei _ body. tt))
-wish_range Action.Copy path =
-    bind_range (part_of path 3) _ (λ table _. bind_range (part_of path 4) _ (λ word _. bind_range (sheet_of table) _
-    (λ sheet _. bind_range (form_of word) _ (λ form _ body. tt))))
-wish_range Action.Delta path =
-    bind_range (part_of path 3) _ (λ name _. bind_range (part_of path 4) _ (λ table _. bind_range (part_of path 5) _
-    (λ word _. bind_range (base_of name) _ (λ base _. bind_range (sheet_of table) _
-    (λ sheet _. bind_range (form_of word) _ (λ form _ body. tt))))))
-wish_range Action.Status path = λ body. tt
+-- a key has a number in its range
+abbrev KeyInRange : (List ℕ × ℕ → Request) → Option (List ℕ × ℕ) → Type 0
+KeyInRange request found = InRange (option_map request found)
 
-at_range : (action : Option (Result Action Allowed)) (path : List ℕ) → InRange (wish_at action path)
-at_range None path = λ body. refl
-at_range (Some (Err allowed)) path = λ body. refl
-at_range (Some (Ok action)) path = wish_range action path
+key_range : (request : List ℕ × ℕ → Request) → ((issuer : List ℕ) (word : List ℕ) (number : ℕ) → number_of word ≡ Some number → IsNumbered (request (issuer, number)))
+    → (words : asking.Words) → KeyInRange request (key_in words)
+key_range request each words =
+    bind_key (named (codes "lou") words) _ (λ lou _. bind_key (named (codes "number") words) _ (λ word _. bind_key (code_of lou) _
+    (λ issuer _. bind_key (number_of word) _ (λ number is. each issuer word number is))))
+  where
+    bind_key : {A : Type 0} (o : Option A) (f : A → Option (List ℕ × ℕ)) → ((x : A) → o ≡ Some x → KeyInRange request (f x))
+        → KeyInRange request (option_and_then f o)
+    bind_key None f each = refl
+    bind_key (Some x) f each = each x refl
 
-abbrev ReadInRange : WishRead → Type 0
-ReadInRange WishRead.More = Unit {0}
-ReadInRange (WishRead.Bad fault) = Unit {0}
-ReadInRange (WishRead.Asks ask) = InRange ask.wish
+accredit_range : (words : asking.Words) → InRange (accredit_in words)
+unfolding accredit_in
+accredit_range words = bind_range (named (codes "lou") words) _ (λ lou _. bind_range (code_of lou) _ (λ issuer _. tt))
 
-in_range : (bytes : List ℕ) (ask : Ask) → IsRead bytes (WishRead.Asks ask) → AsksInRange (asked_in bytes ask)
-in_range bytes ask read =
-    each_read ReadInRange tt (λ fault. tt) (λ head. at_range _ _) bytes (WishRead.Asks ask) (whole_of bytes ask read).wish
-    (body_in bytes ask)
+upload_range : (words : asking.Words) (body : List ℕ) → InRange (upload_in words body)
+unfolding upload_in
+upload_range words body = key_range _ (λ issuer word number is. number_within-range 1 1_000_000 word number is) words
+
+kept_range : (words : asking.Words) → InRange (kept_in words)
+unfolding kept_in
+kept_range words = key_range _ (λ issuer word number is. number_within-range 1 1_000_000 word number is) words
+
+publish_range : (words : asking.Words) → InRange (publish_in words)
+unfolding publish_in
+publish_range words =
+    bind_range (named (codes "number") words) _ (λ word _. bind_range (number_of word) _
+    (λ number is. number_within-range 1 1_000_000 word number is))
+
+show_range : (words : asking.Words) → InRange (show_in words)
+unfolding show_in
+show_range words = bind_range (named (codes "lei") words) _ (λ word _. bind_range (code_of word) _ (λ lei _. tt))
+
+copy_range : (words : asking.Words) → InRange (copy_in words)
+unfolding copy_in
+copy_range words =
+    bind_range (named (codes "table") words) _ (λ table _. bind_range (named (codes "form") words) _ (λ word _.
+    bind_range (sheet_of table) _ (λ sheet _. bind_range (form_of word) _ (λ form _. tt))))
+
+delta_range : (words : asking.Words) → InRange (delta_in words)
+unfolding delta_in
+delta_range words =
+    bind_range (named (codes "base") words) _ (λ name _. bind_range (named (codes "table") words) _ (λ table _.
+    bind_range (named (codes "form") words) _ (λ word _. bind_range (base_of name) _ (λ base _. bind_range (sheet_of table) _
+    (λ sheet _. bind_range (form_of word) _ (λ form _. tt))))))
+
+at_range : (place : Place) (method : Method) (words : asking.Words) (body : List ℕ) → AsksInRange (asked_at place method words body)
+at_range Place.Issuer Method.Put words body = accredit_range words
+at_range Place.Issuer Method.Get words body = refl
+at_range Place.Issuer Method.Other words body = refl
+at_range Place.Upload Method.Put words body = upload_range words body
+at_range Place.Upload Method.Get words body = kept_range words
+at_range Place.Upload Method.Other words body = refl
+at_range Place.Publication Method.Put words body = publish_range words
+at_range Place.Publication Method.Get words body = refl
+at_range Place.Publication Method.Other words body = refl
+at_range Place.Record Method.Put words body = refl
+at_range Place.Record Method.Get words body = show_range words
+at_range Place.Record Method.Other words body = refl
+at_range Place.Copy Method.Put words body = refl
+at_range Place.Copy Method.Get words body = copy_range words
+at_range Place.Copy Method.Other words body = refl
+at_range Place.Delta Method.Put words body = refl
+at_range Place.Delta Method.Get words body = delta_range words
+at_range Place.Delta Method.Other words body = refl
+at_range Place.Status Method.Put words body = refl
+at_range Place.Status Method.Get words body = tt
+at_range Place.Status Method.Other words body = refl
+
+on_range : (route : Option (RouteOf Place)) (method : Method) (path body : List ℕ) → AsksInRange (asked_on route method path body)
+on_range None method path body = refl
+on_range (Some route) method path body = at_range route.value method (words_by route path) body
+
+in_range : (bytes : List ℕ) (head : Head) → AsksInRange (asked_in bytes head)
+in_range bytes head =
+    let path = path_of (target_in bytes head) in
+    on_range (route_of path) head.method path (body_in bytes head)
 
 -- a request that is asked has a number in its range
-pub is_numbered : (bytes : List ℕ) (ask : Ask) (request : Request) → IsRead bytes (WishRead.Asks ask)
-    → asked_in bytes ask ≡ Asks request → IsNumbered request
-is_numbered bytes ask request read is =
-    let P : Asked → Type 0 = λ what. AsksInRange what in subst P is (in_range bytes ask read)
+pub is_numbered : (bytes : List ℕ) (head : Head) (request : Request) → asked_in bytes head ≡ Asks request → IsNumbered request
+is_numbered bytes head request is =
+    let P : Asked → Type 0 = λ what. AsksInRange what in subst P is (in_range bytes head)
 
 -- and a refusal tells no fault of the keeper
-pub tells_no_fault : (bytes : List ℕ) (ask : Ask) (refusal : Refusal) → IsRead bytes (WishRead.Asks ask)
-    → asked_in bytes ask ≡ Refuse refusal → keeper_faults (Words refusal ∷ []) ≡ 0
-tells_no_fault bytes ask refusal read is =
-    let P : Asked → Type 0 = λ what. AsksInRange what in subst P is (in_range bytes ask read)
+pub tells_no_fault : (bytes : List ℕ) (head : Head) (refusal : Refusal) → asked_in bytes head ≡ Refuse refusal
+    → keeper_faults (Words refusal ∷ []) ≡ 0
+tells_no_fault bytes head refusal is =
+    let P : Asked → Type 0 = λ what. AsksInRange what in subst P is (in_range bytes head)
 
-pub head_tells_no_fault : (fault : HeadFault) → keeper_faults (Words (refusal_of fault) ∷ []) ≡ 0
-head_tells_no_fault HeadFault.Head = refl
-head_tells_no_fault HeadFault.HeadTooLong = refl
-head_tells_no_fault HeadFault.LengthRequired = refl
-head_tells_no_fault HeadFault.TooLong = refl
+-- ---- a head that is refused tells no fault of the keeper
+
+abbrev NoKeeperFault : Option Refusal → Type 0
+NoKeeperFault None = Unit {0}
+NoKeeperFault (Some fault) = keeper_faults (Words fault ∷ []) ≡ 0
+
+no_fault_if : (test : Bool) (fault : Refusal) (other : Option Refusal) → keeper_faults (Words fault ∷ []) ≡ 0 → NoKeeperFault other
+    → NoKeeperFault (if test then Some fault else other)
+no_fault_if true fault other this rest = this
+no_fault_if false fault other this rest = rest
+
+first_no_fault : (one two : Option Refusal) → NoKeeperFault one → NoKeeperFault two → NoKeeperFault (first_fault one two)
+first_no_fault None two first second = second
+first_no_fault (Some fault) two first second = first
+
+length_no_fault : (body : ContentLength) → NoKeeperFault (fault_of_length body)
+length_no_fault ContentLength.Absent = tt
+length_no_fault (ContentLength.Bytes number) = no_fault_if (nat_lt 4194304 number) Refusal.TooLong None refl tt
+length_no_fault ContentLength.Wrong = refl
+
+by_no_fault : (facts : HeaderFacts) (method : Method) (place : Option Place) → NoKeeperFault (fault_by facts method place)
+by_no_fault facts method place =
+    first_no_fault (fault_of_headers facts) (fault_of_upload method place facts.body)
+    (no_fault_if facts.coded Refusal.LengthRequired (fault_of_length facts.body) refl (length_no_fault facts.body))
+    (no_fault_if (lacks_length method place facts.body) Refusal.LengthRequired None refl tt)
+
+head_no_fault : (head : RequestHead) → NoKeeperFault (fault_of head)
+head_no_fault head =
+    let facts = header_facts (headers_of head) in
+    let method = method_of head.method in
+    let place = place_of (path_of head.target) in
+    no_fault_if (nat_lt 32 (length head.fields)) Refusal.HeadTooLong (fault_by facts method place) refl (by_no_fault facts method place)
+
+abbrev fault_in : HeadRead → Option Refusal
+fault_in HeadRead.More = None
+fault_in (HeadRead.Bad fault) = Some fault
+fault_in (HeadRead.Whole head) = None
+
+few_no_fault : (few : Bool) → NoKeeperFault (fault_in (if few then HeadRead.More else HeadRead.Bad Refusal.HeadTooLong))
+few_no_fault true = tt
+few_no_fault false = refl
+
+bad_no_fault : (bytes : List ℕ) (fault : Refusal) → IsHeadRead bytes (HeadRead.Bad fault) → NoKeeperFault (Some fault)
+bad_no_fault bytes fault (inl (none, may, is)) = subst (λ o. NoKeeperFault o) (sym (ap fault_in is)) (few_no_fault _)
+bad_no_fault bytes fault (inr (inl (never, is))) = subst (λ o. NoKeeperFault o) (sym (ap fault_in is)) refl
+bad_no_fault bytes fault (inr (inr (head, rest, reads, tells))) = subst (λ o. NoKeeperFault o) tells (head_no_fault head)
+
+pub head_tells_no_fault : (bytes : List ℕ) (fault : Refusal) → IsRead bytes (HeadRead.Bad fault) → keeper_faults (Words fault ∷ []) ≡ 0
+head_tells_no_fault bytes fault read = bad_no_fault bytes fault (bad_of_read bytes fault read)
+
+-- ---- want of memory
 
 -- want of memory for an upload's body leaves the office, and asks for no moment
 pub step_wanting : (office : OfficeState) (what : Asked) → MayWantMemory what → AskStep office what [] (Words NoMemory) office

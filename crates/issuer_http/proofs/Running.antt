@@ -1,4 +1,4 @@
--- What was answered, and what was answered behind it.
+-- What was answered, and what was answered after it.
 use Rattle.std.proofs.Common.{Contains, ◌≡◌, ℕ, ℤ, List, [], ◌∷◌, ◌++◌, length, take, Ok, Err, refl, sym, ap, ◌∙◌, subst, append_assoc, arith, length-append}
 use Rattle.std.proofs.lemmas.List.{append-nil, map-append}
 use Rattle.lei_outside.specs.Count.{Rose}
@@ -14,9 +14,9 @@ use Rattle.register_words.specs.declared.request.Asked.{Asked}
 use Rattle.issuer_http.specs.Faults.{RoseBy, keeper_faults}
 use Rattle.issuer_http.specs.Requests.{Want}
 use Rattle.issuer_http.specs.Responses.{response_text, response_texts}
-use Rattle.issuer_http.specs.Serving.{Answered, Progress, Ran, Stopped, asks_of}
+use Rattle.issuer_http.specs.Serving.{AnswersWant, Progress, AnswersWants, AnswersWantsInPart, asks_of}
 use Rattle.issuer_http.proofs.Counting.{RoseBy-none, none_told, rose_on}
-use Rattle.issuer_http.proofs.Giving.{Gives-none, Gives-join}
+use Rattle.issuer_http.proofs.Giving.{ClockGives-none, ClockGives-join}
 
 pub Session-join : (old mid new : OfficeState) (asks more : List Asked) (xs ys : List ℤ) (replies others : List Reply)
     → Session old asks xs replies mid → Session mid more ys others new
@@ -52,7 +52,7 @@ asks-length : (wants : List Want) → length (asks_of wants) ≡ length wants
 asks-length [] = refl
 asks-length (want ∷ wants) = let rest : length (asks_of wants) ≡ length wants = asks-length wants in omega (arith, rest)
 
--- the responses to what was wanted, and to what was wanted behind it
+-- the responses to what was wanted, and to what was wanted after it
 texts-join : (wants more : List Want) (replies others : List Reply) → length replies ≡ length wants
     → response_texts (wants ++ more) (replies ++ others) ≡ response_texts wants replies ++ response_texts more others
 texts-join [] more [] others same = refl
@@ -79,7 +79,7 @@ session_one : (old new : OfficeState) (want : Want) (moments : List ℤ) (reply 
     → AskStep old want.asked moments reply new → Session old (asks_of (want ∷ [])) moments (reply ∷ []) new
 session_one old new want moments reply step = (moments, [], new, sym (append-nil moments), step, (refl, refl))
 
-replies-of : (start now : Progress) (wants : List Want) → (run : Ran start wants now) → length run.replies ≡ length wants
+replies-of : (start now : Progress) (wants : List Want) → (run : AnswersWants start wants now) → length run.replies ≡ length wants
 replies-of start now wants run =
     session-length start.office now.office (asks_of wants) run.moments run.replies run.session ∙ asks-length wants
 
@@ -94,10 +94,10 @@ exactly start now wants moments replies session refuses still lacks =
 
 -- ---- runs
 
-pub ran_nothing : (at : Progress) → Ran at [] at
+pub ran_nothing : (at : Progress) → AnswersWants at [] at
 ran_nothing at = record {
   moments = [];
-  gives = Gives-none at.given;
+  gives = ClockGives-none at.given;
   replies = [];
   session = (refl, refl);
   writes = Grows-none at.written;
@@ -105,8 +105,8 @@ ran_nothing at = record {
   exact = λ still lacks. refl;
 }
 
-pub ran_join : (start mid now : Progress) (wants more : List Want) → Ran start wants mid → Ran mid more now
-    → Ran start (wants ++ more) now
+pub ran_join : (start mid now : Progress) (wants more : List Want) → AnswersWants start wants mid → AnswersWants mid more now
+    → AnswersWants start (wants ++ more) now
 ran_join start mid now wants more first second =
     let G : List ℕ → Type 0 = λ bytes. Grows start.written now.written bytes in
     let moments = first.moments ++ second.moments in
@@ -116,7 +116,7 @@ ran_join start mid now wants more first second =
     let refuses = rose_on first.replies second.replies start.faults mid.faults now.faults first.refuses second.refuses in
     record {
       moments = moments;
-      gives = Gives-join start.given mid.given now.given first.moments second.moments first.gives second.gives;
+      gives = ClockGives-join start.given mid.given now.given first.moments second.moments first.gives second.gives;
       replies = replies;
       session = session;
       writes = subst G
@@ -129,7 +129,7 @@ ran_join start mid now wants more first second =
 
 -- a response that was written whole
 pub ran_one : {T E : Type 0} (before after : Progress) (want : Want) (done : T)
-    → Answered {T = T} {E = E} before want (Ok done) after → Ran before (want ∷ []) after
+    → AnswersWant {T = T} {E = E} before want (Ok done) after → AnswersWants before (want ∷ []) after
 ran_one {T} {E} before after want done answered =
     let G : List ℕ → Type 0 = λ bytes. Grows before.written after.written bytes in
     let session = session_one before.office after.office want answered.moments answered.reply answered.step in
@@ -146,8 +146,8 @@ ran_one {T} {E} before after want done answered =
 
 -- ---- runs that stop
 
-pub stopped_join : (start mid now : Progress) (wants more last : List Want) → Ran start wants mid → Stopped mid more last now
-    → Stopped start (wants ++ more) last now
+pub stopped_join : (start mid now : Progress) (wants more last : List Want) → AnswersWants start wants mid → AnswersWantsInPart mid more last now
+    → AnswersWantsInPart start (wants ++ more) last now
 stopped_join start mid now wants more last first second =
     let R = first.replies ++ second.replies in
     let before = response_texts wants first.replies in
@@ -164,7 +164,7 @@ stopped_join start mid now wants more last first second =
     sym (append_assoc first.replies second.replies second.last_replies) in
     record {
       moments = first.moments ++ second.moments;
-      gives = Gives-join start.given mid.given now.given first.moments second.moments first.gives second.gives;
+      gives = ClockGives-join start.given mid.given now.given first.moments second.moments first.gives second.gives;
       replies = R;
       last_replies = second.last_replies;
       session = subst S (sym (append_assoc wants more last))
@@ -183,7 +183,7 @@ stopped_join start mid now wants more last first second =
     }
 
 -- nothing is cut off
-pub stopped_whole : (start now : Progress) (wants : List Want) → Ran start wants now → Stopped start wants [] now
+pub stopped_whole : (start now : Progress) (wants : List Want) → AnswersWants start wants now → AnswersWantsInPart start wants [] now
 stopped_whole start now wants run =
     let G : List ℕ → Type 0 = λ bytes. Grows start.written now.written bytes in
     let S : List Want → Type 0 = λ ws. Session start.office (asks_of ws) run.moments (run.replies ++ []) now.office in
@@ -203,7 +203,7 @@ stopped_whole start now wants run =
 
 -- a response of which a front was written
 pub stopped_one : {T E : Type 0} (before after : Progress) (want : Want) (fault : E)
-    → Answered {T = T} {E = E} before want (Err fault) after → Stopped before [] (want ∷ []) after
+    → AnswersWant {T = T} {E = E} before want (Err fault) after → AnswersWantsInPart before [] (want ∷ []) after
 stopped_one {T} {E} before after want fault answered =
     let text = response_text want answered.reply in
     let front : WritesFront before.written after.written text = answered.writes in

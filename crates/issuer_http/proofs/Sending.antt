@@ -11,10 +11,10 @@ use Rattle.register_words.specs.declared.reply.Reply.{Reply}
 use Rattle.register_words.specs.declared.reply.Reply.TheVariants.{Text, Words}
 use Rattle.http_heads.specs.Responses.{response_head}
 use Rattle.http_heads.specs.declared.responses.Content.{Content}
-use Rattle.http_heads.specs.declared.routes.Allowed.{Allowed}
+use Rattle.register_words.specs.declared.reply.Allowed.{Allowed}
 use Rattle.issuer_http.specs.Responses.{IsSent, content_of, methods_in, response_bytes}
 
--- a piece was written, and one behind it or a front of it
+-- a piece was written, and one after it or a front of it
 pub sent_then : {T E : Type 0} (a b c : Option (List ℕ)) (xs ys : List ℕ) (result : Result T E) → Grows a b xs
     → IsSent b c ys result → IsSent a c (xs ++ ys) result
 sent_then a b c xs ys (Ok done) first second = Grows-join a b c xs ys first second

@@ -9,20 +9,20 @@ use Rattle.register_history.specs.Legal.{AskStep}
 use Rattle.register_words.specs.declared.reply.Refusal.{Refusal}
 use Rattle.register_words.specs.declared.reply.Reply.TheVariants.{Words}
 use Rattle.http_heads.specs.Requests.{IsRead, size_of}
-use Rattle.http_heads.specs.Wishes.{IsWishRead}
-use Rattle.http_heads.specs.declared.head.HeadFault.{HeadFault}
-use Rattle.http_heads.specs.declared.wishes.Ask.{Ask}
-use Rattle.http_heads.specs.declared.wishes.WishRead.{WishRead}
+use Rattle.http_heads.specs.Heads.{IsHeadRead}
+use Rattle.register_words.specs.declared.reply.Refusal.{Refusal}
+use Rattle.http_heads.specs.declared.head.Head.{Head}
+use Rattle.http_heads.specs.declared.head.HeadRead.{HeadRead}
 use Rattle.issuer_http.specs.Faults.{RoseBy, keeper_faults}
-use Rattle.issuer_http.specs.Requests.{Want, behind, refusal_of, refused, want_of}
+use Rattle.issuer_http.specs.Requests.{Want, after_request, refusal_want, want_of}
 use Rattle.issuer_http.specs.Responses.{IsSent, response_bytes, response_text}
-use Rattle.issuer_http.specs.Serving.{Answered, AnswersHead, AnswersOne, AnswersSome, AnswersTo, AnswersToBadHead, AnswersToLast, Progress, Ran, StayOpen, Stops, Walks, after_sent}
+use Rattle.issuer_http.specs.Serving.{AnswersWant, AnswersHead, AnswersOne, AnswersSome, AnswersTo, AnswersToBadHead, AnswersToLast, Progress, AnswersWants, StayOpen, Stops, Walks, after_sent}
 use Rattle.issuer_http.specs.declared.ended.Ended.{Ended}
-use Rattle.issuer_http.specs.declared.walking.Walked.{Walked}
+use Rattle.issuer_http.specs.declared.walking.WalkEnd.{WalkEnd}
 use Rattle.issuer_http.proofs.Counting.{RoseBy-none}
-use Rattle.issuer_http.proofs.Giving.{Gives-none}
+use Rattle.issuer_http.proofs.Giving.{ClockGives-none}
 use Rattle.issuer_http.proofs.Ranging.{head_tells_no_fault}
-use Rattle.issuer_http.proofs.Reading.{ask_some, bad_of, more_of, read_of, waits_of, whole_of}
+use Rattle.issuer_http.proofs.Reading.{head_some, bad_of, more_of, read_of, waits_of, whole_of}
 use Rattle.issuer_http.proofs.Running.{ran_join, ran_nothing, ran_one, stopped_join, stopped_one, stopped_whole}
 use Rattle.issuer_http.proofs.Wanting.{wants_join, wants_one}
 
@@ -51,31 +51,31 @@ to_join before mid after bytes rest end first second = (
 
 last_join : (before mid after : Progress) (bytes rest : List ℕ) → AnswersTo before bytes rest mid
     → AnswersToLast mid rest after → AnswersToLast before bytes after
-last_join before mid after bytes rest first (wants, end, ask, are, stay, read, last, ran) =
-    let R : List Want → Type 0 = λ ws. Ran before ws after in (
+last_join before mid after bytes rest first (wants, end, head, are, stay, read, last, ran) =
+    let R : List Want → Type 0 = λ ws. AnswersWants before ws after in (
       first.0 ++ wants,
       end,
-      ask,
+      head,
       wants_join bytes rest first.0 wants end first.1 are,
       open_join first.0 wants first.2 stay,
       read,
       last,
-      subst R (sym (append_assoc first.0 wants (want_of end ask ∷ [])))
-          (ran_join before mid after first.0 (wants ++ want_of end ask ∷ []) first.3 ran),
+      subst R (sym (append_assoc first.0 wants (want_of end head ∷ [])))
+          (ran_join before mid after first.0 (wants ++ want_of end head ∷ []) first.3 ran),
     )
 
 bad_join : (before mid after : Progress) (bytes rest : List ℕ) → AnswersTo before bytes rest mid
     → AnswersToBadHead mid rest after → AnswersToBadHead before bytes after
 bad_join before mid after bytes rest first (wants, end, fault, are, stay, read, ran) =
-    let R : List Want → Type 0 = λ ws. Ran before ws after in (
+    let R : List Want → Type 0 = λ ws. AnswersWants before ws after in (
       first.0 ++ wants,
       end,
       fault,
       wants_join bytes rest first.0 wants end first.1 are,
       open_join first.0 wants first.2 stay,
       read,
-      subst R (sym (append_assoc first.0 wants (refused fault ∷ [])))
-          (ran_join before mid after first.0 (wants ++ refused fault ∷ []) first.3 ran),
+      subst R (sym (append_assoc first.0 wants (refusal_want fault ∷ [])))
+          (ran_join before mid after first.0 (wants ++ refusal_want fault ∷ []) first.3 ran),
     )
 
 some_join : (before mid after : Progress) (bytes rest : List ℕ) → AnswersTo before bytes rest mid
@@ -107,33 +107,33 @@ some_of before after bytes rest first =
 
 -- ---- one request
 
-pub one_goes : (before after : Progress) (bytes : List ℕ) (ask : Ask) (done : Unit {0}) → IsRead bytes (WishRead.Asks ask)
-    → AnswersOne before (want_of bytes ask) (Ok done) after → AnswersTo before bytes (behind bytes ask) after
-one_goes before after bytes ask done read answered = (
-  want_of bytes ask ∷ [],
-  wants_one bytes ask read,
-  open_one (want_of bytes ask) answered.0,
-  ran_one before after (want_of bytes ask) (tt {0}) answered.1,
+pub one_goes : (before after : Progress) (bytes : List ℕ) (head : Head) (done : Unit {0}) → IsRead bytes (HeadRead.Whole head)
+    → AnswersOne before (want_of bytes head) (Ok done) after → AnswersTo before bytes (after_request bytes head) after
+one_goes before after bytes head done read answered = (
+  want_of bytes head ∷ [],
+  wants_one bytes head read,
+  open_one (want_of bytes head) answered.0,
+  ran_one before after (want_of bytes head) (tt {0}) answered.1,
 )
 
-cut_off : (before after : Progress) (bytes : List ℕ) (ask : Ask) → IsRead bytes (WishRead.Asks ask)
-    → Answered {T = Unit {0}} {E = Unit {0}} before (want_of bytes ask) (Err (tt {0})) after → AnswersSome before bytes after
-cut_off before after bytes ask read answered =
-    ([], bytes, want_of bytes ask ∷ [], refl, open_none, inl (ask, read, refl), stopped_one before after (want_of bytes ask) (tt {0}) answered)
+cut_off : (before after : Progress) (bytes : List ℕ) (head : Head) → IsRead bytes (HeadRead.Whole head)
+    → AnswersWant {T = Unit {0}} {E = Unit {0}} before (want_of bytes head) (Err (tt {0})) after → AnswersSome before bytes after
+cut_off before after bytes head read answered =
+    ([], bytes, want_of bytes head ∷ [], refl, open_none, inl (head, read, refl), stopped_one before after (want_of bytes head) (tt {0}) answered)
 
-pub one_stops : (ended : Ended) (before after : Progress) (bytes : List ℕ) (ask : Ask) → IsRead bytes (WishRead.Asks ask)
-    → AnswersOne before (want_of bytes ask) (Err ended) after → Stops ended before bytes after
-one_stops Ended.Closed before after bytes ask read answered =
-    ([], bytes, ask, refl, open_none, read, answered.0, ran_one before after (want_of bytes ask) (tt {0}) answered.1)
-one_stops Ended.ReadFault before after bytes ask read answered = absurd answered
-one_stops Ended.WriteFault before after bytes ask read answered = cut_off before after bytes ask read answered
-one_stops Ended.BadHead before after bytes ask read answered = absurd answered
-one_stops Ended.InputLimit before after bytes ask read answered = absurd answered
-one_stops Ended.NoMemory before after bytes ask read answered = cut_off before after bytes ask read answered
+pub one_stops : (ended : Ended) (before after : Progress) (bytes : List ℕ) (head : Head) → IsRead bytes (HeadRead.Whole head)
+    → AnswersOne before (want_of bytes head) (Err ended) after → Stops ended before bytes after
+one_stops Ended.Closed before after bytes head read answered =
+    ([], bytes, head, refl, open_none, read, answered.0, ran_one before after (want_of bytes head) (tt {0}) answered.1)
+one_stops Ended.ReadFault before after bytes head read answered = absurd answered
+one_stops Ended.WriteFault before after bytes head read answered = cut_off before after bytes head read answered
+one_stops Ended.BadHead before after bytes head read answered = absurd answered
+one_stops Ended.InputLimit before after bytes head read answered = absurd answered
+one_stops Ended.NoMemory before after bytes head read answered = cut_off before after bytes head read answered
 
 -- a response that was sent or wasn't
 pub one_of : (before after : Progress) (want : Want) (sent : Result (Unit {0}) SinkFault) (last : Bool) → want.last ≡ last
-    → Answered before want sent after → AnswersOne before want (after_sent sent last) after
+    → AnswersWant before want sent after → AnswersOne before want (after_sent sent last) after
 one_of before after want (Ok done) true is answered = (
   is,
   record {
@@ -184,48 +184,48 @@ pub refusal_answered : {T E : Type 0} (before : Progress) (written : Option (Lis
     (sent : Result T E) → keeper_faults (Words refusal ∷ []) ≡ 0
     → AskStep before.office want.asked [] (Words refusal) before.office
     → IsSent before.written written (response_text want (Words refusal)) sent
-    → Answered before want sent (written_so before written)
+    → AnswersWant before want sent (written_so before written)
 refusal_answered before written want refusal sent none step writes =
     let R : ℕ → Type 0 = λ n. RoseBy n before.faults before.faults in
     record {
       moments = [];
-      gives = Gives-none before.given;
+      gives = ClockGives-none before.given;
       reply = Words refusal;
       step = step;
       writes = writes;
       refuses = subst R (sym none) (RoseBy-none before.faults before.faults refl);
     }
 
-refused_whole : (before : Progress) (written : Option (List ℕ)) (fault : HeadFault)
-    → Grows before.written written (response_bytes true (Words (refusal_of fault)))
-    → Answered {T = Unit {0}} {E = Unit {0}} before (refused fault) (Ok (tt {0})) (written_so before written)
-refused_whole before written fault grown =
-    refusal_answered {T = Unit {0}} {E = Unit {0}} before written (refused fault) (refusal_of fault) (Ok (tt {0}))
-    (head_tells_no_fault fault) (refl, refl, refl) grown
+refused_whole : (before : Progress) (written : Option (List ℕ)) (fault : Refusal)
+    → keeper_faults (Words fault ∷ []) ≡ 0 → Grows before.written written (response_bytes true (Words fault))
+    → AnswersWant {T = Unit {0}} {E = Unit {0}} before (refusal_want fault) (Ok (tt {0})) (written_so before written)
+refused_whole before written fault none grown =
+    refusal_answered {T = Unit {0}} {E = Unit {0}} before written (refusal_want fault) fault (Ok (tt {0}))
+    none (refl, refl, refl) grown
 
-refused_front : (before : Progress) (written : Option (List ℕ)) (fault : HeadFault)
-    → WritesFront before.written written (response_bytes true (Words (refusal_of fault)))
-    → Answered {T = Unit {0}} {E = Unit {0}} before (refused fault) (Err (tt {0})) (written_so before written)
-refused_front before written fault front =
-    refusal_answered {T = Unit {0}} {E = Unit {0}} before written (refused fault) (refusal_of fault) (Err (tt {0}))
-    (head_tells_no_fault fault) (refl, refl, refl) front
+refused_front : (before : Progress) (written : Option (List ℕ)) (fault : Refusal)
+    → keeper_faults (Words fault ∷ []) ≡ 0 → WritesFront before.written written (response_bytes true (Words fault))
+    → AnswersWant {T = Unit {0}} {E = Unit {0}} before (refusal_want fault) (Err (tt {0})) (written_so before written)
+refused_front before written fault none front =
+    refusal_answered {T = Unit {0}} {E = Unit {0}} before written (refusal_want fault) fault (Err (tt {0}))
+    none (refl, refl, refl) front
 
-head_cut : (before : Progress) (written : Option (List ℕ)) (bytes : List ℕ) (fault : HeadFault)
-    → IsRead bytes (WishRead.Bad fault)
-    → WritesFront before.written written (response_bytes true (Words (refusal_of fault)))
+head_cut : (before : Progress) (written : Option (List ℕ)) (bytes : List ℕ) (fault : Refusal)
+    → IsRead bytes (HeadRead.Bad fault)
+    → WritesFront before.written written (response_bytes true (Words fault))
     → AnswersSome before bytes (written_so before written)
 head_cut before written bytes fault read front = (
   [],
   bytes,
-  refused fault ∷ [],
+  refusal_want fault ∷ [],
   refl,
   open_none,
   inr (fault, read, refl),
-  stopped_one before (written_so before written) (refused fault) (tt {0}) (refused_front before written fault front),
+  stopped_one before (written_so before written) (refusal_want fault) (tt {0}) (refused_front before written fault (head_tells_no_fault bytes fault read) front),
 )
 
-pub head_stops : (ended : Ended) (before : Progress) (written : Option (List ℕ)) (bytes : List ℕ) (fault : HeadFault)
-    → IsRead bytes (WishRead.Bad fault) → AnswersHead before.written written (refusal_of fault) ended
+pub head_stops : (ended : Ended) (before : Progress) (written : Option (List ℕ)) (bytes : List ℕ) (fault : Refusal)
+    → IsRead bytes (HeadRead.Bad fault) → AnswersHead before.written written fault ended
     → Stops ended before bytes (written_so before written)
 head_stops Ended.Closed before written bytes fault read answered = absurd answered
 head_stops Ended.ReadFault before written bytes fault read answered = absurd answered
@@ -237,144 +237,144 @@ head_stops Ended.BadHead before written bytes fault read answered = (
   refl,
   open_none,
   read,
-  ran_one before (written_so before written) (refused fault) (tt {0}) (refused_whole before written fault answered),
+  ran_one before (written_so before written) (refusal_want fault) (tt {0}) (refused_whole before written fault (head_tells_no_fault bytes fault read) answered),
 )
 head_stops Ended.InputLimit before written bytes fault read answered = absurd answered
 head_stops Ended.NoMemory before written bytes fault read answered = head_cut before written bytes fault read answered
 
 -- ---- the walk
 
--- so many bytes of the block were used up, and what stands behind them says this
-pub record Walking (before : Progress) (block : List ℕ) (used : ℕ) (wish : WishRead) (now : Progress) : Type 0 where
+-- so many bytes of the block were used up, and what stands after them says this
+pub record WalkState (before : Progress) (block : List ℕ) (used : ℕ) (found : HeadRead) (now : Progress) : Type 0 where
   pub within : used ≤ length block
   pub answered : AnswersTo before block (drop used block) now
-  pub read : IsWishRead (drop used block) wish
+  pub read : IsHeadRead (drop used block) found
 
-pub walk_begins : (at : Progress) (block : List ℕ) (wish : WishRead) → IsWishRead block wish → Walking at block 0 wish at
-walk_begins at block wish read = record { within = omega arith; answered = to_nothing at block; read = read }
+pub walk_begins : (at : Progress) (block : List ℕ) (found : HeadRead) → IsHeadRead block found → WalkState at block 0 found at
+walk_begins at block found read = record { within = omega arith; answered = to_nothing at block; read = read }
 
 -- the request there is whole
-pub is_there : (before now : Progress) (block : List ℕ) (used : ℕ) (wish : WishRead) (ask : Ask) → Walking before block used wish now
-    → wish ≡ WishRead.Asks ask → nat_le (size_of ask) (length (drop used block)) ≡ true
-    → IsRead (drop used block) (WishRead.Asks ask)
-is_there before now block used wish ask walking is fits =
-    let W : WishRead → Type 0 = λ w. IsWishRead (drop used block) w in
-    read_of (drop used block) ask (subst W is walking.read) fits
+pub is_there : (before now : Progress) (block : List ℕ) (used : ℕ) (found : HeadRead) (head : Head) → WalkState before block used found now
+    → found ≡ HeadRead.Whole head → nat_le (size_of head) (length (drop used block)) ≡ true
+    → IsRead (drop used block) (HeadRead.Whole head)
+is_there before now block used found head walking is fits =
+    let W : HeadRead → Type 0 = λ w. IsHeadRead (drop used block) w in
+    read_of (drop used block) head (subst W is walking.read) fits
 
 -- how far it reaches
-pub reaches : (block : List ℕ) (used : ℕ) (ask : Ask) → used ≤ length block → IsRead (drop used block) (WishRead.Asks ask)
-    → used + (ask.head + ask.body) ≤ length block
-reaches block used ask within read =
-    let fits : size_of ask ≤ length (drop used block) = (whole_of (drop used block) ask read).fits in
+pub reaches : (block : List ℕ) (used : ℕ) (head : Head) → used ≤ length block → IsRead (drop used block) (HeadRead.Whole head)
+    → used + (head.size + head.body) ≤ length block
+reaches block used head within read =
+    let fits : size_of head ≤ length (drop used block) = (whole_of (drop used block) head read).fits in
     omega (arith, within, fits, length-drop used block)
 
-pub walks_on : (before mid now : Progress) (block : List ℕ) (used then : ℕ) (wish next : WishRead) (ask : Ask)
-    (done : Unit {0}) → Walking before block used wish mid → IsRead (drop used block) (WishRead.Asks ask)
-    → then ≡ used + (ask.head + ask.body)
-    → AnswersOne mid (want_of (drop used block) ask) (Ok done) now → IsWishRead (drop then block) next
-    → Walking before block then next now
-walks_on before mid now block used then wish next ask done walking read is answered following =
+pub walks_on : (before mid now : Progress) (block : List ℕ) (used then : ℕ) (found next : HeadRead) (head : Head)
+    (done : Unit {0}) → WalkState before block used found mid → IsRead (drop used block) (HeadRead.Whole head)
+    → then ≡ used + (head.size + head.body)
+    → AnswersOne mid (want_of (drop used block) head) (Ok done) now → IsHeadRead (drop then block) next
+    → WalkState before block then next now
+walks_on before mid now block used then found next head done walking read is answered following =
     let rest = drop used block in
-    let same : behind rest ask ≡ drop then block = drop-drop (size_of ask) used block ∙ ap (λ n. drop n block) (sym is) in
+    let same : after_request rest head ≡ drop then block = drop-drop (size_of head) used block ∙ ap (λ n. drop n block) (sym is) in
     let A : List ℕ → Type 0 = λ end. AnswersTo before block end now in
     record {
-      within = let far = reaches block used ask walking.within read in omega (arith, is, far);
+      within = let far = reaches block used head walking.within read in omega (arith, is, far);
       answered = subst A same
-          (to_join before mid now block rest (behind rest ask) walking.answered
-          (one_goes mid now rest ask done read answered));
+          (to_join before mid now block rest (after_request rest head) walking.answered
+          (one_goes mid now rest head done read answered));
       read = following;
     }
 
-pub walk_stops : (ended : Ended) (before mid now : Progress) (block : List ℕ) (used : ℕ) (wish : WishRead) (ask : Ask)
-    → Walking before block used wish mid → IsRead (drop used block) (WishRead.Asks ask)
-    → AnswersOne mid (want_of (drop used block) ask) (Err ended) now → Stops ended before block now
-walk_stops ended before mid now block used wish ask walking read answered =
+pub walk_stops : (ended : Ended) (before mid now : Progress) (block : List ℕ) (used : ℕ) (found : HeadRead) (head : Head)
+    → WalkState before block used found mid → IsRead (drop used block) (HeadRead.Whole head)
+    → AnswersOne mid (want_of (drop used block) head) (Err ended) now → Stops ended before block now
+walk_stops ended before mid now block used found head walking read answered =
     stops_join ended before mid now block (drop used block) walking.answered
-    (one_stops ended mid now (drop used block) ask read answered)
+    (one_stops ended mid now (drop used block) head read answered)
 
 pub walk_refuses : (ended : Ended) (before mid : Progress) (written : Option (List ℕ)) (block : List ℕ) (used : ℕ)
-    (wish : WishRead) (fault : HeadFault) → Walking before block used wish mid → wish ≡ WishRead.Bad fault
-    → AnswersHead mid.written written (refusal_of fault) ended → Stops ended before block (written_so mid written)
-walk_refuses ended before mid written block used wish fault walking is answered =
-    let W : WishRead → Type 0 = λ w. IsWishRead (drop used block) w in
+    (found : HeadRead) (fault : Refusal) → WalkState before block used found mid → found ≡ HeadRead.Bad fault
+    → AnswersHead mid.written written fault ended → Stops ended before block (written_so mid written)
+walk_refuses ended before mid written block used found fault walking is answered =
+    let W : HeadRead → Type 0 = λ w. IsHeadRead (drop used block) w in
     stops_join ended before mid (written_so mid written) block (drop used block) walking.answered
     (head_stops ended mid written (drop used block) fault
     (bad_of (drop used block) fault (subst W is walking.read)) answered)
 
 -- no head is whole
-pub walk_needs : (before now : Progress) (block : List ℕ) (used : ℕ) (wish : WishRead) (walked : Walked)
-    → Walking before block used wish now → wish ≡ WishRead.More → walked ≡ record { used = used; awaited = None }
+pub walk_needs : (before now : Progress) (block : List ℕ) (used : ℕ) (found : HeadRead) (walked : WalkEnd)
+    → WalkState before block used found now → found ≡ HeadRead.More → walked ≡ record { used = used; awaited = None }
     → Walks before block (Ok walked) now
-walk_needs before now block used wish walked walking is same =
-    let W : WishRead → Type 0 = λ w. IsWishRead (drop used block) w in
-    let V : Walked → Type 0 = λ w. Walks before block (Ok w) now in
+walk_needs before now block used found walked walking is same =
+    let W : HeadRead → Type 0 = λ w. IsHeadRead (drop used block) w in
+    let V : WalkEnd → Type 0 = λ w. Walks before block (Ok w) now in
     subst V (sym same)
     (walking.within, walking.answered, more_of (drop used block) (subst W is walking.read), tt)
 
 -- a body isn't whole
-pub walk_waits : (before now : Progress) (block : List ℕ) (used : ℕ) (wish : WishRead) (ask : Ask) (walked : Walked)
-    → Walking before block used wish now → wish ≡ WishRead.Asks ask
-    → nat_le (size_of ask) (length (drop used block)) ≡ false → walked ≡ record { used = used; awaited = Some ask }
+pub walk_waits : (before now : Progress) (block : List ℕ) (used : ℕ) (found : HeadRead) (head : Head) (walked : WalkEnd)
+    → WalkState before block used found now → found ≡ HeadRead.Whole head
+    → nat_le (size_of head) (length (drop used block)) ≡ false → walked ≡ record { used = used; awaited = Some head }
     → Walks before block (Ok walked) now
-walk_waits before now block used wish ask walked walking is less same =
-    let W : WishRead → Type 0 = λ w. IsWishRead (drop used block) w in
-    let V : Walked → Type 0 = λ w. Walks before block (Ok w) now in
-    let read : IsWishRead (drop used block) (WishRead.Asks ask) = subst W is walking.read in
-    subst V (sym same) (walking.within, walking.answered, waits_of (drop used block) ask read less, read)
+walk_waits before now block used found head walked walking is less same =
+    let W : HeadRead → Type 0 = λ w. IsHeadRead (drop used block) w in
+    let V : WalkEnd → Type 0 = λ w. Walks before block (Ok w) now in
+    let read : IsHeadRead (drop used block) (HeadRead.Whole head) = subst W is walking.read in
+    subst V (sym same) (walking.within, walking.answered, waits_of (drop used block) head read less, read)
 
 -- ---- the same, where the rest of the block is at hand
 
-abbrev there : Ask → List ℕ → Bool
-there ask rest = nat_le (size_of ask) (length rest)
+abbrev there : Head → List ℕ → Bool
+there head rest = nat_le (size_of head) (length rest)
 
-pub is_there_at : (before now : Progress) (block : List ℕ) (used : ℕ) (wish : WishRead) (ask : Ask) (rest : List ℕ)
-    → rest ≡ drop used block → Walking before block used wish now → wish ≡ WishRead.Asks ask
-    → nat_le (size_of ask) (length rest) ≡ true → IsRead rest (WishRead.Asks ask)
-is_there_at before now block used wish ask rest same walking is fits =
-    let R : List ℕ → Type 0 = λ l. IsRead l (WishRead.Asks ask) in
-    subst R (sym same) (is_there before now block used wish ask walking is (ap (there ask) (sym same) ∙ fits))
+pub is_there_at : (before now : Progress) (block : List ℕ) (used : ℕ) (found : HeadRead) (head : Head) (rest : List ℕ)
+    → rest ≡ drop used block → WalkState before block used found now → found ≡ HeadRead.Whole head
+    → nat_le (size_of head) (length rest) ≡ true → IsRead rest (HeadRead.Whole head)
+is_there_at before now block used found head rest same walking is fits =
+    let R : List ℕ → Type 0 = λ l. IsRead l (HeadRead.Whole head) in
+    subst R (sym same) (is_there before now block used found head walking is (ap (there head) (sym same) ∙ fits))
 
-pub walks_on_at : (before mid now : Progress) (block : List ℕ) (used then : ℕ) (wish next : WishRead) (ask : Ask)
-    (done : Unit {0}) (rest : List ℕ) → rest ≡ drop used block → Walking before block used wish mid
-    → wish ≡ WishRead.Asks ask → nat_le (size_of ask) (length rest) ≡ true → then ≡ used + (ask.head + ask.body)
-    → AnswersOne mid (want_of rest ask) (Ok done) now → IsWishRead (drop then block) next
-    → Walking before block then next now
-walks_on_at before mid now block used then wish next ask done rest same walking is fits far answered following =
-    let A : List ℕ → Type 0 = λ l. AnswersOne mid (want_of l ask) (Ok done) now in
-    walks_on before mid now block used then wish next ask done walking
-    (is_there before mid block used wish ask walking is (ap (there ask) (sym same) ∙ fits)) far (subst A same answered)
+pub walks_on_at : (before mid now : Progress) (block : List ℕ) (used then : ℕ) (found next : HeadRead) (head : Head)
+    (done : Unit {0}) (rest : List ℕ) → rest ≡ drop used block → WalkState before block used found mid
+    → found ≡ HeadRead.Whole head → nat_le (size_of head) (length rest) ≡ true → then ≡ used + (head.size + head.body)
+    → AnswersOne mid (want_of rest head) (Ok done) now → IsHeadRead (drop then block) next
+    → WalkState before block then next now
+walks_on_at before mid now block used then found next head done rest same walking is fits far answered following =
+    let A : List ℕ → Type 0 = λ l. AnswersOne mid (want_of l head) (Ok done) now in
+    walks_on before mid now block used then found next head done walking
+    (is_there before mid block used found head walking is (ap (there head) (sym same) ∙ fits)) far (subst A same answered)
     following
 
-walks_err : (ended : Ended) (before now : Progress) (block : List ℕ) (result : Result Walked Ended)
+walks_err : (ended : Ended) (before now : Progress) (block : List ℕ) (result : Result WalkEnd Ended)
     → IsErrAnd result (λ e. e ≡ ended) → Stops ended before block now → Walks before block result now
 walks_err ended before now block (Ok walked) is stops = absurd is
 walks_err ended before now block (Err e) is stops =
     let S : Ended → Type 0 = λ e. Stops e before block now in subst S (sym is) stops
 
-pub walk_stops_at : (ended : Ended) (before mid now : Progress) (block : List ℕ) (used : ℕ) (wish : WishRead) (ask : Ask)
-    (rest : List ℕ) (result : Result Walked Ended) → IsErrAnd result (λ e. e ≡ ended) → rest ≡ drop used block
-    → Walking before block used wish mid → wish ≡ WishRead.Asks ask → nat_le (size_of ask) (length rest) ≡ true
-    → AnswersOne mid (want_of rest ask) (Err ended) now → Walks before block result now
-walk_stops_at ended before mid now block used wish ask rest result err same walking is fits answered =
-    let A : List ℕ → Type 0 = λ l. AnswersOne mid (want_of l ask) (Err ended) now in
+pub walk_stops_at : (ended : Ended) (before mid now : Progress) (block : List ℕ) (used : ℕ) (found : HeadRead) (head : Head)
+    (rest : List ℕ) (result : Result WalkEnd Ended) → IsErrAnd result (λ e. e ≡ ended) → rest ≡ drop used block
+    → WalkState before block used found mid → found ≡ HeadRead.Whole head → nat_le (size_of head) (length rest) ≡ true
+    → AnswersOne mid (want_of rest head) (Err ended) now → Walks before block result now
+walk_stops_at ended before mid now block used found head rest result err same walking is fits answered =
+    let A : List ℕ → Type 0 = λ l. AnswersOne mid (want_of l head) (Err ended) now in
     walks_err ended before now block result err
-    (walk_stops ended before mid now block used wish ask walking
-    (is_there before mid block used wish ask walking is (ap (there ask) (sym same) ∙ fits)) (subst A same answered))
+    (walk_stops ended before mid now block used found head walking
+    (is_there before mid block used found head walking is (ap (there head) (sym same) ∙ fits)) (subst A same answered))
 
-pub walk_waits_at : (before now : Progress) (block : List ℕ) (used : ℕ) (wish : WishRead) (ask : Ask) (rest : List ℕ)
-    (walked : Walked) → rest ≡ drop used block → Walking before block used wish now → wish ≡ WishRead.Asks ask
-    → nat_le (size_of ask) (length rest) ≡ false → walked ≡ record { used = used; awaited = Some ask }
+pub walk_waits_at : (before now : Progress) (block : List ℕ) (used : ℕ) (found : HeadRead) (head : Head) (rest : List ℕ)
+    (walked : WalkEnd) → rest ≡ drop used block → WalkState before block used found now → found ≡ HeadRead.Whole head
+    → nat_le (size_of head) (length rest) ≡ false → walked ≡ record { used = used; awaited = Some head }
     → Walks before block (Ok walked) now
-walk_waits_at before now block used wish ask rest walked same walking is less made =
-    walk_waits before now block used wish ask walked walking is (ap (there ask) (sym same) ∙ less) made
+walk_waits_at before now block used found head rest walked same walking is less made =
+    walk_waits before now block used found head walked walking is (ap (there head) (sym same) ∙ less) made
 
 -- the measure of the walk
-pub shrinks : (before now : Progress) (block : List ℕ) (used : ℕ) (wish : WishRead) (ask : Ask) (rest : List ℕ)
-    → rest ≡ drop used block → Walking before block used wish now → wish ≡ WishRead.Asks ask
-    → nat_le (size_of ask) (length rest) ≡ true
-    → length block - (used + (ask.head + ask.body)) < length block - used
-shrinks before now block used wish ask rest same walking is fits =
-    let read = is_there before now block used wish ask walking is (ap (there ask) (sym same) ∙ fits) in
-    let some : 1 ≤ ask.head = ask_some (drop used block) ask (whole_of (drop used block) ask read).wish in
-    let within : used + (ask.head + ask.body) ≤ length block = reaches block used ask walking.within read in
+pub shrinks : (before now : Progress) (block : List ℕ) (used : ℕ) (found : HeadRead) (head : Head) (rest : List ℕ)
+    → rest ≡ drop used block → WalkState before block used found now → found ≡ HeadRead.Whole head
+    → nat_le (size_of head) (length rest) ≡ true
+    → length block - (used + (head.size + head.body)) < length block - used
+shrinks before now block used found head rest same walking is fits =
+    let read = is_there before now block used found head walking is (ap (there head) (sym same) ∙ fits) in
+    let some : 1 ≤ head.size = head_some (drop used block) head (whole_of (drop used block) head read).read in
+    let within : used + (head.size + head.body) ≤ length block = reaches block used head walking.within read in
     omega (arith, some, within)

@@ -3,4 +3,4 @@ pub mod Responses
 pub mod Faults
 pub mod Moments
 pub mod Serving
-pub mod Window
+pub mod ReadBuffers

@@ -3,7 +3,6 @@ use Rattle.std.specs.Prelude.{ℕ, Bool, List, [], ◌∷◌, ◌++◌, length, 
 use Rattle.http_heads.specs.Responses.{response_head}
 use Rattle.http_heads.specs.declared.responses.Content.{Content}
 use Rattle.http_heads.specs.declared.responses.Response.{Response}
-use Rattle.http_heads.specs.declared.routes.Allowed.{Allowed as KnownMethods}
 use Rattle.register_words.specs.Refusals.{reply_status_code, reply_words}
 use Rattle.register_words.specs.declared.reply.Allowed.{Allowed}
 use Rattle.register_words.specs.declared.reply.Kind.{Kind}
@@ -24,15 +23,9 @@ abbrev pub content_in : Reply → Content
 content_in (replies.Text code kind text) = content_of kind
 content_in (replies.Words refusal) = Content.Plain
 
--- The methods that a header tells.
-abbrev pub methods_of : Allowed → KnownMethods
-methods_of Allowed.Put = KnownMethods.Put
-methods_of Allowed.Get = KnownMethods.Get
-methods_of Allowed.GetPut = KnownMethods.GetPut
-
 -- Where the request's method is none of its route, the methods of the route.
-abbrev pub methods_in : Refusal → Option KnownMethods
-methods_in (refusals.Method allowed) = Some (methods_of allowed)
+abbrev pub methods_in : Refusal → Option Allowed
+methods_in (refusals.Method allowed) = Some allowed
 methods_in refusals.TooLong = None
 methods_in refusals.NoRoute = None
 methods_in refusals.Path = None
@@ -53,17 +46,17 @@ methods_in refusals.HeadTooLong = None
 methods_in refusals.LengthRequired = None
 
 -- The same of a reply.
-abbrev pub methods_told : Reply → Option KnownMethods
-methods_told (replies.Text code kind text) = None
-methods_told (replies.Words refusal) = methods_in refusal
+abbrev pub methods_of : Reply → Option Allowed
+methods_of (replies.Text code kind text) = None
+methods_of (replies.Words refusal) = methods_in refusal
 
--- What the head of the response to a reply says. It tells whether the connection is closed behind it.
+-- What the head of the response to a reply says. It tells whether the connection is closed after it.
 abbrev pub response_to : Bool → Reply → Response
 response_to last reply = record {
   code = reply_status_code reply;
   content = content_in reply;
   size = length (reply_words reply);
-  allow = methods_told reply;
+  allow = methods_of reply;
   closes = last;
 }
 

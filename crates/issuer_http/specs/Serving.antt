@@ -1,10 +1,9 @@
 -- What serving a connection does, and how it ends.
 use Rattle.std.specs.Prelude.{◌≡◌, ◌⊎◌, ◌<◌, ◌≤◌, ℕ, ℤ, Bool, true, false, List, [], ◌∷◌, ◌++◌, length, map, take, drop, All, Contains, if◌then◌else◌, Option, Some, None, Result, Ok, Err, MatchResult}
+use Rattle.http_heads.specs.Heads.{IsHeadRead}
 use Rattle.http_heads.specs.Requests.{IsRead}
-use Rattle.http_heads.specs.Wishes.{IsWishRead}
-use Rattle.http_heads.specs.declared.head.HeadFault.{HeadFault}
-use Rattle.http_heads.specs.declared.wishes.Ask.{Ask}
-use Rattle.http_heads.specs.declared.wishes.WishRead.{WishRead}
+use Rattle.http_heads.specs.declared.head.Head.{Head}
+use Rattle.http_heads.specs.declared.head.HeadRead.{HeadRead}
 use Rattle.lei_outside.specs.Count.{Rose}
 use Rattle.lei_outside.specs.Told.{Grows, IsAtEnd, Loses, WritesFront}
 use Rattle.lei_outside.specs.declared.faults.SinkFault.{SinkFault}
@@ -16,11 +15,11 @@ use Rattle.register_words.specs.declared.reply.Reply.{Reply}
 use Rattle.register_words.specs.declared.reply.Reply.TheVariants.{Words}
 use Rattle.register_words.specs.declared.request.Asked.{Asked}
 use Rattle.issuer_http.specs.Faults.{RoseBy, keeper_faults}
-use Rattle.issuer_http.specs.Moments.{Gives}
-use Rattle.issuer_http.specs.Requests.{AreNext, Want, Wants, refused, want_of}
+use Rattle.issuer_http.specs.Moments.{ClockGives}
+use Rattle.issuer_http.specs.Requests.{AreNext, Want, Wants, refusal_want, want_of}
 use Rattle.issuer_http.specs.Responses.{IsSent, response_bytes, response_text, response_texts}
 use Rattle.issuer_http.specs.declared.ended.Ended.{Ended}
-use Rattle.issuer_http.specs.declared.walking.Walked.{Walked}
+use Rattle.issuer_http.specs.declared.walking.WalkEnd.{WalkEnd}
 
 -- A connection is served until 1,073,741,824 bytes (1 GiB) were taken. This project's profile.
 abbrev pub input_limit : ℕ
@@ -60,9 +59,9 @@ progress office faults given written = record {
 -- What was wanted got its reply, by one step from one office to the other, at a moment of the clock or at none. The response
 -- was written, or where that failed a front of it, and not all. A reply is KEEPER_FAULT only where a call of the keeper
 -- failed.
-pub record Answered {T E : Type 0} (before : Progress) (want : Want) (sent : Result T E) (after : Progress) : Type 0 where
+pub record AnswersWant {T E : Type 0} (before : Progress) (want : Want) (sent : Result T E) (after : Progress) : Type 0 where
   pub moments : List ℤ
-  pub gives : Gives before.given after.given moments
+  pub gives : ClockGives before.given after.given moments
   pub reply : Reply
   pub step : AskStep before.office want.asked moments reply after.office
   pub writes : IsSent before.written after.written (response_text want reply) sent
@@ -71,9 +70,9 @@ pub record Answered {T E : Type 0} (before : Progress) (want : Want) (sent : Res
 -- From the start on this was wanted and got its replies, in order, at moments of the clock, from one office to the other.
 -- What was written are the responses, in order. No more replies are KEEPER_FAULT than calls of the keeper have failed. Where
 -- none failed and memory was never wanting, the replies are those that the requests and the moments determine.
-pub record Ran (start : Progress) (wants : List Want) (now : Progress) : Type 0 where
+pub record AnswersWants (start : Progress) (wants : List Want) (now : Progress) : Type 0 where
   pub moments : List ℤ
-  pub gives : Gives start.given now.given moments
+  pub gives : ClockGives start.given now.given moments
   pub replies : List Reply
   pub session : Session start.office (asks_of wants) moments replies now.office
   pub writes : Grows start.written now.written (response_texts wants replies)
@@ -82,9 +81,9 @@ pub record Ran (start : Progress) (wants : List Want) (now : Progress) : Type 0 
       → replies ≡ replies_to start.office (asks_of wants) moments
 
 -- The same, but of the responses to the last of it perhaps a front alone was written.
-pub record Stopped (start : Progress) (wants last : List Want) (now : Progress) : Type 0 where
+pub record AnswersWantsInPart (start : Progress) (wants last : List Want) (now : Progress) : Type 0 where
   pub moments : List ℤ
-  pub gives : Gives start.given now.given moments
+  pub gives : ClockGives start.given now.given moments
   pub replies : List Reply
   pub last_replies : List Reply
   pub session : Session start.office (asks_of (wants ++ last)) moments (replies ++ last_replies) now.office
@@ -98,11 +97,11 @@ pub record Stopped (start : Progress) (wants last : List Want) (now : Progress) 
 -- The whole requests in front of the bytes were answered up to this rest, and none of them asks to close.
 abbrev pub AnswersTo : Progress → List ℕ → List ℕ → Progress → Type 0
 AnswersTo before bytes rest after =
-    (wants : List Want) × Wants bytes wants rest × StayOpen wants × Ran before wants after
+    (wants : List Want) × Wants bytes wants rest × StayOpen wants × AnswersWants before wants after
 
 -- There are no bytes, or they begin a request that isn't whole yet.
 abbrev pub NeedsMore : List ℕ → Type 0
-NeedsMore bytes = (bytes ≡ []) ⊎ IsRead bytes WishRead.More
+NeedsMore bytes = (bytes ≡ []) ⊎ IsRead bytes HeadRead.More
 
 -- All whole requests of the bytes were answered, and none of them asks to close.
 abbrev pub AnswersAll : Progress → List ℕ → Progress → Type 0
@@ -111,21 +110,21 @@ AnswersAll before bytes after = (rest : List ℕ) × AnswersTo before bytes rest
 -- The whole requests of the bytes were answered up to the first that asks to close, and with it.
 abbrev pub AnswersToLast : Progress → List ℕ → Progress → Type 0
 AnswersToLast before bytes after =
-    (wants : List Want) × (rest : List ℕ) × (ask : Ask) × Wants bytes wants rest × StayOpen wants
-    × IsRead rest (WishRead.Asks ask) × (ask.last ≡ true) × Ran before (wants ++ want_of rest ask ∷ []) after
+    (wants : List Want) × (rest : List ℕ) × (head : Head) × Wants bytes wants rest × StayOpen wants
+    × IsRead rest (HeadRead.Whole head) × (head.last ≡ true) × AnswersWants before (wants ++ want_of rest head ∷ []) after
 
--- All whole requests of the bytes were answered, none of which asks to close, and then that the head behind them is refused.
+-- All whole requests of the bytes were answered, none of which asks to close, and then that the head after them is refused.
 abbrev pub AnswersToBadHead : Progress → List ℕ → Progress → Type 0
 AnswersToBadHead before bytes after =
-    (wants : List Want) × (rest : List ℕ) × (fault : HeadFault) × Wants bytes wants rest × StayOpen wants
-    × IsRead rest (WishRead.Bad fault) × Ran before (wants ++ refused fault ∷ []) after
+    (wants : List Want) × (rest : List ℕ) × (fault : Refusal) × Wants bytes wants rest × StayOpen wants
+    × IsRead rest (HeadRead.Bad fault) × AnswersWants before (wants ++ refusal_want fault ∷ []) after
 
 -- Some whole requests in front of the bytes were answered, none but perhaps the last of which asks to close, or all of
--- them and that the head behind them is refused. Of the last response perhaps a front alone was written.
+-- them and that the head after them is refused. Of the last response perhaps a front alone was written.
 abbrev pub AnswersSome : Progress → List ℕ → Progress → Type 0
 AnswersSome before bytes after =
     (wants : List Want) × (rest : List ℕ) × (last : List Want) × Wants bytes wants rest × StayOpen wants
-    × AreNext rest last × Stopped before wants last after
+    × AreNext rest last × AnswersWantsInPart before wants last after
 
 -- The bytes were as many as end a connection, and of those before the last read all whole requests were answered.
 abbrev pub AnswersToLimit : Progress → List ℕ → Progress → Type 0
@@ -151,7 +150,7 @@ pub record Serves (before : Progress) (left : Option (List ℕ)) (after : Progre
   pub ends : EndsWith ended before bytes left_now after
 
 -- What comes of a link that has these bytes left, where neither of its sides fails and memory is never wanting: they were
--- all taken, and all whole requests answered, or those up to the first that asks to close, or all and that the head behind
+-- all taken, and all whole requests answered, or those up to the first that asks to close, or all and that the head after
 -- them is refused; or they are as many as end a connection.
 abbrev pub Completes : Ended → Progress → List ℕ → Progress → Type 0
 Completes ended before bytes after =
@@ -162,9 +161,9 @@ Completes ended before bytes after =
 -- ---- inside
 
 -- Where the head of the request at the front of the bytes was read, it says this.
-abbrev pub IsAwaited : List ℕ → Option Ask → Type 0
+abbrev pub IsAwaited : List ℕ → Option Head → Type 0
 IsAwaited bytes None = Unit {0}
-IsAwaited bytes (Some ask) = IsWishRead bytes (WishRead.Asks ask)
+IsAwaited bytes (Some head) = IsHeadRead bytes (HeadRead.Whole head)
 
 -- What was answered ended the connection, and why.
 abbrev pub Stops : Ended → Progress → List ℕ → Progress → Type 0
@@ -175,26 +174,26 @@ Stops Ended.BadHead before bytes after = AnswersToBadHead before bytes after
 Stops Ended.InputLimit before bytes after = ⊥
 Stops Ended.NoMemory before bytes after = AnswersSome before bytes after
 
--- All whole requests in front of the bytes were answered, and what is behind them waits for more; or the connection ended.
-abbrev pub Walks : Progress → List ℕ → Result Walked Ended → Progress → Type 0
+-- All whole requests in front of the bytes were answered, and what is after them waits for more; or the connection ended.
+abbrev pub Walks : Progress → List ℕ → Result WalkEnd Ended → Progress → Type 0
 Walks before bytes result after = MatchResult result
     (λ walked. (walked.used ≤ length bytes) × AnswersTo before bytes (drop walked.used bytes) after
-    × IsRead (drop walked.used bytes) WishRead.More × IsAwaited (drop walked.used bytes) walked.awaited)
+    × IsRead (drop walked.used bytes) HeadRead.More × IsAwaited (drop walked.used bytes) walked.awaited)
     (λ ended. Stops ended before bytes after)
 
 -- What was wanted was answered, and the connection goes on or ends.
 abbrev pub AnswersOne : Progress → Want → Result (Unit {0}) Ended → Progress → Type 0
 AnswersOne before want (Ok done) after =
-    (want.last ≡ false) × Answered {T = Unit {0}} {E = Unit {0}} before want (Ok (tt {0})) after
+    (want.last ≡ false) × AnswersWant {T = Unit {0}} {E = Unit {0}} before want (Ok (tt {0})) after
 AnswersOne before want (Err Ended.Closed) after =
-    (want.last ≡ true) × Answered {T = Unit {0}} {E = Unit {0}} before want (Ok (tt {0})) after
+    (want.last ≡ true) × AnswersWant {T = Unit {0}} {E = Unit {0}} before want (Ok (tt {0})) after
 AnswersOne before want (Err Ended.ReadFault) after = ⊥
 AnswersOne before want (Err Ended.WriteFault) after =
-    Answered {T = Unit {0}} {E = Unit {0}} before want (Err (tt {0})) after
+    AnswersWant {T = Unit {0}} {E = Unit {0}} before want (Err (tt {0})) after
 AnswersOne before want (Err Ended.BadHead) after = ⊥
 AnswersOne before want (Err Ended.InputLimit) after = ⊥
 AnswersOne before want (Err Ended.NoMemory) after =
-    Answered {T = Unit {0}} {E = Unit {0}} before want (Err (tt {0})) after
+    AnswersWant {T = Unit {0}} {E = Unit {0}} before want (Err (tt {0})) after
 
 -- How a connection goes on when a response was sent, or wasn't.
 abbrev pub after_sent : Result (Unit {0}) SinkFault → Bool → Result (Unit {0}) Ended

@@ -3,13 +3,13 @@
 
 mod answering;
 mod ended;
+mod read_buffer;
 mod requests;
 mod responses;
 mod serving;
 mod walking;
-mod window;
 
 pub use ended::Ended;
 pub use requests::{HttpRead, next_head, next_request};
 pub use responses::{Scratch, send_response};
-pub use serving::{MAX_INPUT, serve_alone};
+pub use serving::{MAX_INPUT, serve_alone, serve_with};

@@ -3,7 +3,7 @@ ghost use Rattle.std.specs.Prelude.{◌≡◌, ◌++◌, [], length, OnOk, IsErr
 ghost use Rattle.http_heads.specs.Responses.{response_head};
 ghost use Rattle.lei_outside.specs.Count.{Rose};
 ghost use Rattle.register_words.specs.Refusals.{refusal_words};
-ghost use Rattle.issuer_http.specs.Responses.{IsSent, content_of, methods_in, methods_of, response_bytes};
+ghost use Rattle.issuer_http.specs.Responses.{IsSent, content_of, methods_in, response_bytes};
 
 use http_heads::{Content, Response, put_head};
 use lei_office::{Allowed, Kind, Refusal, Reply};
@@ -30,7 +30,7 @@ impl Scratch {
     }
 }
 
-/// Sends the response to a reply, and says in it whether the connection is closed behind it.
+/// Sends the response to a reply, and says in it whether the connection is closed after it.
 #[tactic(auto, unfolding(crate::specs::Responses::response_bytes))]
 pub fn send_response<L: Link>(
     link: &mut L,
@@ -168,21 +168,11 @@ fn content_of(kind: Kind) -> Content
     }
 }
 
-fn methods_in(refusal: Refusal) -> Option<http_heads::Allowed>
+fn methods_in(refusal: Refusal) -> Option<Allowed>
     ensures { result ≡ methods_in refusal }
 {
     match refusal {
-        Refusal::Method(allowed) => Some(methods_of(allowed)),
+        Refusal::Method(allowed) => Some(allowed),
         _ => None,
-    }
-}
-
-fn methods_of(allowed: Allowed) -> http_heads::Allowed
-    ensures { result ≡ methods_of allowed }
-{
-    match allowed {
-        Allowed::Put => http_heads::Allowed::Put,
-        Allowed::Get => http_heads::Allowed::Get,
-        Allowed::GetPut => http_heads::Allowed::GetPut,
     }
 }

@@ -47,30 +47,30 @@ pub record ServesLine {L : Type 0} (tells : LineTells L) (before : Stage) (came 
 -- ---- the lines of a door
 
 -- A line as it came and as it was given back, and how its serving ended.
-pub record Served (L : Type 0) : Type 0 where
+pub record ServedLine (L : Type 0) : Type 0 where
   pub came : L
   pub back : L
   pub ended : Ended
 
 -- These lines were served one after the other, from one stage to the other.
-abbrev pub ServesEach : {L : Type 0} → LineTells L → Stage → List (Served L) → Stage → Type 0
+abbrev pub ServesEach : {L : Type 0} → LineTells L → Stage → List (ServedLine L) → Stage → Type 0
 ServesEach tells before [] after = after ≡ before
 ServesEach tells before (line ∷ lines) after = (between : Stage)
     × ServesLine tells before line.came line.back line.ended between × ServesEach tells between lines after
 
 -- The lines to come have lost these at their front, where they are told. What is untold stays untold.
-abbrev pub Gave : {L : Type 0} → Option (List L) → Option (List L) → List L → Type 0
-Gave None None lines = Unit {0}
-Gave None (Some new) lines = ⊥
-Gave (Some old) None lines = ⊥
-Gave (Some old) (Some new) lines = old ≡ lines ++ new
+abbrev pub GivesLines : {L : Type 0} → Option (List L) → Option (List L) → List L → Type 0
+GivesLines None None lines = Unit {0}
+GivesLines None (Some new) lines = ⊥
+GivesLines (Some old) None lines = ⊥
+GivesLines (Some old) (Some new) lines = old ≡ lines ++ new
 
 -- The lines that came back have these more at their end, where they are told. What is untold stays untold.
-abbrev pub TookBack : {L : Type 0} → Option (List L) → Option (List L) → List L → Type 0
-TookBack None None lines = Unit {0}
-TookBack None (Some new) lines = ⊥
-TookBack (Some old) None lines = ⊥
-TookBack (Some old) (Some new) lines = new ≡ old ++ lines
+abbrev pub TakesLinesBack : {L : Type 0} → Option (List L) → Option (List L) → List L → Type 0
+TakesLinesBack None None lines = Unit {0}
+TakesLinesBack None (Some new) lines = ⊥
+TakesLinesBack (Some old) None lines = ⊥
+TakesLinesBack (Some old) (Some new) lines = new ≡ old ++ lines
 
 -- Where the lines to come are told, there is none.
 abbrev pub IsNoneToCome : {L : Type 0} → Option (List L) → Type 0
@@ -80,7 +80,7 @@ IsNoneToCome told = IfSome told (λ lines. lines ≡ [])
 -- order.
 pub record ServesDesk {L : Type 0} (tells : LineTells L) (before : Stage) (to_come came_back : Option (List L))
     (after : Stage) (to_come_now came_back_now : Option (List L)) : Type 0 where
-  pub lines : List (Served L)
+  pub lines : List (ServedLine L)
   pub each : ServesEach tells before lines after
-  pub gave : Gave to_come to_come_now (map (λ line. line.came) lines)
-  pub took : TookBack came_back came_back_now (map (λ line. line.back) lines)
+  pub gave : GivesLines to_come to_come_now (map (λ line. line.came) lines)
+  pub took : TakesLinesBack came_back came_back_now (map (λ line. line.back) lines)

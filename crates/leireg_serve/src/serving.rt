@@ -1,5 +1,6 @@
 //! The command that serves the register, from its words, its keeper and its desk to its status.
 ghost use Rattle.std.specs.Prelude.{◌≡◌, ◌≢◌, ◌⊎◌, [], ◌∷◌, None, false, map, string_bytes};
+ghost use Rattle.http_heads.specs.Routes.{routes};
 ghost use Rattle.lei_outside.specs.Count.{Rose};
 ghost use Rattle.leireg_run.specs.Ends.{MayTell};
 ghost use Rattle.leireg_serve.specs.Desks.{line_tells};
@@ -10,9 +11,11 @@ ghost use Rattle.leireg_serve.specs.declared.desk.Desk.{Desk};
 
 use crate::desk::{Desk, DeskEnd, serve_desk};
 use crate::words::server_of;
+use http_heads::{Place, router};
 use lei_office::{Limits, Office, OpenFault};
 use lei_outside::{Clock, Door, Gate, Keeper};
 use leireg_run::status::{KEEPER_FAULT, NO_MEMORY, OK, STORE_DAMAGED, USAGE};
+use matchit::Router;
 use program_words::WordsFault;
 use std::alloc::Global;
 use std::sync::Wait;
@@ -58,7 +61,7 @@ pub fn serve<R: Threads + Wait + Sync, K: Keeper, D: Door, C: Clock, G: Gate>(
     }
 }
 
-// Opens the register that a keeper has and serves it at a desk.
+// Makes the router, opens the register that a keeper has and serves it at a desk.
 fn serve_over<R: Threads + Wait + Sync, K: Keeper, D: Door, C: Clock>(
     rt: &R,
     alloc: Global,
@@ -77,9 +80,36 @@ fn serve_over<R: Threads + Wait + Sync, K: Keeper, D: Door, C: Clock>(
     ensures door_fault { result.0 ≡ 9 → Rose (D.faults desk.old.door) (D.faults desk.new.door) }
     ensures no_door_fault { result.0 ≢ 9 → D.faults desk.new.door ≡ D.faults desk.old.door }
 {
+    match router(alloc) {
+        Ok(router) => open_and_serve(rt, alloc, keeper, &router, desk),
+        Err(_) => (NO_MEMORY, keeper),
+    }
+}
+
+// The same with the router of all routes.
+fn open_and_serve<R: Threads + Wait + Sync, K: Keeper, D: Door, C: Clock>(
+    rt: &R,
+    alloc: Global,
+    keeper: K,
+    router: &Router<Place>,
+    desk: &mut Desk<D, C>,
+) -> (u8, K)
+    requires routes { router.now ≡ routes }
+    requires door { D.out desk.old.door ≡ false }
+    ensures ends { EndsServing (MayTell K.tables)
+        (line_tells D.Line.left D.Line.written D.Line.read_faults D.Line.write_faults)
+        (outside (K.tables keeper) (K.faults keeper) (C.given desk.old.clock) (D.to_come desk.old.door) (D.came_back desk.old.door))
+        (outside (K.tables result.1) (K.faults result.1) (C.given desk.new.clock) (D.to_come desk.new.door) (D.came_back desk.new.door))
+        result.0 }
+    ensures unserved { IsUnserved result.0 → desk.new ≡ desk.old }
+    ensures meant { result.0 ≢ 1 }
+    ensures out { D.out desk.new.door ≡ false }
+    ensures door_fault { result.0 ≡ 9 → Rose (D.faults desk.old.door) (D.faults desk.new.door) }
+    ensures no_door_fault { result.0 ≢ 9 → D.faults desk.new.door ≡ D.faults desk.old.door }
+{
     match Office::open(rt, alloc, keeper, Limits::standard()) {
         Ok(mut office) => {
-            let end = serve_desk(rt, alloc, &mut office, desk);
+            let end = serve_desk(rt, alloc, &mut office, router, desk);
             (status_of(end), office.close())
         }
         Err(OpenFault::KeeperFault(keeper)) => (KEEPER_FAULT, keeper),

@@ -1,8 +1,8 @@
 use Rattle.std.proofs.Common.{◌≡◌, drop, map}
 use Rattle.httparse.specs.Spans.{header_bytes}
-use Rattle.http_heads.specs.Headers.{told_by}
+use Rattle.http_heads.specs.Headers.{header_facts}
 use Rattle.http_heads.proofs.headers.read_headers.Given as goal
 
 -- what the headers from the index on say
 abbrev pub invariant-loop-index : goal.invariant-loop-index
-invariant-loop-index l = l.told ≡ told_by (map (header_bytes l.front) (drop l.index l.headers))
+invariant-loop-index l = l.facts ≡ header_facts (map (header_bytes l.front) (drop l.index l.headers))

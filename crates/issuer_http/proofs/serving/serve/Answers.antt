@@ -2,11 +2,11 @@ use Rattle.std.proofs.Common.{◌∙◌, ◌+◌, ◌-◌, ◌<◌, ℕ, List, O
 use Rattle.issuer_http.proofs.Ending.{awaits_more, begins, ends_at_limit, ends_closed, ends_unread, ends_walking, goes_on, unwritten}
 use Rattle.issuer_http.proofs.serving.serve.Goals as goal
 use Rattle.issuer_http.specs.Serving.{IsAwaited, Walks, input_limit, progress}
-use Rattle.issuer_http.specs.Window.{Fills}
+use Rattle.issuer_http.specs.ReadBuffers.{Fills}
 
 pub loop-count-init : goal.loop-count-init
 loop-count-init g c = record {
-  midway = begins _ (g.L.Link.left c.args.link.now) c.new-window.result c.new-window.ensures;
+  midway = begins _ (g.L.Link.left c.args.link.now) c.new-buffer.result c.new-buffer.ensures;
   read_kept = refl;
   write_kept = refl;
 }
@@ -48,7 +48,7 @@ loop-count-preserved g c =
     (g.L.Link.written c.answer_all.new.link) in
     let at = unwritten _ _ _ _ _ _ _ (g.L.Link.written read) c.loop-count.invariant.midway c.in-Ok.ensures.written in
     let F : Option (List ℕ) → Type 0 = λ l.
-    Fills (left c.loop-count.link) l c.loop-count.window c.read_from.new.self c.in-Ok.count
+    Fills (left c.loop-count.link) l c.loop-count.buffer c.read_from.new.self c.in-Ok.count
     (input_limit - c.loop-count.taken) in
     let fills = subst F (sym c.in-Ok-answer_all.ensures.left) c.in-Ok.ensures.ok in
     let below : c.loop-count.taken + c.in-Ok.count < input_limit = omega
@@ -74,7 +74,7 @@ returns-in-Err-answer_all-clause-serves g c =
     (g.L.Link.written c.answer_all.new.link) in
     let at = unwritten _ _ _ _ _ _ _ (g.L.Link.written read) c.loop-count.invariant.midway c.in-Ok.ensures.written in
     let F : Option (List ℕ) → Type 0 = λ l.
-    Fills (left c.loop-count.link) l c.loop-count.window c.read_from.new.self c.in-Ok.count
+    Fills (left c.loop-count.link) l c.loop-count.buffer c.read_from.new.self c.in-Ok.count
     (input_limit - c.loop-count.taken) in
     let fills = subst F (sym c.in-Err-answer_all.ensures.left) c.in-Ok.ensures.ok in
     let below : c.loop-count.taken + c.in-Ok.count < input_limit = omega

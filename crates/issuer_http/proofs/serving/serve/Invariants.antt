@@ -14,7 +14,7 @@ invariant-loop-count g l =
     record {
       midway : Midway (progress l.fn.office.office (keeper_faults l.fn.office.keeper) (given l.fn.clock) (written l.fn.link))
           (left l.fn.link) (left l.link) l.taken
-          (progress l.office.office (keeper_faults l.office.keeper) (given l.clock) (written l.link)) l.window l.awaited;
+          (progress l.office.office (keeper_faults l.office.keeper) (given l.clock) (written l.link)) l.buffer l.awaited;
       read_kept : read_faults l.link ≡ read_faults l.fn.link;
       write_kept : write_faults l.link ≡ write_faults l.fn.link;
     }

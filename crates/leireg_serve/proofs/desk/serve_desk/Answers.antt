@@ -3,7 +3,7 @@ use Rattle.leireg_serve.proofs.Lines.{desk_begins, desk_goes}
 use Rattle.leireg_serve.proofs.desk.serve_desk.Goals as goal
 
 pub loop-init : goal.loop-init
-loop-init g c = (tt, tt, c.requires, refl, desk_begins _ _ _ _)
+loop-init g c = (tt, tt, c.requires.door, refl, desk_begins _ _ _ _)
 
 pub loop-preserved : goal.loop-preserved
 loop-preserved g c =

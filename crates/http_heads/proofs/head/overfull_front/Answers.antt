@@ -1,7 +1,7 @@
 use Rattle.std.proofs.Common.{refl, inl, inr, ap}
 use Rattle.std.specs.Prelude.{Err}
 use Rattle.http_heads.proofs.Rooms.{roomy, crowded_here, too_many, whole}
-use Rattle.http_heads.proofs.head.crowded.Goals as goal
+use Rattle.http_heads.proofs.head.overfull_front.Goals as goal
 
 pub returns-in-Ok-Complete : goal.returns-in-Ok-Complete
 returns-in-Ok-Complete c =

@@ -1,8 +1,8 @@
--- What a read from a link does to a window.
+-- What a read from a link does to a buffer.
 use Rattle.std.specs.Prelude.{◌≡◌, ◌≤◌, ℕ, List, ◌++◌, length, Option}
 use Rattle.lei_outside.specs.Told.{Loses, IsAtEnd}
 
--- This many bytes came from the link, at most so many, and stand behind those that the window held. They are none only at
+-- This many bytes came from the link, at most so many, and stand after those that the buffer held. They are none only at
 -- the end.
 abbrev pub Fills : Option (List ℕ) → Option (List ℕ) → List ℕ → List ℕ → ℕ → ℕ → Type 0
 Fills before after held held_now count most =

@@ -1,7 +1,7 @@
 use Rattle.std.proofs.Common.{◌∙◌}
 use Rattle.leireg_serve.specs.Desks.{line_tells}
 use Rattle.leireg_serve.proofs.Opened.{ends_opened}
-use Rattle.leireg_serve.proofs.serving.serve_over.Goals as goal
+use Rattle.leireg_serve.proofs.serving.open_and_serve.Goals as goal
 
 pub returns-in-Ok-clause-ends : goal.returns-in-Ok-clause-ends
 returns-in-Ok-clause-ends g c =

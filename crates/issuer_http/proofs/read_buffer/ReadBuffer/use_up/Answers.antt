@@ -1,6 +1,6 @@
 use Rattle.std.proofs.Common.{◌-◌, ap, ◌∙◌, take, drop, length, ◌≤◌, rules}
 use Rattle.issuer_http.proofs.Filling.{used_up}
-use Rattle.issuer_http.proofs.window.Window.use_up.Goals as goal
+use Rattle.issuer_http.proofs.read_buffer.ReadBuffer.use_up.Goals as goal
 
 pub returns : goal.returns
 returns c =

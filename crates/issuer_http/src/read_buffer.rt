@@ -2,7 +2,7 @@
 ghost use Rattle.std.specs.Prelude.{◌≡◌, ◌⊎◌, ◌≤◌, ◌<◌, ◌+◌, [], length, drop, take, vec_len, IfOk, IfErr, OnOk, OnErr, IsErrOf};
 ghost use Rattle.lei_outside.specs.Count.{Rose};
 ghost use Rattle.lei_outside.specs.Told.{Loses};
-ghost use Rattle.issuer_http.specs.Window.{Fills};
+ghost use Rattle.issuer_http.specs.ReadBuffers.{Fills};
 ghost use Rattle.issuer_http.specs.declared.ended.Ended.{Ended};
 
 use crate::Ended;
@@ -15,27 +15,27 @@ const BLOCK: usize = 65_536;
 
 /// Bytes that were taken and not used up yet, in memory that grows with them. Contracts see it as their list.
 #[derive(Drop)]
-pub struct Window {
+pub struct ReadBuffer {
     buffer: Vec<u8>,
     held: usize,
 }
 
-impl Model for Window {
+impl Model for ReadBuffer {
     ghost use Rattle.std.specs.Prelude.{◌≤◌, List, ℕ, take, vec_len};
 
     ghost Value = { List ℕ };
 
-    ghost view = { λ window. take window.held window.buffer.items };
+    ghost view = { λ read. take read.held read.buffer.items };
 
-    ghost invariant = { λ window. window.held ≤ vec_len window.buffer };
+    ghost invariant = { λ read. read.held ≤ vec_len read.buffer };
 }
 
-impl Window {
+impl ReadBuffer {
     /// No bytes. It takes no memory yet.
     pub fn new(alloc: Global) -> Self
         ensures { result ≡ [] }
     {
-        Window {
+        ReadBuffer {
             buffer: Vec::new(alloc),
             held: 0,
         }
@@ -65,7 +65,7 @@ impl Window {
         if make_room(&mut self.buffer, self.held).is_err() {
             return Err(Ended::NoMemory);
         }
-        match read_behind(link, &mut self.buffer, self.held, most) {
+        match read_after(link, &mut self.buffer, self.held, most) {
             Ok(count) => {
                 self.held += count;
                 Ok(count)
@@ -87,7 +87,7 @@ impl Window {
     }
 }
 
-// Makes room for a block behind the first bytes of a buffer.
+// Makes room for a block after the first bytes of a buffer.
 fn make_room(buffer: &mut Vec<u8>, held: usize) -> Result<(), NoMemory>
     requires { held ≤ vec_len buffer.old }
     ensures room { OnOk result (held + 65536 ≤ vec_len buffer.new) }
@@ -100,8 +100,8 @@ fn make_room(buffer: &mut Vec<u8>, held: usize) -> Result<(), NoMemory>
     Ok(())
 }
 
-// Reads once, at most a block and at most this many bytes, behind the first bytes of a buffer.
-fn read_behind<L: Link>(
+// Reads once, at most a block and at most this many bytes, after the first bytes of a buffer.
+fn read_after<L: Link>(
     link: &mut L,
     buffer: &mut Vec<u8>,
     held: usize,

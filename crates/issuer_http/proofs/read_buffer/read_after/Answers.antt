@@ -1,7 +1,7 @@
 use Rattle.std.proofs.Common.{◌+◌, ◌-◌, ◌≤◌, ◌++◌, List, ℕ, ap, take, drop, length, rules}
 use borrow.Rule.Slice.PartMut.{post_of}
 use Rattle.issuer_http.proofs.Filling.{fills}
-use Rattle.issuer_http.proofs.window.read_behind.Goals as goal
+use Rattle.issuer_http.proofs.read_buffer.read_after.Goals as goal
 
 pub returns-clause-ok : goal.returns-clause-ok
 returns-clause-ok g c =
