@@ -1,6 +1,5 @@
-use Rattle.std.proofs.Common.{◌≡◌, ◌∙◌, sym, ap, refl, subst}
+use Rattle.std.proofs.Common.{◌≡◌, ◌∙◌, sym, refl}
 use Rattle.register_words.specs.declared.reply.Refusal.TheVariants.{NoMemory}
-use Rattle.register_words.specs.declared.request.Asked.{Asked}
 use Rattle.register_words.specs.declared.request.Asked.TheVariants.{Refuse}
 use Rattle.http_heads.specs.Requests.{asked_in}
 use Rattle.issuer_http.specs.Requests.{want_of}
