@@ -20,6 +20,7 @@ use Rattle.line_reading.specs.WriteBuffer.{IsWritten}
 use Rattle.line_reading.specs.Limits.{input_limit, read_limit}
 use Rattle.line_reading.specs.Lines.{Line, whole_part}
 use Rattle.line_reading.specs.Moments.{Gives}
+use Rattle.line_reading.specs.Opened.{IsOpened}
 use Rattle.leireg_run.specs.Outside.{Course, Leads, Outside}
 use Rattle.line_reading.specs.Replies.{reply_texts}
 use Rattle.line_reading.specs.Runs.{asks_of, Answers, AnswersInPart}
