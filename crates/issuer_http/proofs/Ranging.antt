@@ -48,7 +48,7 @@ wish_range Action.Upload path =
     (λ issuer _. bind_range (number_of word) _ (λ number is body. number_within-range 1 1_000_000 word number is))))
 wish_range Action.Kept path =
     bind_range (part_of path 3) _ (λ lou _. bind_range (part_of path 5) _ (λ word _. bind_range (code_of lou) _
-    (λ issuer _. bind_range (number_of word) _ (λ number is body. number_within-range 1 1_000_000 word number is))))
+    (λ issuer _. bind_range (number_of word) _ (λ number _ body. tt))))
 wish_range Action.Publish path =
     bind_range (part_of path 3) _ (λ word _. bind_range (number_of word) _
     (λ number is body. number_within-range 1 1_000_000 word number is))
