@@ -70,7 +70,7 @@ upload_range words body = key_range _ (λ issuer word number is. number_within-r
 
 kept_range : (words : asking.Words) → InRange (kept_in words)
 unfolding kept_in
-kept_range words = key_range _ (λ issuer word number is. number_within-range 1 1_000_000 word number is) words
+kept_range words = key_range _ (λ issuer word number is. tt) words
 
 publish_range : (words : asking.Words) → InRange (publish_in words)
 unfolding publish_in

@@ -16,6 +16,7 @@ ghost use Rattle.register_history.specs.Legal.{Legal, MomentsNeverFall, UploadsA
 ghost use Rattle.register_history.specs.Parties.{ChangesArePermitted};
 ghost use Rattle.register_history.specs.Register.{after};
 ghost use Rattle.register_history.specs.Replies.{Step};
+ghost use Rattle.register_state.specs.Crashes.{CrashStays};
 ghost use Rattle.register_state.specs.Deciding.{reply_or};
 ghost use Rattle.lei_office.specs.Offices.{FaultRose, IsRefused, keeper_back};
 
@@ -119,6 +120,8 @@ impl<K: Keeper> Office<K> {
         requires { IsNumbered request.now }
         ensures step { Step self.old.office request.now moment result self.new.office }
         ensures kept { Keeps (K.tables self.new.keeper) self.new.office }
+        ensures crash { CrashStays self.old.office self.new.office (K.tables self.new.keeper) (K.leaves self.old.keeper)
+            (K.leaves self.new.keeper) }
         ensures count { K.faults self.old.keeper ≤ K.faults self.new.keeper }
         ensures faultless { ¬ (result ≡ Words KeeperFault) → K.faults self.new.keeper ≡ K.faults self.old.keeper }
         ensures fault { result ≡ Words KeeperFault → Rose (K.faults self.old.keeper) (K.faults self.new.keeper) }

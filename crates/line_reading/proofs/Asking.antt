@@ -51,7 +51,7 @@ kept_range : (rest : List ℕ) → AsksInRange (or_path (kept_of rest))
 unfolding kept_of
 kept_range rest =
     bind_range (cut rest) _
-    (λ parts _. bind_range (code_of parts.0) _ (λ issuer _. bind_range (number_of parts.1) _ (λ number is. number_within-range 1 1_000_000 parts.1 number is)))
+    (λ parts _. bind_range (code_of parts.0) _ (λ issuer _. bind_range (number_of parts.1) _ (λ number _. tt)))
 
 accreditation_range : (code : Option (List ℕ)) → AsksInRange (or_path (option_map requests.Accredit code))
 accreditation_range None = refl

@@ -1,3 +1,4 @@
+pub mod Crashing
 pub mod Growing
 pub mod Outcomes
 pub mod Shelved

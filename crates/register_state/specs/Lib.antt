@@ -1,4 +1,5 @@
 pub mod Books
+pub mod Crashes
 pub mod Judging
 pub mod Deciding
 pub mod Replaying

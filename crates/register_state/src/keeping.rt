@@ -3,14 +3,15 @@ ghost use Rattle.std.specs.Prelude.{◌≡◌, ◌≤◌, ◌+◌, ◌++◌, ◌
 ghost use Rattle.std.specs.List.{AllByRecursion};
 ghost use Rattle.copy_forms.specs.Items.{item_text};
 ghost use Rattle.lei_outside.specs.Count.{Rose};
-ghost use Rattle.lei_outside.specs.Keeping.{Stays, last_number};
+ghost use Rattle.lei_outside.specs.Keeping.{LeavesTold, Stays, last_number};
 ghost use Rattle.upload_ledger.specs.Limits.{AreFew};
-ghost use Rattle.register_history.specs.Kept.{AreTablesWith, IsKey, Keeps, kept_cell, kind_of, name_of};
+ghost use Rattle.register_history.specs.Kept.{AreTablesOf, AreTablesWith, IsKey, Keeps, kept_cell, kind_of, name_of};
 ghost use Rattle.register_history.specs.Legal.{Legal};
 ghost use Rattle.register_history.specs.Register.{held_after};
 ghost use Rattle.register_history.specs.Replies.{told};
 ghost use Rattle.register_history.specs.Touching.{AreCellsTouched, Touches};
 ghost use Rattle.register_state.specs.Books.{with_entry, writes_of};
+ghost use Rattle.register_state.specs.Crashes.{LeavesAlso};
 ghost use Rattle.register_state.specs.Deciding.{FitsNext};
 ghost use Rattle.register_table.specs.Held.{Held};
 
@@ -44,6 +45,9 @@ impl Books {
         ensures stays { OnErr result (self.new ≡ self.old) }
         ensures legal { Legal self.new }
         ensures kept { Keeps (K.tables keeper.new) self.new }
+        ensures leaves_added { OnOk result (LeavesTold (K.tables keeper.new) (K.leaves keeper.new)) }
+        ensures leaves_refused { OnErr result
+            (LeavesAlso (AreTablesOf (with_entry self.old entry)) (K.leaves keeper.old) (K.leaves keeper.new)) }
         ensures count { K.faults keeper.old ≤ K.faults keeper.new }
         ensures faultless { ¬ (IsErrOf result KeepFault.Failed) → K.faults keeper.new ≡ K.faults keeper.old }
         ensures failed { IsErrOf result KeepFault.Failed → Rose (K.faults keeper.old) (K.faults keeper.new) }
@@ -110,6 +114,11 @@ fn keep<K: Keeper>(
         → IfSome (K.tables keeper.old) (AreTablesWith ledger.old.entries before)
         → IfSome (K.tables keeper.new) (AreTablesWith (ledger.old.entries ++ entry ∷ []) table.now.held)) }
     ensures tables_stay { OnErr result (Stays (K.tables keeper.old) (K.tables keeper.new)) }
+    ensures leaves_added { OnOk result (LeavesTold (K.tables keeper.new) (K.leaves keeper.new)) }
+    ensures leaves_refused { OnErr result ((before : Held) → Touches entry.seq before table.now.held
+        → IfSome (K.tables keeper.old) (AreTablesWith ledger.old.entries before)
+        → LeavesAlso (AreTablesWith (ledger.old.entries ++ entry ∷ []) table.now.held) (K.leaves keeper.old)
+            (K.leaves keeper.new)) }
     ensures count { K.faults keeper.old ≤ K.faults keeper.new }
     ensures faultless { ¬ (IsErrOf result KeepFault.Failed) → K.faults keeper.new ≡ K.faults keeper.old }
     ensures failed { IsErrOf result KeepFault.Failed → Rose (K.faults keeper.old) (K.faults keeper.new) }
@@ -117,9 +126,13 @@ fn keep<K: Keeper>(
     ledger.reserve(&entry)?;
     let cells = touched_cells(alloc, table, entry.seq - 1, entry.seq)?;
     let batch = Batch { entry, cells };
-    keeper.commit(&batch)?;
-    ledger.push_reserved(batch.entry);
-    Ok(())
+    match keeper.commit(&batch) {
+        Ok(()) => {
+            ledger.push_reserved(batch.entry);
+            Ok(())
+        }
+        Err(fault) => Err(fault),
+    }
 }
 
 // The cells that entries touched last whose numbers are greater than `after` and at most `upto`.

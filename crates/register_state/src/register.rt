@@ -13,6 +13,7 @@ ghost use Rattle.register_history.specs.Register.{held_after};
 ghost use Rattle.register_history.specs.Replies.{Step};
 ghost use Rattle.register_history.specs.State.{opened};
 ghost use Rattle.register_history.specs.Touching.{AreCellsTouched};
+ghost use Rattle.register_state.specs.Crashes.{CrashStays};
 ghost use Rattle.register_state.specs.Deciding.{reply_or};
 ghost use Rattle.register_state.specs.Replaying.{ReplaysRequest};
 ghost use Rattle.register_state.specs.Shelving.{back_to};
@@ -103,6 +104,7 @@ impl Register {
         ensures step { Step self.old request.now moment (reply_or result) self.new }
         ensures legal { Legal self.new }
         ensures kept { Keeps (K.tables keeper.new) self.new }
+        ensures crash { CrashStays self.old self.new (K.tables keeper.new) (K.leaves keeper.old) (K.leaves keeper.new) }
         ensures reply { IfOk result (λ reply. ¬ (reply ≡ Words KeeperFault)) }
         ensures count { K.faults keeper.old ≤ K.faults keeper.new }
         ensures faultless { ¬ (IsErrOf result KeepFault.Failed) → K.faults keeper.new ≡ K.faults keeper.old }

@@ -1,0 +1,30 @@
+-- What a crash may leave of an office.
+use Rattle.std.specs.Prelude.{◌≡◌, ◌⊎◌, Option, None, Some, IsSome}
+use Rattle.lei_outside.specs.Keeping.{KeptTables}
+use Rattle.lei_outside.specs.declared.entry.KeptEntry.{KeptEntry}
+use Rattle.register_history.specs.Kept.{AreTablesOf}
+use Rattle.register_history.specs.Legal.{Legal}
+use Rattle.register_history.specs.State.{OfficeState}
+use Rattle.register_state.specs.Books.{with_entry}
+
+-- The tables of the office, or those of the office with one more entry that can come about.
+abbrev pub IsLeftOf : OfficeState → Option KeptTables → Type 0
+IsLeftOf office None = ⊥
+IsLeftOf office (Some tables) = AreTablesOf office tables
+    ⊎ ((e : KeptEntry) × Legal (with_entry office e) × AreTablesOf (with_entry office e) tables)
+
+-- All that a crash may leave is that.
+abbrev pub LeavesOnly : OfficeState → (Option KeptTables → Type 0) → Type 0
+LeavesOnly office leaves = (left : Option KeptTables) → leaves left → IsLeftOf office left
+
+-- What a crash may leave is what it might have left before, or such tables.
+abbrev pub LeavesAlso : (KeptTables → Type 0) → (Option KeptTables → Type 0) → (Option KeptTables → Type 0) → Type 0
+LeavesAlso P old new =
+    (left : Option KeptTables) → new left → old left ⊎ ((tables : KeptTables) × (left ≡ Some tables) × P tables)
+
+-- If a crash might have left nothing but tables of the old office or of it with one more entry, then it may leave nothing
+-- but those of the new one. Where an entry was added, the keeper has to tell its tables for that.
+abbrev pub CrashStays : OfficeState → OfficeState → Option KeptTables → (Option KeptTables → Type 0)
+    → (Option KeptTables → Type 0) → Type 0
+CrashStays old new told before after =
+    LeavesOnly old before → (new ≡ old) ⊎ IsSome told → LeavesOnly new after
