@@ -9,9 +9,8 @@ ghost use Rattle.register_demo.specs.Session.{is_told, text_of, texts_of};
 
 use crate::bodies::block_body;
 use crate::codes::issuer_of;
-use crate::plan::{Group, block_count, upload_number};
+use crate::plan::{Group, block_count, request_count, upload_number};
 use crate::progress::Progress;
-use crate::whole::request_count;
 use lei_office::{Call, Office, Refusal, Reply, Request};
 use lei_outside::{NoMemory, SureKeeper};
 use lei_shapes::Moment;

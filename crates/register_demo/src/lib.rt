@@ -12,6 +12,6 @@ mod summary;
 mod whole;
 
 pub use bodies::block_body;
-pub use plan::{Group, block_count, upload_number};
+pub use plan::{Group, block_count, request_count, upload_number};
 pub use progress::{Progress, Untold};
-pub use whole::{demo, request_count};
+pub use whole::demo;

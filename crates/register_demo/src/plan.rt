@@ -1,5 +1,6 @@
 //! The blocks of a made-up register, and the uploads that bring them.
 ghost use Rattle.std.specs.Prelude.{◌≡◌, ◌≤◌};
+ghost use Rattle.register_demo.specs.Requests.{request_count};
 ghost use Rattle.register_demo.specs.Plan.{block_count, first_item, last_item, turn, turns, upload_number};
 
 /// What an upload brings of a block.
@@ -69,4 +70,12 @@ pub fn upload_number(group: Group, n: u32, block: u32) -> u32
         Group::Records => turn,
         Group::Relationships => turns(n, block) + turn,
     }
+}
+
+/// How many requests make a register of so many records.
+pub fn request_count(n: u32) -> u32
+    requires { n ≤ 100_000 }
+    ensures { result ≡ request_count n }
+{
+    3 * block_count(n) + 8
 }

@@ -4,11 +4,9 @@ ghost use Rattle.lei_outside.specs.Keeping.{last_number};
 ghost use Rattle.lei_outside.specs.Memory.{tables_of};
 ghost use Rattle.register_words.specs.Limits.{standard};
 ghost use Rattle.register_history.specs.State.{opened};
-ghost use Rattle.register_demo.specs.Requests.{request_count};
 ghost use Rattle.register_demo.specs.Session.{IsSummary, told_text};
 ghost use Rattle.register_demo.specs.declared.summary.Told.{Told as Found};
 
-use crate::plan::block_count;
 use crate::progress::Progress;
 use crate::session::make;
 use crate::summary::{Told, summary_of};
@@ -16,14 +14,6 @@ use lei_office::{Limits, Office, OpenFault};
 use lei_outside::{Bytes, KeepFault, Keeper, NoMemory, SureKeeper};
 use std::alloc::Global;
 use std::thread::Threads;
-
-/// How many requests make a register of so many records.
-pub fn request_count(n: u32) -> u32
-    requires { n ≤ 100_000 }
-    ensures { result ≡ request_count n }
-{
-    3 * block_count(n) + 8
-}
 
 // How many entries a keeper has.
 fn entries_in(mut keeper: SureKeeper) -> Result<u64, NoMemory>

@@ -118,7 +118,7 @@ fn keep<K: Keeper>(
     ensures leaves_refused { OnErr result ((before : Held) → Touches entry.seq before table.now.held
         → IfSome (K.tables keeper.old) (AreTablesWith ledger.old.entries before)
         → LeavesAlso (AreTablesWith (ledger.old.entries ++ entry ∷ []) table.now.held) (K.leaves keeper.old)
-            (K.leaves keeper.new)) }
+        (K.leaves keeper.new)) }
     ensures count { K.faults keeper.old ≤ K.faults keeper.new }
     ensures faultless { ¬ (IsErrOf result KeepFault.Failed) → K.faults keeper.new ≡ K.faults keeper.old }
     ensures failed { IsErrOf result KeepFault.Failed → Rose (K.faults keeper.old) (K.faults keeper.new) }

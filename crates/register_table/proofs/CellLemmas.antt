@@ -19,7 +19,7 @@ use Rattle.lei_records.specs.declared.view.RowKey.{RowKey}
 use Rattle.lei_records.specs.Tables.{KeyTexts, key_cmp}
 use Rattle.authority_rules.proofs.HolderLemmas.{keys_total, same_key}
 use Rattle.authority_rules.proofs.KeyLemmas.{key_itself, keys_antisymmetric}
-use Rattle.register_table.specs.declared.cells.Slot.{Slot}
+use Rattle.register_table.specs.declared.slots.Slot.{Slot}
 use Rattle.register_table.specs.declared.keys.TextKey.{TextKey}
 use Rattle.lei_records.specs.Rows.{Row}
 use Rattle.register_table.specs.declared.counts.Counts.{Counts}

@@ -15,7 +15,7 @@ use Rattle.lei_records.specs.declared.view.RowKey.{RowKey}
 use Rattle.lei_records.specs.Tables.{key_cmp}
 use Rattle.authority_rules.proofs.HolderLemmas.{keys_total}
 use Rattle.authority_rules.proofs.KeyLemmas.{keys_antisymmetric}
-use Rattle.register_table.specs.declared.cells.Slot.{Slot}
+use Rattle.register_table.specs.declared.slots.Slot.{Slot}
 use Rattle.register_table.specs.declared.keys.TextKey.{TextKey}
 use Rattle.register_table.specs.Held.{cell_key}
 use Rattle.register_table.specs.Cells.{AreOwnCells, IsOwnCell, cell_in, held_in, under_texts, unlent}

@@ -6,7 +6,7 @@ use Rattle.std.specs.List.{AllByRecursion}
 use Rattle.lei_records.specs.declared.item.Item.{Item}
 use Rattle.lei_records.specs.declared.view.RowKey.{RowKey}
 use Rattle.lei_records.specs.Tables.{KeyTexts, row_key}
-use Rattle.register_table.specs.declared.cells.Slot.{Slot}
+use Rattle.register_table.specs.declared.slots.Slot.{Slot}
 use Rattle.register_table.specs.declared.keys.TextKey.{TextKey}
 use Rattle.register_table.specs.declared.touched.Touched.{Touched}
 use Rattle.register_table.specs.Held.{Cell, Held, cell_key}

@@ -10,6 +10,7 @@ ghost use Rattle.register_table.specs.Stamps.{HasStamp};
 
 use crate::counts::Counts;
 use crate::keys::TextKey;
+use crate::slots::Slot;
 use crate::stamps::Stamp;
 use crate::touched::{Touched, is_within, touched_of};
 use lei_outside::NoMemory;
@@ -20,24 +21,6 @@ use std::marker::Model;
 
 // Slots that are lent, under their keys.
 type LentSlots<'a> = BTreeMap<TextKey, &'a Slot>;
-
-/// What is held under a key: the item, or none after a withdrawal, and the number of the entry that touched the key
-/// last.
-#[derive(Drop)]
-pub struct Slot {
-    pub entry: u64,
-    pub item: Option<Item>,
-}
-
-/// An item once more, which shares its texts, or none.
-pub fn share(item: &Option<Item>) -> Result<Option<Item>, NoMemory>
-    ensures { IfOk result (λ shared. shared ≡ item.now) }
-{
-    match item {
-        Some(item) => Ok(Some(item.share()?)),
-        None => Ok(None),
-    }
-}
 
 /// The cells. Contracts see them as a finite map.
 #[derive(Drop)]

@@ -10,6 +10,7 @@ mod freed;
 mod keys;
 mod parts;
 mod reading;
+mod slots;
 mod stamps;
 mod table;
 mod touched;

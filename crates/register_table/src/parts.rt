@@ -8,8 +8,9 @@ ghost use Rattle.register_table.specs.Parts.{AreNoted, AreParts, IsMarked, IsNew
 ghost use Rattle.register_table.specs.Undos.{with_cell};
 
 use crate::authority_key_index::AuthorityKeyIndex;
-use crate::cells::{CellMap, Slot};
+use crate::cells::CellMap;
 use crate::ends::Ends;
+use crate::slots::Slot;
 use lei_outside::NoMemory;
 use lei_records::{Item, RowKey};
 

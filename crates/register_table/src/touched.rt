@@ -5,7 +5,7 @@ ghost use Rattle.register_table.specs.Cells.{IsItemOf, IsOwnCell, cell_in};
 ghost use Rattle.register_table.specs.Held.{cell_key};
 ghost use Rattle.register_table.specs.Touched.{is_touched};
 
-use crate::cells::{Slot, share};
+use crate::slots::{Slot, share};
 use lei_outside::NoMemory;
 use lei_records::{Item, RowKey};
 

@@ -8,8 +8,8 @@ ghost use Rattle.register_table.specs.Parts.{AreParts, CanBeUndone, IsNoteOf, St
 ghost use Rattle.register_table.specs.Undos;
 ghost use Rattle.register_table.specs.Undos.{AreOwn, IsOwn, StaysKept, cell_of, touch, touch_all, undone};
 
-use crate::cells::{Slot, share};
 use crate::parts::{Note, Parts, put, put_back};
+use crate::slots::{Slot, share};
 use lei_outside::NoMemory;
 use lei_records::{Item, RowKey};
 use std::alloc::Global;

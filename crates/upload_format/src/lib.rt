@@ -3,6 +3,7 @@
 #![tactic(auto)]
 
 mod fault;
+mod items;
 mod ordered;
 mod reading;
 

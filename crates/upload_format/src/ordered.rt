@@ -9,7 +9,7 @@ ghost use Rattle.upload_format.specs.Bodies;
 ghost use Rattle.upload_format.specs.Bodies.{items_of, list_name, value_of};
 ghost use Rattle.upload_format.specs.Ordered.{AreFields, AreItems, AreLists, list_with};
 
-use crate::reading::sent;
+use crate::items::raw_item;
 use json::{Error, Items, Members, Scratch, Tape};
 use lei_outside::NoMemory;
 use lei_records::{Fields, Kind, RawItem};
@@ -154,7 +154,7 @@ fn read_list(
         let Some(fields) = read_fields(alloc, members)? else {
             return Ok(None);
         };
-        items.push(sent(kind, fields))?;
+        items.push(raw_item(kind, fields))?;
     }
     Ok(Some(items))
 }

@@ -8,6 +8,7 @@ ghost use Rattle.upload_format.specs.Bodies;
 ghost use Rattle.upload_format.specs.Bodies.{Gives, behind, fields_of, found, in_order, item_of, items_of, list_name, list_of, listed, member_names, parsed, uncounted, upload, value_of};
 
 use crate::fault::UploadFault;
+use crate::items::raw_item;
 use crate::ordered::read_ordered;
 use json::Scratch;
 use lei_outside::{List, Text};
@@ -203,17 +204,7 @@ fn read_item(alloc: Global, kind: Kind, value: Value) -> Result<RawItem, UploadF
     let Value::Object(members) = value else {
         return Err(UploadFault::Malformed(Malformed::NotAnUpload));
     };
-    Ok(sent(kind, read_fields(alloc, members)?))
-}
-
-pub(crate) fn sent(kind: Kind, fields: Fields) -> RawItem
-    ensures { result ≡ Bodies.sent kind fields }
-{
-    match kind {
-        Kind::Record => RawItem::Record(fields),
-        Kind::Relation => RawItem::Relation(fields),
-        Kind::Exception => RawItem::Exception(fields),
-    }
+    Ok(raw_item(kind, read_fields(alloc, members)?))
 }
 
 fn read_fields(alloc: Global, members: Map<String, Value>) -> Result<Fields, UploadFault>

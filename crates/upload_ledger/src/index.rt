@@ -6,7 +6,7 @@ ghost use Rattle.lei_outside.specs.declared.entry.KeptEntry.{KeptEntry};
 ghost use Rattle.upload_ledger.specs.History.{is_accreditation_of, numbered};
 ghost use Rattle.upload_ledger.specs.Index.{ArePlaces, HasRoom, IsIndex, IsSame, accreditation_in, places_of, uploads_in};
 
-use crate::ledger::{ACCREDIT, UPLOAD};
+use crate::kinds::{ACCREDIT, UPLOAD};
 use lei_code::Lei;
 use lei_outside::{KeptEntry, NoMemory};
 use std::alloc::Global;

@@ -5,6 +5,7 @@ ghost use Rattle.upload_ledger.specs.Places.{IsPlace};
 ghost use Rattle.upload_ledger.specs.State.{opened};
 
 use crate::index::{Index, accreditation, entry_at, make_room, note, uploads};
+use crate::kinds::{ACCREDIT, PUBLISH};
 use crate::place::Place;
 use crate::totals::Totals;
 use lei_code::Lei;
@@ -13,15 +14,6 @@ use std::alloc::Global;
 use std::collections::BTreeMap;
 use std::marker::Model;
 use std::snapshot::Snapshot;
-
-/// The kind of an entry that accredits an issuer.
-pub const ACCREDIT: u8 = 1;
-
-/// The kind of an entry that takes an upload.
-pub const UPLOAD: u8 = 2;
-
-/// The kind of an entry that is a publication.
-pub const PUBLISH: u8 = 3;
 
 /// The entries of a history. Contracts see it as the list of them, with the issuer for whose next entry there is room.
 /// A look-up goes by the logarithm of the number of issuers, and through no entries.

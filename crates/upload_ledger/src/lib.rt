@@ -2,10 +2,12 @@
 #![tactic(auto)]
 
 mod index;
+mod kinds;
 mod ledger;
 mod place;
 mod totals;
 
-pub use ledger::{ACCREDIT, Ledger, PUBLISH, UPLOAD};
+pub use kinds::{ACCREDIT, PUBLISH, UPLOAD};
+pub use ledger::Ledger;
 pub use place::Place;
 pub use totals::Totals;

@@ -15,7 +15,7 @@ loop-value-preserved c js at =
     let found = c.in-Some-members.ensures next.0 next.3 in
     let are = subst (λ read. IfSome read (λ fields. (ms : Members) → InMembers c.in-Some-members.members ms → AreFields ms fields))
     c.in-Some-2.is c.in_ok-fields.ensures found.0 found.2 in
-    rw (c.in_ok-push.ensures.items, c.sent.ensures)
+    rw (c.in_ok-push.ensures.items, c.raw_item.ensures)
     (items_more c.args.kind js c.loop-value.values c.next.new.self c.loop-value.items.items found.0 c.in-Some-2.fields next.0 next.1 so next.2 found.1 next.4 are)
 
 pub returns : goal.returns
