@@ -42,7 +42,6 @@ use Rattle.register_judge.proofs.ParentLemmas.{take-apart, take-parents}
 use Rattle.register_judge.proofs.TakingLemmas.{take-sound}
 use Rattle.register_table.specs.Held.{no_rows}
 use Rattle.register_table.specs.Undos.{AreOwn, IsOwn, StaysKept}
-use Rattle.upload_ledger.specs.declared.ledger.TheConstants.{UPLOAD}
 use Rattle.register_words.specs.declared.limits.Limits.{Limits}
 use Rattle.upload_ledger.specs.History.{History}
 use Rattle.register_history.specs.Register.{after, after_entry, entry_sitting, items_in, items_of, take_items}
@@ -159,7 +158,7 @@ pub record IsFit (limit : ℕ) (table : Table) : Type 0 where
 pub entry-fit : (limits : Limits) (table : Table) (e : KeptEntry) → IsFit limits.records table → IsFit limits.records (after_entry limits table e)
 entry-fit limits table e fit =
     let rows = read-rows (upload e.body) in
-    elim (e.kind == UPLOAD) as (λ b. IsFit limits.records (cond b (take_items limits table e (items_of e)).table table)) [
+    elim (e.kind == 2) as (λ b. IsFit limits.records (cond b (take_items limits table e (items_of e)).table table)) [
       | true ↦ record {
         sound = take-sound table (entry_sitting limits e) (items_of e) fit.sound rows;
         fits = (may_put table (entry_sitting limits e) (items_of e) fit.sound fit.fits rows).fits;
