@@ -31,5 +31,5 @@ pub returns-clause-crash : goal.returns-clause-crash
 returns-clause-crash g c =
     let new = c.answer.new in
     let Stays : KeptOffice g.row.K.Denot → Type 0 = λ old.
-        CrashStays old.office new.self (g.K.Keeper.tables new.keeper) (g.K.Keeper.leaves old.keeper) (g.K.Keeper.leaves new.keeper) in
+    CrashStays old.office new.self (g.K.Keeper.tables new.keeper) (g.K.Keeper.leaves old.keeper) (g.K.Keeper.leaves new.keeper) in
     subst Stays c.self.view_is c.answer.ensures.crash
