@@ -24,7 +24,7 @@ fn second_lines(alloc: Global) -> Result<String, AllocError> {
 }
 
 // What a run over a keeper comes to: its status, what it wrote, and the keeper.
-fn came<R: Threads + Sync, K: Keeper>(
+fn came<R: Threads + Sync, K: Keeper + Drop>(
     rt: &R,
     alloc: Global,
     words: &[String],
@@ -50,7 +50,7 @@ fn came<R: Threads + Sync, K: Keeper>(
 }
 
 // Whether the lines are answered over both keepers, in the same way. Gives the keeper in memory back.
-fn are_alike<R: Threads + Sync, K: Keeper>(
+fn are_alike<R: Threads + Sync, K: Keeper + Drop>(
     rt: &R,
     alloc: Global,
     words: &[String],
