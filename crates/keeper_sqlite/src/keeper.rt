@@ -60,6 +60,8 @@ impl<S: Alter> Keeper for SqliteKeeper<S> {
 
     ghost leaves = { λ _ _. ⊤ };
 
+    ghost may_stay = { λ _. tt };
+
     fn last(&mut self) -> Result<u64, KeepFault> {
         let answer = match &mut self.store {
             Some(store) => store.last(),

@@ -1,5 +1,5 @@
 // Where what was taken is kept.
-ghost use Rattle.std.specs.Prelude.{◌≡◌, ℕ, ◌≤◌, Option, IfOk, OnOk, IfSome, IsErrOf};
+ghost use Rattle.std.specs.Prelude.{◌≡◌, ℕ, ◌≤◌, Option, Some, IfOk, OnOk, IfSome, IsErrOf};
 ghost use Rattle.lei_outside.specs.Count.{Rose};
 ghost use Rattle.lei_outside.specs.Keeping.{AreKept, CommitLeaves, Commits, IsBatch, IsNextOf, KeptTables, LeavesNoMore, Stays, cells_between, entries_between, last_number};
 
@@ -100,4 +100,7 @@ pub trait Keeper {
         ensures count { faults self.old ≤ faults self.new }
         ensures faultless { ¬ (IsErrOf result KeepFault.Failed) → faults self.new ≡ faults self.old }
         ensures failed { IsErrOf result KeepFault.Failed → Rose (faults self.old) (faults self.new) };
+
+    /// A crash may leave the tables as they are, so that what is said of all that it may leave says something.
+    ghost may_stay: { (keeper : Self) → IfSome (tables keeper) (λ told. leaves keeper (Some told)) };
 }

@@ -44,7 +44,7 @@ impl SureKeeper {
 }
 
 impl Keeper for SureKeeper {
-    ghost use Rattle.std.specs.Prelude.{Some, ◌≡◌};
+    ghost use Rattle.std.specs.Prelude.{Some, ◌≡◌, refl};
     ghost use Rattle.lei_outside.specs.Memory.{tables_of};
 
     ghost tables = { λ k. Some (tables_of k) };
@@ -52,6 +52,8 @@ impl Keeper for SureKeeper {
     ghost faults = { λ _. 0 };
 
     ghost leaves = { λ k left. left ≡ Some (tables_of k) };
+
+    ghost may_stay = { λ _. refl };
 
     fn last(&mut self) -> Result<u64, KeepFault>
         ensures answer { IfOk result (λ number. number ≡ last_number (tables_of self.old)) }
@@ -211,7 +213,7 @@ impl MapKeeper {
 }
 
 impl Keeper for MapKeeper {
-    ghost use Rattle.std.specs.Prelude.{Some, ◌≡◌};
+    ghost use Rattle.std.specs.Prelude.{Some, ◌≡◌, refl};
     ghost use Rattle.lei_outside.specs.Memory.{tables_of};
 
     ghost tables = { λ k. Some (tables_of k.kept) };
@@ -219,6 +221,8 @@ impl Keeper for MapKeeper {
     ghost faults = { λ k. k.faults };
 
     ghost leaves = { λ k left. left ≡ Some (tables_of k.kept) };
+
+    ghost may_stay = { λ _. refl };
 
     fn last(&mut self) -> Result<u64, KeepFault>
         ensures answer { IfOk result (λ number. number ≡ last_number (tables_of self.old.kept)) }

@@ -12,11 +12,15 @@ pub enum OneOf<A, B> {
 }
 
 impl<K: Keeper, L: Keeper> Keeper for OneOf<K, L> {
+    ghost use Rattle.leireg_commands.specs.declared.one_of.OneOf.{OneOf};
+
     ghost tables = { either K.tables L.tables };
 
     ghost faults = { either K.faults L.faults };
 
     ghost leaves = { left_of_either K.leaves L.leaves };
+
+    ghost may_stay = { elim [ OneOf.First keeper ↦ K.may_stay keeper | OneOf.Second keeper ↦ L.may_stay keeper ] };
 
     fn last(&mut self) -> Result<u64, KeepFault> {
         match self {

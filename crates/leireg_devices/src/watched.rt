@@ -52,6 +52,8 @@ impl<'a, K: Keeper> Keeper for Watched<'a, K> {
 
     ghost leaves = { λ w left. K.leaves w.keeper left };
 
+    ghost may_stay = { λ w. K.may_stay w.keeper };
+
     fn last(&mut self) -> Result<u64, KeepFault> {
         let last = self.keeper.last()?;
         self.last = last;

@@ -3,3 +3,4 @@ pub mod Limits
 pub mod Faults
 pub mod Requests
 pub mod Refusals
+pub mod ExitStatuses

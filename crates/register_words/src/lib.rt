@@ -3,6 +3,7 @@
 #![tactic(auto)]
 
 mod base;
+mod exit_status;
 mod limits;
 mod malformed;
 mod reply;
@@ -11,6 +12,7 @@ mod sheets;
 mod words;
 
 pub use base::Base;
+pub use exit_status::ExitStatus;
 pub use limits::Limits;
 pub use malformed::Malformed;
 pub use reply::{Allowed, Kind, Refusal, Reply};
