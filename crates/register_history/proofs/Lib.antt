@@ -24,5 +24,6 @@ pub mod UntouchedKeys
 pub mod NextIssue
 pub mod SentTexts
 pub mod SoundTrail
+pub mod TouchedKeys
 pub mod OwnChanges
 pub mod Stepping

@@ -63,7 +63,7 @@ more-texts a b front rest =
     sym (tied_then (slice_cmp nat_cmp a b) (key_cmp front rest))
     ∙ ap (λ t. t && eq_by_cmp key_cmp front rest) (is_eq-slice_cmp a b ∙ nat_list_eq_equiv.symm a b)
 
-among-keys : (sheet : Sheet) (es : List (KeyTexts × Cell)) (k : KeyTexts) → is_among k (keys_among sheet es) ≡ is_some (find key_cmp (cell_at sheet k) es)
+pub among-keys : (sheet : Sheet) (es : List (KeyTexts × Cell)) (k : KeyTexts) → is_among k (keys_among sheet es) ≡ is_some (find key_cmp (cell_at sheet k) es)
 among-keys sheet [] k = refl
 among-keys sheet (([], cell) ∷ es) k = among-keys sheet es k
 among-keys sheet ((kind ∷ own, cell) ∷ es) k =

@@ -1,5 +1,5 @@
 -- Publications: the golden copies that a history made, one behind the other. This project's profile.
-use Rattle.std.specs.Prelude.{ℕ, List, [], ◌∷◌, ◌++◌, length, map, flat_map, filter, Bool, true, false, not, if◌then◌else◌}
+use Rattle.std.specs.Prelude.{◌≡◌, ℕ, nat_lt, List, [], ◌∷◌, ◌++◌, length, map, flat_map, filter, Bool, true, false, not, if◌then◌else◌}
 use Rattle.std.specs.FinMap.{values}
 use Rattle.std.specs.Str.{bytes_eq}
 use Rattle.lei_code.specs.Texts.{Text}
@@ -11,12 +11,13 @@ use Rattle.lei_records.specs.Rows.{Row}
 use Rattle.lei_records.specs.Tables.{KeyTexts, Rows, Table}
 use Rattle.copy_csv.specs.Sheets.{SheetRow, row_of}
 use Rattle.register_words.specs.declared.sheets.Sheet.{Sheet}
-use Rattle.copy_forms.specs.Trails.{Publication, Trail}
-use Rattle.register_table.specs.Held.{Held, exception_kind, record_kind, relation_kind}
+use Rattle.copy_forms.specs.Trails.{Publication, Trail, is_among}
+use Rattle.register_table.specs.Held.{Held, cell_key, exception_kind, record_kind, relation_kind}
 use Rattle.register_table.specs.Touched.{touched}
+use Rattle.register_table.specs.Undos.{WriteList}
 use Rattle.upload_ledger.specs.History.{History, is_publication, last_entry, publications}
 use Rattle.register_words.specs.declared.limits.Limits.{Limits}
-use Rattle.register_history.specs.Register.{after, held_after}
+use Rattle.register_history.specs.Register.{after, entry_writes, held_after}
 use Rattle.register_history.specs.State.{OfficeState}
 
 -- ---- the rows that are published
@@ -62,6 +63,21 @@ key_within sheet (kind ∷ key) = if bytes_eq kind (cell_kind sheet) then key �
 abbrev pub keys_touched : ℕ → ℕ → Held → Sheet → List KeyTexts
 keys_touched after upto held sheet = flat_map (λ cell. key_within sheet cell.0) (touched after upto held)
 
+-- the keys of a sheet under which these writes put or take out a row
+abbrev pub keys_written : Sheet → WriteList → List KeyTexts
+keys_written sheet writes = flat_map (λ write. key_within sheet (cell_key write.0)) writes
+
+-- the keys of a sheet of the items that are accepted of an entry's upload, judged on the table that these entries leave
+abbrev pub keys_accepted : Limits → History → KeptEntry → Sheet → List KeyTexts
+keys_accepted limits before e sheet = keys_written sheet (entry_writes limits (after limits before) e)
+
+-- The same of all entries of the rest whose number is greater, each judged on those before it.
+abbrev pub keys_accepted_since : ℕ → Limits → History → History → Sheet → List KeyTexts
+keys_accepted_since number limits before [] sheet = []
+keys_accepted_since number limits before (e ∷ rest) sheet =
+    (if nat_lt number e.seq then keys_accepted limits before e sheet else [])
+    ++ keys_accepted_since number limits (before ++ e ∷ []) rest sheet
+
 -- ---- the publications of a history
 
 -- the number of the entry that made the latest publication, 0 where there is none
@@ -89,3 +105,11 @@ trail_behind limits before (e ∷ rest) = published_by limits before e ++ trail_
 -- the publications of a history, the first of which has the number 1
 unfoldable pub trail : OfficeState → Trail
 trail office = trail_behind office.limits [] office.history
+
+-- A publication counts a key as touched exactly if an item of that key was accepted between the publication before it and
+-- its own entry.
+abbrev pub TouchedKeysWereAccepted : OfficeState → Type 0
+TouchedKeysWereAccepted office =
+    (before rest : History) (e : KeptEntry) (sheet : Sheet) (k : KeyTexts) → office.history ≡ before ++ e ∷ rest
+    → is_among k ((publication_by office.limits before e).touched sheet)
+    ≡ is_among k (keys_accepted_since (last_published before) office.limits [] before sheet)

@@ -16,7 +16,7 @@ ghost use Rattle.register_words.specs.declared.request.Request.{Request};
 ghost use Rattle.register_history.specs.Legal.{Legal, MomentsNeverFall, Session, UploadsAreNumbered, replies_to};
 ghost use Rattle.register_history.specs.Parties.{ChangesArePermitted, ChangesMakeRecords};
 ghost use Rattle.copy_forms.specs.Trails.{IsSound as IsSoundTrail};
-ghost use Rattle.register_history.specs.Publications.{trail};
+ghost use Rattle.register_history.specs.Publications.{TouchedKeysWereAccepted, trail};
 ghost use Rattle.register_history.specs.Kept.{TablesAreOne};
 ghost use Rattle.register_history.specs.Register.{CellsHaveTheRows, after};
 ghost use Rattle.register_history.specs.Replies.{Step};
@@ -106,6 +106,12 @@ pub fn damage_is_one()
 /// and under a key that no entry touched since the one before stands the same row, or none as there.
 pub fn publications_are_a_sound_trail()
     ensures { (office : OfficeState) → Legal office → IsSoundTrail (trail office) }
+{}
+
+/// A publication of a history that can come about counts a key as touched exactly if an item of that key was accepted after
+/// the publication before it.
+pub fn touched_keys_were_accepted()
+    ensures { (office : OfficeState) → Legal office → TouchedKeysWereAccepted office }
 {}
 
 /// No two tables are those that are kept of one office.
