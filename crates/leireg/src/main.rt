@@ -4,10 +4,9 @@
 mod serving;
 mod store;
 
-use leireg_commands::{run_command, tell, tell_as, words};
-use leireg_run::status::{NO_MEMORY, USAGE};
-use leireg_serve::DOOR_FAULT;
+use leireg_commands::{run_command, tell, words};
 use program_words::{Command, WantedRun, WordsFault, wanted};
+use register_words::ExitStatus;
 use serving::serve_wanted;
 use std::io;
 use std::process::ExitCode;
@@ -26,23 +25,14 @@ fn main(rt: HostRuntime) -> io::Result<ExitCode> {
     Ok(ExitCode::from(status))
 }
 
-// Does what the words ask for, and says the status. Where that isn't `OK`, a person is told what happened and what to do.
+// Does what the words ask for, and says the status. If that isn't `Ok`, a person is told what happened and what to do.
 fn run_words<R: Threads + Wait + Sync>(rt: &R, host: &HostRuntime, words: &[String]) -> u8 {
     let status = match wanted(host.alloc(), words) {
         Ok(wanted) => run_wanted(rt, host, words, &wanted),
-        Err(WordsFault::Usage) => USAGE,
-        Err(WordsFault::NoMemory) => NO_MEMORY,
+        Err(WordsFault::Usage) => ExitStatus::Usage.number(),
+        Err(WordsFault::NoMemory) => ExitStatus::NoMemory.number(),
     };
-    if status == DOOR_FAULT {
-        tell_as(
-            host,
-            status,
-            "no connection could be taken",
-            "see that the port is free, or take port 0, for which the machine chooses one",
-        );
-    } else {
-        tell(host, status, words);
-    }
+    tell(host, status, words);
     status
 }
 

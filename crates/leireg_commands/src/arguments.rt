@@ -1,7 +1,7 @@
 //! The words that the program is called with.
 ghost use Rattle.std.specs.Prelude.{◌≡◌, ◌⊎◌, IfErr};
 
-use leireg_run::status::{NO_MEMORY, USAGE};
+use register_words::ExitStatus;
 use std::{env, io};
 
 /// The words after the program's name. Otherwise the status to end with: a word that is no text is no command's.
@@ -10,11 +10,13 @@ pub fn words(rt: &HostRuntime) -> Result<Vec<String>, u8>
 {
     let words = match env::args(rt) {
         Ok(args) => args.skip(1).collect(rt.alloc()),
-        Err(fault) if fault.kind() == io::ErrorKind::InvalidData => return Err(USAGE),
-        Err(_) => return Err(NO_MEMORY),
+        Err(fault) if fault.kind() == io::ErrorKind::InvalidData => return Err(
+            ExitStatus::Usage.number(),
+        ),
+        Err(_) => return Err(ExitStatus::NoMemory.number()),
     };
     match words {
         Ok(words) => Ok(words),
-        Err(_) => Err(NO_MEMORY),
+        Err(_) => Err(ExitStatus::NoMemory.number()),
     }
 }

@@ -1,38 +1,40 @@
-//! What is told to a person where a command ends with another status than `OK`.
-use leireg_run::status::{
-    INPUT_TOO_LONG, KEEPER_FAULT, NO_MEMORY, READ_FAULT, REFUSED, STORE_DAMAGED, USAGE, WRITE_FAULT,
-};
+//! What a person is told of how the program ended.
+use register_words::ExitStatus;
 
 /// What happened, in one line.
-pub fn cause(status: u8) -> &'static str {
+pub fn cause(status: ExitStatus) -> &'static str {
     match status {
-        USAGE => "the words are no command of this program",
-        REFUSED => "the text or the files are refused",
-        READ_FAULT =>
+        ExitStatus::Ok => "all was done",
+        ExitStatus::Usage => "the words are no command of this program",
+        ExitStatus::Refused => "the text or the files are refused",
+        ExitStatus::ReadFault =>
             "an input could not be read; of the lines of the standard input, those that had ended were answered",
-        WRITE_FAULT =>
+        ExitStatus::WriteFault =>
             "the standard output could not be written; what it took may end inside a reply",
-        KEEPER_FAULT => "the store could not be read",
-        NO_MEMORY => "there was too little memory; what was written may end inside a reply",
-        STORE_DAMAGED => "the store is not what its entries come to",
-        INPUT_TOO_LONG => "an input is too long",
-        _ => "the program ended early",
+        ExitStatus::KeeperFault => "the store could not be read",
+        ExitStatus::NoMemory =>
+            "there was too little memory; what was written may end inside a reply",
+        ExitStatus::StoreDamaged => "the store is not what its entries come to",
+        ExitStatus::InputTooLong => "an input is too long",
+        ExitStatus::DoorFault => "no connection could be taken",
     }
 }
 
-/// What to do about it, in one line.
-pub fn advice(status: u8) -> &'static str {
+/// What to do about it, in one line. How a command is called stands in its own help.
+pub fn advice(status: ExitStatus) -> &'static str {
     match status {
-        REFUSED => "read on the standard output what is wrong with them",
-        READ_FAULT => "see that the files are there and may be read",
-        WRITE_FAULT => "send the lines again, to an output that takes the replies",
-        KEEPER_FAULT =>
+        ExitStatus::Ok | ExitStatus::Usage => "run it again",
+        ExitStatus::Refused => "read on the standard output what is wrong with them",
+        ExitStatus::ReadFault => "see that the files are there and may be read",
+        ExitStatus::WriteFault => "send the lines again, to an output that takes the replies",
+        ExitStatus::KeeperFault =>
             "see that its folder is there, that the file may be written, and that no other program has it open",
-        NO_MEMORY => "give the program more memory",
-        STORE_DAMAGED =>
+        ExitStatus::NoMemory => "give the program more memory",
+        ExitStatus::StoreDamaged =>
             "put back a copy of it from before; with lines the standard output tells the first difference",
-        INPUT_TOO_LONG =>
+        ExitStatus::InputTooLong =>
             "part it: lines may have 4294967295 bytes in all, and a file of apply 1073741823",
-        _ => "run it again",
+        ExitStatus::DoorFault =>
+            "see that the port is free, or take port 0, for which the machine chooses one",
     }
 }

@@ -11,4 +11,4 @@ mod telling;
 pub use arguments::words;
 pub use one_of::OneOf;
 pub use running::run_command;
-pub use telling::{tell, tell_as};
+pub use telling::tell;

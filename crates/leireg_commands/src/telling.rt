@@ -1,24 +1,20 @@
 //! How a command ended, as a person is told on the standard error.
 use crate::help::{advice, cause};
-use leireg_run::status::{OK, USAGE, status_text};
 use program_words::help_of;
+use register_words::ExitStatus;
 
-/// Tells of a status other than `OK`: its word, what happened, and what to do, or how the command is called that the first
+/// Tells of a status other than `Ok`: its word, what happened, and what to do, or how the command is called that the first
 /// of these words names.
 pub fn tell(host: &HostRuntime, status: u8, words: &[String]) {
-    let advice = if status == USAGE {
-        help_of(first_of(words))
-    } else {
-        advice(status)
-    };
-    tell_as(host, status, cause(status), advice);
+    match ExitStatus::of(status) {
+        Some(ExitStatus::Ok) | None => {}
+        Some(ExitStatus::Usage) => print(host, ExitStatus::Usage, help_of(first_of(words))),
+        Some(status) => print(host, status, advice(status)),
+    }
 }
 
-/// Tells of a status other than `OK` with what happened and what to do.
-pub fn tell_as(host: &HostRuntime, status: u8, cause: &str, advice: &str) {
-    if status != OK {
-        let _ = eprintln!(host; "{}\n{cause}\n{advice}", status_text(status));
-    }
+fn print(host: &HostRuntime, status: ExitStatus, advice: &str) {
+    let _ = eprintln!(host; "{}\n{}\n{advice}", status.name(), cause(status));
 }
 
 // The first word, and the empty one where there is none.

@@ -12,15 +12,22 @@ pub struct Deadlines {
     pub request: Duration,
     /// For all replies to what one read gave, from the first write to the next read that gives a byte.
     pub reply: Duration,
+    /// For the connection. After this time no further request is read from it.
+    pub life: Duration,
+    /// For what the peer still sends after the last reply.
+    pub closing: Duration,
 }
 
 impl Deadlines {
-    /// The deadlines of a server: 5 seconds for a byte, 30 for a request, and 10 minutes for replies.
+    /// The deadlines of a server: 5 seconds for a byte, 30 for a request, 10 minutes for replies, 10 for a connection, and
+    /// a second for its end.
     pub fn standard() -> Self {
         Deadlines {
             silence: Duration::from_secs(5),
             request: Duration::from_secs(30),
             reply: Duration::from_secs(600),
+            life: Duration::from_secs(600),
+            closing: Duration::from_secs(1),
         }
     }
 
@@ -42,13 +49,14 @@ enum Turn {
     Reply(Option<Instant>),
 }
 
-/// Whether a connection is late. A request begins with the first byte that is read behind the accept or a write, and
-/// lasts until the next write; the replies begin there, and last until the next byte is read. A clock that can't be read
-/// makes both late.
+/// Whether a connection is late. A request begins with the first byte that is read after the accept or a write, and
+/// lasts until the next write; the replies begin there, and last until the next byte is read. The connection's life begins
+/// with the accept, and is looked at between two requests alone. If the clock can't be read, all are late.
 #[derive(Drop)]
 pub struct Watch<'a, R> {
     rt: &'a R,
     deadlines: Deadlines,
+    since: Option<Instant>,
     turn: Turn,
 }
 
@@ -58,15 +66,23 @@ impl<'a, R: Clock> Watch<'a, R> {
         Watch {
             rt,
             deadlines,
+            since: Instant::now(rt).ok(),
             turn: Turn::New,
         }
     }
 
-    /// Whether a read comes too late for its request. What comes behind a write is another request.
+    /// The clock, and how long the end of the connection may take.
+    pub fn closing(&self) -> (&'a R, Duration) {
+        (self.rt, self.deadlines.closing)
+    }
+
+    /// Whether a read comes too late for its request. What comes after a write is another request, for which the connection
+    /// may be too old.
     pub fn is_late_to_read(&self) -> bool {
         match self.turn {
+            Turn::New => false,
             Turn::Request(since) => has_passed(self.rt, since, self.deadlines.request),
-            _ => false,
+            Turn::Reply(_) => has_passed(self.rt, self.since, self.deadlines.life),
         }
     }
 

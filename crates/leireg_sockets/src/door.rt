@@ -4,27 +4,35 @@ ghost use Rattle.lei_outside.specs.Count.{Rose};
 ghost use Rattle.lei_outside.specs.Doors.{Comes, IsFailed, is_line};
 ghost use Rattle.leireg_sockets.specs.Sockets.{Gives, IsNew, ListenerState, Waits};
 
-use crate::{Deadlines, StreamLink};
+use crate::{Deadlines, Operator, StreamLink};
 use lei_outside::{Came, Door, Failed};
 use std::io;
 use std::io::ErrorKind;
 use std::marker::Model;
 use std::net::{TcpListener, TcpStream};
-use std::time::Clock;
+use std::thread::sleep;
+use std::time::{Clock, Duration};
+
+// How long a door waits after a failure that may pass, before it asks for a connection again, in milliseconds.
+const PAUSE: u64 = 100;
 
 /// A door over a listener, through which so many connections come, one after the other. Without a listener each call
-/// fails. A connection that comes back is closed. It tells nothing of its lines.
+/// fails. The operator hears of the address at the first call, and of failures that may pass. A connection that comes back
+/// is closed. It tells nothing of its lines.
 #[derive(Drop)]
-pub struct TcpDoor<'a, R> {
+pub struct TcpDoor<'a, R, O> {
     rt: &'a R,
     listener: Option<&'a TcpListener>,
+    operator: O,
     deadlines: Deadlines,
     to_give: u64,
     out: bool,
     faults: u64,
+    // Whether the operator has heard of the address.
+    announced: bool,
 }
 
-impl<'a, R> Model for TcpDoor<'a, R> {
+impl<'a, R, O> Model for TcpDoor<'a, R, O> {
     ghost use Rattle.std.specs.Prelude.{is_some};
     ghost use Rattle.leireg_sockets.specs.Sockets.{ListenerState};
 
@@ -38,11 +46,12 @@ impl<'a, R> Model for TcpDoor<'a, R> {
     } };
 }
 
-impl<'a, R> TcpDoor<'a, R> {
+impl<'a, R, O> TcpDoor<'a, R, O> {
     /// A door through which at most so many connections come, each with these deadlines.
     pub fn new(
         rt: &'a R,
         listener: Option<&'a TcpListener>,
+        operator: O,
         deadlines: Deadlines,
         connections: u64,
     ) -> Self
@@ -54,15 +63,17 @@ impl<'a, R> TcpDoor<'a, R> {
         TcpDoor {
             rt,
             listener,
+            operator,
             deadlines,
             to_give: connections,
             out: false,
             faults: 0,
+            announced: false,
         }
     }
 }
 
-impl<'a, R: Clock> Door for TcpDoor<'a, R> {
+impl<'a, R: Clock, O: Operator> Door for TcpDoor<'a, R, O> {
     type Line = StreamLink<'a, R, TcpStream>;
 
     ghost to_come = { λ _. None };
@@ -101,15 +112,16 @@ impl<'a, R: Clock> Door for TcpDoor<'a, R> {
         requires { self.old.out ≡ true }
         ensures { self.new ≡ record self.old { out = false } }
     {
-        drop(line);
+        line.close();
         self.out = false;
     }
 }
 
-impl<'a, R> TcpDoor<'a, R> {
-    // The next connection, and none where all were given.
-    fn wait(&self) -> Result<Option<TcpStream>, Failed>
-        ensures { Waits self.now result }
+impl<'a, R: Clock, O: Operator> TcpDoor<'a, R, O> {
+    // The next connection, and none if all were given.
+    fn wait(&mut self) -> Result<Option<TcpStream>, Failed>
+        ensures waits { Waits self.new result }
+        ensures same { self.new ≡ self.old }
     {
         let Some(listener) = self.listener else {
             return Err(Failed);
@@ -117,34 +129,88 @@ impl<'a, R> TcpDoor<'a, R> {
         if self.to_give == 0 {
             return Ok(None);
         }
-        Ok(Some(accept(listener, &self.deadlines)?))
+        self.announce(listener);
+        let stream = accept(self.rt, listener, &self.deadlines, &mut self.operator)?;
+        Ok(Some(stream))
+    }
+
+    // Lets the operator know, once, where the door listens.
+    fn announce(&mut self, listener: &TcpListener)
+        ensures { self.new ≡ self.old }
+    {
+        if self.announced {
+            return;
+        }
+        self.announced = true;
+        if let Ok(address) = listener.local_addr() {
+            self.operator.note_listening(address);
+        }
     }
 }
 
 // The next connection that can be served: its deadlines are set, and what is written to it is sent at once. One that is
-// gone before that is passed over, and so is a signal.
-fn accept(listener: &TcpListener, deadlines: &Deadlines) -> Result<TcpStream, Failed> {
+// gone before that is passed over, and so is a failure that may pass, after a pause.
+fn accept<R: Clock, O: Operator>(
+    rt: &R,
+    listener: &TcpListener,
+    deadlines: &Deadlines,
+    operator: &mut O,
+) -> Result<TcpStream, Failed> {
+    let mut fails = false;
     for _ in 0..u64::MAX {
         match listener.accept() {
             Ok((stream, _)) => {
+                fails = false;
                 if prepare(&stream, deadlines).is_ok() {
                     return Ok(stream);
                 }
             }
-            Err(fault) => {
-                if !matches!(
-                    fault.kind(),
-                    ErrorKind::Interrupted
-                        | ErrorKind::ConnectionAborted
-                        | ErrorKind::ConnectionReset
-                ) {
-                    return Err(Failed);
+            Err(fault) => match Passing::of(&fault) {
+                Passing::Never => return Err(Failed),
+                Passing::AtOnce => {}
+                Passing::Later => {
+                    if !fails {
+                        operator.note_accept_fault(&fault);
+                    }
+                    fails = true;
+                    sleep(rt, Duration::from_millis(PAUSE));
                 }
-            }
+            },
         }
     }
     Err(Failed)
 }
+
+// Whether another call may succeed after a failure to accept a connection.
+enum Passing {
+    // The connection is gone, or a signal came: at once.
+    AtOnce,
+    // Descriptors or memory ran out, or the network has a fault: after a while.
+    Later,
+    // The listener is none.
+    Never,
+}
+
+impl Passing {
+    // Linux's accept also reports faults of the connection that came and of the network.
+    fn of(fault: &io::Error) -> Passing {
+        match fault.kind() {
+            ErrorKind::Interrupted | ErrorKind::ConnectionAborted | ErrorKind::ConnectionReset => {
+                Passing::AtOnce
+            }
+            ErrorKind::InvalidInput => Passing::Never,
+            _ => match fault.raw_os_error() {
+                Some(BAD_DESCRIPTOR | NO_SOCKET) | None => Passing::Never,
+                Some(_) => Passing::Later,
+            },
+        }
+    }
+}
+
+// Linux's numbers of faults that don't pass: what is no open descriptor, or no socket.
+const BAD_DESCRIPTOR: i32 = 9;
+
+const NO_SOCKET: i32 = 88;
 
 fn prepare(stream: &TcpStream, deadlines: &Deadlines) -> io::Result<()> {
     stream.set_nodelay(true)?;

@@ -2,10 +2,13 @@
 //! server up.
 #![tactic(auto)]
 
+mod closing;
 mod deadlines;
 mod door;
 mod link;
+mod operator;
 
 pub use deadlines::Deadlines;
 pub use door::TcpDoor;
 pub use link::StreamLink;
+pub use operator::Operator;

@@ -6,10 +6,12 @@ ghost use Rattle.lei_outside.specs.Told.{Reads, Writes};
 ghost use Rattle.leireg_sockets.specs.Sockets.{StreamState};
 
 use crate::Deadlines;
+use crate::closing::close;
 use crate::deadlines::Watch;
 use lei_outside::{Failed, Link, SinkFault};
 use std::io::{ErrorKind, Read, Write};
 use std::marker::Model;
+use std::net::TcpStream;
 use std::time::Clock;
 
 /// A link over a stream, as a connection, which tells nothing of its bytes by itself. A read or a write that comes behind
@@ -41,6 +43,17 @@ impl<'a, R: Clock, S> StreamLink<'a, R, S> {
             watch: Watch::new(rt, deadlines),
             read_faults: 0,
             write_faults: 0,
+        }
+    }
+}
+
+impl<'a, R: Clock> StreamLink<'a, R, TcpStream> {
+    /// Closes the connection. If a read or a write failed, it is closed at once; otherwise so that the peer gets what was
+    /// written.
+    pub fn close(self) {
+        if self.read_faults == 0 && self.write_faults == 0 {
+            let (rt, time) = self.watch.closing();
+            close(rt, self.stream, time);
         }
     }
 }

@@ -1,0 +1,57 @@
+//! The end of a connection.
+use std::io::Read;
+use std::net::{Shutdown, TcpStream};
+use std::time::{Clock, Duration, Instant};
+
+// How many bytes a peer may still send after the last reply: twice the greatest body of an upload. This project's profile.
+const CLOSING_BYTES: usize = 8_388_608;
+
+// How long a peer may be silent before it is taken to send no more, in milliseconds.
+const SILENCE: u64 = 200;
+
+// How many bytes are read at a time.
+const BLOCK: usize = 16_384;
+
+/// Closes a connection so that its peer gets what was written. If it were closed while bytes of the peer are unread, the
+/// system would reset it, and the peer would lose the last reply. So no more is sent, and what the peer still sends is read
+/// and dropped until the peer closes or is silent for 200 milliseconds, for at most this time and at most 8 MiB.
+pub fn close<R: Clock>(rt: &R, mut stream: TcpStream, time: Duration) {
+    let Ok(begin) = Instant::now(rt) else {
+        return;
+    };
+    if stream.shutdown(Shutdown::Write).is_err() {
+        return;
+    }
+    let mut buffer = [0; BLOCK];
+    let mut dropped = 0;
+    for _ in 0..CLOSING_BYTES {
+        let Some(wait) = wait_left(rt, begin, time) else {
+            return;
+        };
+        match read_within(&mut stream, &mut buffer, wait) {
+            Some(count) if dropped < CLOSING_BYTES => dropped = count.saturating_add(dropped),
+            _ => return,
+        }
+    }
+}
+
+// How long the next read may wait within a time that began at this moment, or none if it has passed or the clock can't be
+// read.
+fn wait_left<R: Clock>(rt: &R, begin: Instant, time: Duration) -> Option<Duration> {
+    let passed = begin.elapsed(rt).ok()?;
+    let left = time.checked_sub(passed)?;
+    if left.is_zero() {
+        None
+    } else {
+        Some(left.min(Duration::from_millis(SILENCE)))
+    }
+}
+
+// How many bytes come within a time, or none at the end, after the time and after a failure.
+fn read_within(stream: &mut TcpStream, buffer: &mut [u8], time: Duration) -> Option<usize> {
+    stream.set_read_timeout(Some(time)).ok()?;
+    match stream.read(buffer) {
+        Ok(0) | Err(_) => None,
+        Ok(count) => Some(count),
+    }
+}
