@@ -1,0 +1,17 @@
+//! One loop that reads requests from a wire, hands them to whatever answers, and writes the replies, whatever the frames of
+//! the bytes are.
+#![tactic(auto)]
+
+mod answering;
+mod answers;
+mod frames;
+mod framing;
+mod read_buffer;
+mod serving;
+mod wire;
+
+pub use answers::Answers;
+pub use frames::{Ended, Front, Want};
+pub use framing::Framing;
+pub use serving::{Intake, serve};
+pub use wire::{Duplex, Wire, send_piece};
