@@ -1,6 +1,5 @@
 -- Sessions with an office.
 use Rattle.std.proofs.Common.{◌≡◌, ℕ, ℤ, List, [], ◌∷◌, Contains, Some, inl, inr, refl, sym, ap, subst, arith}
-use Rattle.lei_outside.specs.Clock.{Gave, IsClockMoment}
 use Rattle.lei_outside.specs.Count.{Rose}
 use Rattle.register_history.specs.Legal.{AskStep, replies_to}
 use Rattle.register_history.specs.Legal as legal

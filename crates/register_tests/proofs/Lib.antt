@@ -1,1 +1,2 @@
 pub mod PassNumbers
+mod OctetLemmas

@@ -8,6 +8,8 @@ mod copies;
 #[cfg(test)]
 mod devices;
 #[cfg(test)]
+mod echoes;
+#[cfg(test)]
 mod fakes;
 #[cfg(test)]
 mod http;
