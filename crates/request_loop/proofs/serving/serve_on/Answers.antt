@@ -15,6 +15,30 @@ loop-count-init g c = record {
   wire = g.met.L.Wire.lends_same_none c.args.link.now;
 }
 
+-- ---- what is held
+
+pub front-requires-clause-held : goal.front-requires-clause-held
+front-requires-clause-held g c =
+    let at = c.loop-count.invariant.midway in
+    let H : List ℕ → Type 0 = λ held. g.F.Framing.holds c.loop-count.framing held at.since in
+    (at.since, subst H (sym c.bytes.ensures) at.holds)
+
+pub front-requires-clause-none_waits : goal.front-requires-clause-none_waits
+front-requires-clause-none_waits g c = c.loop-count.invariant.midway.waits
+
+pub last-frame-requires : goal.last-frame-requires
+last-frame-requires g c =
+    let rules = g.F.Framing.rules in
+    let holding = g.F.Framing.holds in
+    let at = c.loop-count.invariant.midway in
+    let R : List ℕ → Type 0 = λ held. (bytes : List ℕ) → holding c.loop-count.framing held bytes
+    → ReadsMore rules (holding c.front.new.self) bytes held (g.F.Framing.waiting c.front.new.self) c.in-More.count in
+    let reads = subst R c.bytes.ensures c.in-More.ensures at.since at.holds in
+    let H : List ℕ → Type 0 = λ held. holding c.front.new.self held (at.since ++ c.in-Ok.ensures.ok.0) in
+    let held = holds_more g.A.Answers.step rules c.args.intake.most (holding c.loop-count.framing) (holding c.front.new.self)
+    _ _ _ _ _ _ _ _ _ _ _ _ _ _ at reads c.use_up.ensures c.in-Ok.ensures.ok in
+    (at.since ++ c.in-Ok.ensures.ok.0, subst H (sym c.bytes-then-count-eq0.ensures) held)
+
 -- ---- where more has to be read
 
 pub returns-in-Err-clause-serves : goal.returns-in-Err-clause-serves
