@@ -1,11 +1,11 @@
--- What a sink took, piece after piece.
+-- What a wire took, piece after piece.
 use Rattle.std.proofs.Common.{◌≡◌, ℕ, ◌+◌, ◌<◌, List, [], ◌∷◌, ◌++◌, length, take, drop, get_or, flat_map, Bor, Option, Result, Ok, Err, OnOk, OnErr, refl, sym, ap, ◌∙◌, append_assoc, arith, length-append, subst}
 use Rattle.std.proofs.lemmas.List.{append-nil, take-append-le, take-append-drop, take_more}
 use Rattle.std.proofs.lemmas.List.Concat.{flat_map-append}
 use Rattle.std.proofs.Math.Seq.{take-append-add}
 use Rattle.lei_outside.proofs.Told.{Grows-none, Grows-join}
 use Rattle.lei_outside.specs.Told.{Grows, WritesFront}
-use Rattle.line_reading.specs.WriteBuffer.{IsWritten}
+use Rattle.request_loop.specs.Wires.{IsSent}
 use Rattle.line_reading.specs.WriteBuffer.{Sends}
 
 pub Grows-front : (a b c : Option (List ℕ)) (xs ys : List ℕ) → Grows a b xs → WritesFront b c ys
@@ -48,12 +48,11 @@ Sends-front a b c all waits piece first front =
 
 -- what waits was sent, or refused
 pub sends_rest : {E : Type 0} (a b c : Option (List ℕ)) (all waits : List ℕ) (result : Result (Unit {0}) E)
-    → Sends a b all waits → OnOk result (Grows b c waits) → OnErr result (WritesFront b c waits)
-    → IsWritten a c all result
-sends_rest a b c all waits (Ok done) first grown front =
+    → Sends a b all waits → IsSent b c waits result → IsSent a c all result
+sends_rest a b c all waits (Ok done) first grown =
     let G : List ℕ → Type 0 = λ xs. Grows a c xs in
     subst G (sym first.2) (Grows-join a b c first.0 waits first.1 grown)
-sends_rest a b c all waits (Err fault) first grown front =
+sends_rest a b c all waits (Err fault) first front =
     let W : List ℕ → Type 0 = λ xs. WritesFront a c xs in
     subst W (sym first.2) (Grows-front a b c first.0 waits first.1 front)
 
@@ -93,18 +92,3 @@ refused a b c pieces i d held waits within sent front =
     (ap (λ xs. xs ++ rest) (sym (pieces_more pieces i d within)) ∙ pieces_rest pieces (i + 1))) in
     subst P whole (WritesFront-longer a c ((held ++ done) ++ here) rest
     (Sends-front a b c (held ++ done) waits here sent front))
-
--- ---- where nothing waits
-
-pub sent_then : (a b c : Option (List ℕ)) (all piece : List ℕ) → Sends a b all [] → Grows b c piece
-    → Sends a c (all ++ piece) []
-sent_then a b c all piece first more = (
-  first.0 ++ piece,
-  Grows-join a b c first.0 piece first.1 more,
-  ap (λ xs. xs ++ piece)
-      (first.2 ∙ append-nil first.0) ∙ sym (append-nil (first.0 ++ piece)),
-)
-
-pub sent_all : (a b : Option (List ℕ)) (all : List ℕ) → Sends a b all [] → Grows a b all
-sent_all a b all sent = let G : List ℕ
-    → Type 0 = λ xs. Grows a b xs in subst G (sym (sent.2 ∙ append-nil sent.0)) sent.1

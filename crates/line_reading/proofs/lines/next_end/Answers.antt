@@ -1,7 +1,7 @@
 use Rattle.std.proofs.Common.{List, ℕ, Some, None, subst}
 use Rattle.memchr.specs.Find.{IsFirstByte, is_byte}
-use Rattle.line_reading.proofs.Running.{next_end, no_end}
-use Rattle.line_reading.proofs.answering.next_end.Goals as goal
+use Rattle.line_reading.proofs.Walking.{next_end, no_end}
+use Rattle.line_reading.proofs.lines.next_end.Goals as goal
 
 pub returns-in-Some-clause-found : goal.returns-in-Some-clause-found
 returns-in-Some-clause-found c =
