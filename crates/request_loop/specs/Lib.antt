@@ -1,0 +1,7 @@
+pub mod Counts
+pub mod Moments
+pub mod Sessions
+pub mod Wires
+pub mod ReadBuffers
+pub mod Frames
+pub mod Serving

@@ -1,0 +1,15 @@
+//! One loop that reads requests from a wire, hands them to whatever answers, and writes the replies, whatever the frames of
+//! the bytes are.
+#![tactic(auto)]
+
+mod answers;
+mod frames;
+mod framing;
+mod serving;
+mod wire;
+
+pub use answers::Answers;
+pub use frames::{Ended, Front, Want};
+pub use framing::Framing;
+pub use serving::Intake;
+pub use wire::{Duplex, Wire, send_piece};
