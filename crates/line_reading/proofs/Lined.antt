@@ -1,3 +1,126 @@
 -- Frames of lines, one after the other.
-use Rattle.std.proofs.Common.{◌≡◌, ℕ, List, [], ◌∷◌, ◌++◌, Option, None, Some, refl}
-use Rattle.request_loop.specs.Frames.{Frames}
+use Rattle.std.proofs.Common.{◌≡◌, ◌≢◌, ◌⊎◌, ◌<◌, ◌≤◌, ◌+◌, ℕ, List, [], ◌∷◌, ◌++◌, length, take, drop, Bool, true, false, cond, eqb, ltb, Option, None, Some, inl, inr, refl, sym, ap, ◌∙◌, subst, append_assoc, arith, length-append, length-drop}
+use Rattle.std.proofs.lemmas.Bool.Decides.{nat_tests}
+use Rattle.std.proofs.lemmas.List.{append-nil, drop-drop}
+use Rattle.register_words.specs.declared.reply.Refusal.{Refusal}
+use Rattle.register_words.specs.declared.reply.Refusal.TheVariants.{NoMemory, TooLong}
+use Rattle.register_words.specs.declared.reply.Reply.{Reply}
+use Rattle.register_words.specs.declared.reply.Reply.TheVariants.{Words}
+use Rattle.register_words.specs.declared.request.Asked.{Asked}
+use Rattle.register_words.specs.declared.request.Asked.TheVariants.{Ask, Refuse}
+use Rattle.request_loop.specs.Frames.{AreMeant, AreRefused, Frames, GoesOn, texts_of}
+use Rattle.request_loop.specs.declared.frames.Want.{Want}
+use Rattle.line_reading.specs.Lines.{Ends, HasNoEnd, Line, line_of}
+use Rattle.line_reading.specs.LineFrames.{Gathers, Holds, IsLine, IsReadOf, RefusesBy, TakesLine, line_rules, want_of, wanted}
+use Rattle.line_reading.specs.Replies.{asks_file, reply_bytes, reply_text}
+use Rattle.line_reading.specs.Limits.{line_limit}
+use Rattle.line_reading.specs.Requests.{MayWantMemory, asked, asked_in, cut}
+use Rattle.line_reading.specs.declared.framing.NoEnd.{NoEnd}
+use Rattle.line_reading.proofs.Asking.{reports_no_fault}
+use Rattle.line_reading.proofs.LineLemmas.{HasNoEnd-nil}
+
+abbrev pub Frame : Type 0
+Frame = Option (Want Asked NoEnd)
+
+-- ---- what one line wants
+
+want_with : Bool → Line → Frame
+want_with is_empty line = cond is_empty None (Some (wanted (asked line)))
+
+pub wants_nothing : (line : Line) → length line ≡ 0 → want_of line ≡ None
+wants_nothing line none =
+    let is : eqb (length line) 0 ≡ true = grind (arith, nat_tests) in
+    ap (λ (b : Bool). cond b None (Some (wanted (asked line)))) is
+
+pub wants_asked : (line : Line) → 0 < length line → want_of line ≡ Some (wanted (asked line))
+wants_asked line some =
+    let is : eqb (length line) 0 ≡ false = grind (arith, nat_tests) in
+    ap (λ (b : Bool). cond b None (Some (wanted (asked line)))) is
+
+goes_with : (is_empty : Bool) (what : Asked) → GoesOn (cond is_empty None (Some (wanted what)))
+goes_with true what = tt
+goes_with false what = refl
+
+pub goes_on : (line : Line) → GoesOn (want_of line)
+goes_on line = goes_with (eqb (length line) 0) (asked line)
+
+-- ---- frames after frames
+
+pub frames_more : (frames : List Frame) (bytes mid rest : List ℕ) (frame : Frame) → Frames line_rules bytes frames mid
+    → IsLine mid frame rest → GoesOn frame → Frames line_rules bytes (frames ++ frame ∷ []) rest
+frames_more [] bytes mid rest frame is more goes =
+    let F : List ℕ → Type 0 = λ xs. IsLine xs frame rest in
+    (rest, subst F (sym is) more, goes, refl)
+frames_more (first ∷ frames) bytes mid rest frame is more goes =
+    (is.0, is.1, is.2, frames_more frames is.0 mid rest frame is.3 more goes)
+
+refused_join : (xs ys : List Frame) (rs ss : List Reply) → AreRefused line_rules xs rs → AreRefused line_rules ys ss
+    → AreRefused line_rules (xs ++ ys) (rs ++ ss)
+refused_join [] ys [] ss first second = second
+refused_join [] ys (reply ∷ rs) ss first second = absurd first
+refused_join (None ∷ xs) ys rs ss first second = refused_join xs ys rs ss first second
+refused_join (Some want ∷ xs) ys [] ss first second = absurd first
+refused_join (Some want ∷ xs) ys (reply ∷ rs) ss first second = (first.0, refused_join xs ys rs ss first.1 second)
+
+texts_join : (xs ys : List Frame) (rs ss : List Reply) → AreRefused line_rules xs rs
+    → texts_of line_rules (xs ++ ys) (rs ++ ss) ≡ texts_of line_rules xs rs ++ texts_of line_rules ys ss
+texts_join [] ys [] ss refused = refl
+texts_join [] ys (reply ∷ rs) ss refused = absurd refused
+texts_join (None ∷ xs) ys rs ss refused = texts_join xs ys rs ss refused
+texts_join (Some want ∷ xs) ys [] ss refused = absurd refused
+texts_join (Some want ∷ xs) ys (reply ∷ rs) ss refused =
+    ap (λ bytes. reply_text want.asked reply ++ bytes) (texts_join xs ys rs ss refused.1)
+    ∙ sym (append_assoc (reply_text want.asked reply) (texts_of line_rules xs rs) (texts_of line_rules ys ss))
+
+-- ---- lines that are refused
+
+pub gathers_nothing : (bytes texts : List ℕ) → texts ≡ [] → Gathers bytes bytes texts
+gathers_nothing bytes texts none =
+    record { frames = []; replies = []; are = refl; refused = tt; texts_are = none }
+
+-- one line more, by what it wants
+gathers_one : (bytes mid rest texts texts_now : List ℕ) (frame : Frame) (replies : List Reply) → Gathers bytes mid texts
+    → IsLine mid frame rest → GoesOn frame → AreRefused line_rules (frame ∷ []) replies
+    → texts_now ≡ texts ++ texts_of line_rules (frame ∷ []) replies → Gathers bytes rest texts_now
+gathers_one bytes mid rest texts texts_now frame replies before is goes refused more =
+    let all = texts_of line_rules before.frames before.replies in
+    record {
+      frames = before.frames ++ frame ∷ [];
+      replies = before.replies ++ replies;
+      are = frames_more before.frames bytes mid rest frame before.are is goes;
+      refused = refused_join before.frames (frame ∷ []) before.replies replies before.refused refused;
+      texts_are = more ∙ (ap (λ xs. xs ++ texts_of line_rules (frame ∷ []) replies) before.texts_are
+          ∙ sym (texts_join before.frames (frame ∷ []) before.replies replies before.refused));
+    }
+
+pub gathers_line : (bytes mid part rest texts texts_now : List ℕ) → Gathers bytes mid texts → Ends mid part rest
+    → TakesLine (line_of part) texts texts_now → Gathers bytes rest texts_now
+gathers_line bytes mid part rest texts texts_now before ends (inl taken) =
+    gathers_one bytes mid rest texts texts_now None [] before (part, ends, sym (wants_nothing (line_of part) taken.0)) tt tt
+    (taken.1 ∙ sym (append-nil texts))
+gathers_line bytes mid part rest texts texts_now before ends (inr taken) =
+    let line = line_of part in
+    let refusal = taken.1 in
+    let frame : Frame = Some (wanted (Refuse refusal)) in
+    let text = reply_bytes (Words refusal) false in
+    let is : frame ≡ want_of line = ap (λ what. Some (wanted what)) (sym taken.2) ∙ sym (wants_asked line taken.0) in
+    gathers_one bytes mid rest texts texts_now frame (Words refusal ∷ []) before (part, ends, is) refl
+    ((refl, reports_no_fault line refusal taken.2), tt) (taken.3 ∙ ap (λ xs. texts ++ xs) (sym (append-nil text)))
+
+-- the next line of a block
+pub gathers_next : (block rest texts texts_now : List ℕ) (used end : ℕ) (line : Line) → rest ≡ drop used block
+    → Gathers block (drop used block) texts → Ends rest (take end rest) (drop (end + 1) rest)
+    → line ≡ line_of (take end rest) → TakesLine line texts texts_now
+    → Gathers block (drop (used + (end + 1)) block) texts_now
+gathers_next block rest texts texts_now used end line is before ends line_is taken =
+    let T : Line → Type 0 = λ xs. TakesLine xs texts texts_now in
+    let G : List ℕ → Type 0 = λ xs. Gathers block xs texts in
+    let N : List ℕ → Type 0 = λ xs. Gathers block xs texts_now in
+    let after : drop (end + 1) rest ≡ drop (used + (end + 1)) block = ap (drop (end + 1)) is ∙ drop-drop (end + 1) used block in
+    subst N after (gathers_line block rest (take end rest) (drop (end + 1) rest) texts texts_now (subst G (sym is) before) ends
+    (subst T line_is taken))
+
+-- so many bytes are there
+pub next_within : (block rest : List ℕ) (used end : ℕ) → rest ≡ drop used block → used ≤ length block → end < length rest
+    → used + (end + 1) ≤ length block
+next_within block rest used end is within some = omega (arith, ap length is, length-drop used block, within, some)

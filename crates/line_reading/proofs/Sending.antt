@@ -56,6 +56,21 @@ sends_rest a b c all waits (Err fault) first front =
     let W : List ℕ → Type 0 = λ xs. WritesFront a c xs in
     subst W (sym first.2) (Grows-front a b c first.0 waits first.1 front)
 
+-- a piece was sent after what waited
+pub sent_after : {E : Type 0} (a b c : Option (List ℕ)) (held piece rest : List ℕ) (result : Result (Unit {0}) E)
+    → Grows a b held → rest ≡ [] → IsSent b c piece result → OnOk result (Sends a c (held ++ piece) rest)
+sent_after a b c held piece rest (Ok done) first none more = (
+  held ++ piece,
+  Grows-join a b c held piece first more,
+  sym (append-nil (held ++ piece)) ∙ ap (λ xs. (held ++ piece) ++ xs) (sym none),
+)
+sent_after a b c held piece rest (Err fault) first none more = tt
+
+pub refused_after : {E : Type 0} (a b c : Option (List ℕ)) (held piece : List ℕ) (result : Result (Unit {0}) E)
+    → Grows a b held → IsSent b c piece result → OnErr result (WritesFront a c (held ++ piece))
+refused_after a b c held piece (Ok done) first more = tt
+refused_after a b c held piece (Err fault) first more = Grows-front a b c held piece first more
+
 pub Sends-nothing : (a : Option (List ℕ)) (waits : List ℕ) → Sends a a waits waits
 Sends-nothing a waits = ([], Grows-none a, refl)
 

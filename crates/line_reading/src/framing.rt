@@ -1,5 +1,5 @@
 //! Lines as the frames of an input.
-ghost use Rattle.std.specs.Prelude.{◌≡◌, ◌≤◌, ◌<◌, [], length, take, drop, IsTrue};
+ghost use Rattle.std.specs.Prelude.{◌≡◌, ◌≤◌, ◌<◌, [], length, take, drop, false, IsTrue};
 ghost use Rattle.line_reading.specs.Lines.{HasNoEnd};
 ghost use Rattle.line_reading.specs.LineFrames.{Gathers, IsReadOf, TakesLine, wanted};
 
@@ -33,8 +33,10 @@ pub struct LineFraming {
 }
 
 impl LineFraming {
-    ghost use Rattle.std.specs.Prelude.{IfOk};
-    ghost use Rattle.line_reading.specs.LineFrames.{Holds};
+    ghost use Rattle.std.specs.Prelude.{◌≡◌, List, ℕ, [], true, false, IfOk};
+    ghost use Rattle.request_loop.specs.Frames.{ReadsFront};
+    ghost use Rattle.line_reading.specs.Lines.{HasNoEnd};
+    ghost use Rattle.line_reading.specs.LineFrames.{Holds, line_rules};
 
     /// A framing that has read nothing.
     pub fn new(alloc: Global) -> Result<Self, NoMemory>
@@ -51,7 +53,12 @@ impl LineFraming {
     }
 
     // Reads on in a line that is too long.
-    fn skip(&mut self, held: &[u8]) -> Front<Asked, NoEnd> {
+    fn skip(&mut self, held: &[u8]) -> Front<Asked, NoEnd>
+        requires skips { self.old.skips ≡ true }
+        requires none { self.old.refusals ≡ [] }
+        ensures { (bytes : List ℕ) → Holds true self.old.seen held.now bytes
+            → ReadsFront line_rules (Holds self.new.skips self.new.seen) self.new.refusals bytes held.now result }
+    {
         match next_end(held, 0) {
             None => Front::More(held.len()),
             Some(end) => {
@@ -62,13 +69,18 @@ impl LineFraming {
         }
     }
 
-    // Waits for the end of a line of which so many bytes are held.
-    fn wait(&mut self, count: usize) -> Front<Asked, NoEnd> {
-        if count > MAX_LINE + 1 {
+    // Waits for the end of a line that these bytes begin.
+    fn wait(&mut self, held: &[u8]) -> Front<Asked, NoEnd>
+        requires skips { self.old.skips ≡ false }
+        requires none { self.old.refusals ≡ [] }
+        ensures { HasNoEnd held.now
+            → ReadsFront line_rules (Holds self.new.skips self.new.seen) self.new.refusals held.now held.now result }
+    {
+        if held.len() > MAX_LINE + 1 {
             self.skips = true;
-            return Front::More(count);
+            return Front::More(held.len());
         }
-        self.seen = count;
+        self.seen = held.len();
         Front::More(0)
     }
 }
@@ -91,13 +103,14 @@ impl Framing for LineFraming {
         if self.skips {
             return self.skip(held);
         }
-        let used = gather(&mut self.refusals, held, self.seen);
+        let seen = self.seen.min(held.len());
+        let used = gather(&mut self.refusals, held, seen);
         if used > 0 {
             self.seen = 0;
             return Front::Refused(used);
         }
-        match next_end(held, self.seen) {
-            None => self.wait(held.len()),
+        match next_end(held, seen) {
+            None => self.wait(held),
             Some(end) => {
                 self.seen = 0;
                 Front::Whole(read_line(self.alloc, line_of(&held[..end])), end + 1)
@@ -157,9 +170,8 @@ fn read_line(alloc: Global, line: &[u8]) -> Option<Want<Asked, NoEnd>>
 fn gather(refusals: &mut WriteBuffer, held: &[u8], mut seen: usize) -> usize
     requires none { refusals.old ≡ [] }
     requires within { seen ≤ length held.now }
-    requires seen { HasNoEnd (take seen held.now) }
     ensures within { result ≤ length held.now }
-    ensures gathers { Gathers held.now (drop result held.now) refusals.new }
+    ensures gathers { HasNoEnd (take seen held.now) → Gathers held.now (drop result held.now) refusals.new }
     ensures nothing { result ≡ 0 → refusals.new ≡ [] }
 {
     let mut used = 0;

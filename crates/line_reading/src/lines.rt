@@ -14,13 +14,13 @@ pub fn line_of(part: &[u8]) -> &[u8]
     }
 }
 
-/// Where the next line ends, if the first `seen` bytes have no line's end.
+/// Where the next line ends, if the first `seen` bytes have no line's end. They aren't searched.
 pub fn next_end(rest: &[u8], seen: usize) -> Option<usize>
-    requires within { seen ≤ length rest.now }
-    requires seen { HasNoEnd (take seen rest.now) }
-    ensures found { IfSome result (λ end. Ends rest.now (take end rest.now) (drop (end + 1) rest.now)) }
+    requires { seen ≤ length rest.now }
+    ensures found { HasNoEnd (take seen rest.now)
+        → IfSome result (λ end. Ends rest.now (take end rest.now) (drop (end + 1) rest.now)) }
     ensures within { IfSome result (λ end. end < length rest.now) }
-    ensures none { IfNone result (HasNoEnd rest.now) }
+    ensures none { HasNoEnd (take seen rest.now) → IfNone result (HasNoEnd rest.now) }
 {
     let (_, unseen) = rest.split_at(seen);
     match memchr(b'\n', unseen) {

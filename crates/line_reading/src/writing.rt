@@ -1,5 +1,5 @@
 //! Replies as they are written.
-ghost use Rattle.std.specs.Prelude.{◌≡◌, [], ◌++◌, flat_map, IfSome, IsErrOf};
+ghost use Rattle.std.specs.Prelude.{◌≡◌, [], ◌++◌, flat_map, false, IfSome, IsErrOf};
 ghost use Rattle.lei_outside.specs.Faults.{FailsLast};
 ghost use Rattle.lei_outside.specs.Links.{told_by};
 ghost use Rattle.register_words.specs.declared.reply.Reply.{Reply};

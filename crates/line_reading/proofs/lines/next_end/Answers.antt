@@ -4,12 +4,11 @@ use Rattle.line_reading.proofs.Walking.{next_end, no_end}
 use Rattle.line_reading.proofs.lines.next_end.Goals as goal
 
 pub returns-in-Some-clause-found : goal.returns-in-Some-clause-found
-returns-in-Some-clause-found c =
+returns-in-Some-clause-found c unseen =
     let F : List ℕ → Type 0 = λ bytes. IsFirstByte (is_byte 10) bytes (Some c.in-Some.at) in
-    next_end c.args.rest.now c.args.seen c.in-Some.at c.requires.within c.requires.seen
-    (subst F c.split_at.ensures.back c.in-Some.ensures)
+    next_end c.args.rest.now c.args.seen c.in-Some.at c.requires unseen (subst F c.split_at.ensures.back c.in-Some.ensures)
 
 pub returns-in-None-clause-none : goal.returns-in-None-clause-none
-returns-in-None-clause-none c =
+returns-in-None-clause-none c unseen =
     let F : List ℕ → Type 0 = λ bytes. IsFirstByte (is_byte 10) bytes None in
-    no_end c.args.rest.now c.args.seen c.requires.seen (subst F c.split_at.ensures.back c.in-None.ensures)
+    no_end c.args.rest.now c.args.seen unseen (subst F c.split_at.ensures.back c.in-None.ensures)
