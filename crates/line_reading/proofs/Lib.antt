@@ -1,5 +1,6 @@
 pub mod Asking
 pub mod LineLemmas
+pub mod LineRuns
 pub mod LineFronts
 pub mod Lined
 pub mod Sending

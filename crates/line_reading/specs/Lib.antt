@@ -5,3 +5,4 @@ pub mod LineWords
 pub mod WriteBuffer
 pub mod Replies
 pub mod LineFrames
+pub mod LineRuns
