@@ -1,5 +1,4 @@
 pub mod Ending
-pub mod Stopping
 pub mod FileReading
 pub mod Applied
 pub mod Completing

@@ -107,3 +107,14 @@ refused a b c pieces i d held waits within sent front =
     (ap (λ xs. xs ++ rest) (sym (pieces_more pieces i d within)) ∙ pieces_rest pieces (i + 1))) in
     subst P whole (WritesFront-longer a c ((held ++ done) ++ here) rest
     (Sends-front a b c (held ++ done) waits here sent front))
+
+-- ---- where nothing waits
+
+pub sent_then : (a b c : Option (List ℕ)) (all piece : List ℕ) → Sends a b all [] → Grows b c piece
+    → Sends a c (all ++ piece) []
+sent_then a b c all piece first more = (
+  first.0 ++ piece,
+  Grows-join a b c first.0 piece first.1 more,
+  ap (λ xs. xs ++ piece)
+      (first.2 ∙ append-nil first.0) ∙ sym (append-nil (first.0 ++ piece)),
+)
