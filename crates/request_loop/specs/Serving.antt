@@ -1,11 +1,14 @@
 -- What serving does, and how it ends.
-use Rattle.std.specs.Prelude.{◌≡◌, ◌⊎◌, ◌<◌, ◌≤◌, ℕ, ℤ, List, [], ◌∷◌, ◌++◌, length, take, Option, None, Some}
+use Rattle.std.specs.Prelude.{◌≡◌, ◌⊎◌, ◌<◌, ◌≤◌, ℕ, ℤ, List, [], ◌∷◌, ◌++◌, length, take, Option, None, Some, Result, Ok, Err}
 use Rattle.lei_outside.specs.Told.{Grows, IsAtEnd, Loses}
+use Rattle.lei_outside.specs.declared.faults.SinkFault.{SinkFault}
 use Rattle.request_loop.specs.Frames.{Frames, Rules, asks_of, texts_of}
 use Rattle.request_loop.specs.Moments.{ClockGives}
 use Rattle.request_loop.specs.Sessions.{Session}
+use Rattle.request_loop.specs.Wires.{IsSent}
 use Rattle.request_loop.specs.declared.frames.Ended.{Ended}
 use Rattle.request_loop.specs.declared.frames.Want.{Want}
+use Rattle.request_loop.specs.declared.read_buffer.ReadFault.{ReadFault}
 
 -- One read gives at most 65,536 bytes (64 KiB).
 abbrev pub read_limit : ℕ
@@ -134,3 +137,60 @@ Completes step rules most Ended.ReadFault start bytes now = ⊥
 Completes step rules most Ended.WriteFault start bytes now = ⊥
 Completes step rules most Ended.InputLimit start bytes now = most ≤ length bytes
 Completes step rules most Ended.NoMemory start bytes now = ⊥
+
+-- ---- inside
+
+-- What was wanted got its reply, by one step, at moments of the clock, and the reply was written; or a front of it, and not
+-- all.
+pub record AnswersWant {A W P E : Type 0} (step : A → W → List ℤ → P → A → Type 0) (rules : Rules W P E)
+    (before : Progress A) (want : Want W E) (sent : Result (Unit {0}) SinkFault) (after : Progress A) : Type 0 where
+  pub moments : List ℤ
+  pub gives : ClockGives before.given after.given moments
+  pub reply : P
+  pub made : step before.who want.asked moments reply after.who
+  pub writes : IsSent before.written after.written (rules.text want reply) sent
+
+-- What a frame wants was answered, and the session goes on or ends.
+abbrev pub AnswersFrame : {A W P E : Type 0} → (A → W → List ℤ → P → A → Type 0) → Rules W P E → Progress A
+    → Option (Want W E) → Result (Unit {0}) (Ended E) → Progress A → Type 0
+AnswersFrame step rules before None (Ok done) after = after ≡ before
+AnswersFrame step rules before None (Err ended) after = ⊥
+AnswersFrame step rules before (Some want) (Ok done) after =
+    (want.ends ≡ None) × AnswersWant step rules before want (Ok (tt {0})) after
+AnswersFrame step rules before (Some want) (Err Ended.AtEnd) after = ⊥
+AnswersFrame step rules before (Some want) (Err (Ended.By end)) after =
+    (want.ends ≡ Some end) × AnswersWant step rules before want (Ok (tt {0})) after
+AnswersFrame step rules before (Some want) (Err Ended.ReadFault) after = ⊥
+AnswersFrame step rules before (Some want) (Err Ended.WriteFault) after =
+    AnswersWant step rules before want (Err SinkFault.Failed) after
+AnswersFrame step rules before (Some want) (Err Ended.InputLimit) after = ⊥
+AnswersFrame step rules before (Some want) (Err Ended.NoMemory) after =
+    AnswersWant step rules before want (Err SinkFault.NoMemory) after
+
+-- What is left where the input ends was answered, and serving ends.
+abbrev pub AnswersLast : {A W P E : Type 0} → (A → W → List ℤ → P → A → Type 0) → Rules W P E → Progress A
+    → Option (Want W E) → Ended E → Progress A → Type 0
+AnswersLast step rules before None Ended.AtEnd after = after ≡ before
+AnswersLast step rules before None (Ended.By end) after = ⊥
+AnswersLast step rules before None Ended.ReadFault after = ⊥
+AnswersLast step rules before None Ended.WriteFault after = ⊥
+AnswersLast step rules before None Ended.InputLimit after = ⊥
+AnswersLast step rules before None Ended.NoMemory after = ⊥
+AnswersLast step rules before (Some want) Ended.AtEnd after = AnswersWant step rules before want (Ok (tt {0})) after
+AnswersLast step rules before (Some want) (Ended.By end) after = ⊥
+AnswersLast step rules before (Some want) Ended.ReadFault after = ⊥
+AnswersLast step rules before (Some want) Ended.WriteFault after =
+    AnswersWant step rules before want (Err SinkFault.Failed) after
+AnswersLast step rules before (Some want) Ended.InputLimit after = ⊥
+AnswersLast step rules before (Some want) Ended.NoMemory after =
+    AnswersWant step rules before want (Err SinkFault.NoMemory) after
+
+-- How serving ends where nothing could be read.
+abbrev pub ended_unread : {E : Type 0} → ReadFault → Ended E
+ended_unread ReadFault.Failed = Ended.ReadFault
+ended_unread ReadFault.NoMemory = Ended.NoMemory
+
+-- How serving ends where a reply couldn't be written.
+abbrev pub ended_unsent : {E : Type 0} → SinkFault → Ended E
+ended_unsent SinkFault.Failed = Ended.WriteFault
+ended_unsent SinkFault.NoMemory = Ended.NoMemory

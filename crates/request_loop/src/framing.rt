@@ -29,12 +29,14 @@ pub trait Framing {
 
     /// Reads what stands at the front of the bytes.
     fn front(&mut self, held: &[u8]) -> Front<Self::Asked, Self::End>
-        requires { waiting self.old ≡ [] }
+        requires none_waits { waiting self.old ≡ [] }
+        requires held { (bytes : List ℕ) × holds self.old held.now bytes }
         ensures { (bytes : List ℕ) → holds self.old held.now bytes
             → ReadsFront rules (holds self.new) (waiting self.new) bytes held.now result };
 
     /// Reads what is left where the input ends.
     fn last(&mut self, held: &[u8]) -> Option<Want<Self::Asked, Self::End>>
+        requires { (bytes : List ℕ) × holds self.old held.now bytes }
         ensures { (bytes : List ℕ) → holds self.old held.now bytes → rules.ends bytes result };
 
     /// Writes a reply to what was wanted. After an `Err` some front of it was written.

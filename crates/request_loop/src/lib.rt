@@ -2,14 +2,16 @@
 //! the bytes are.
 #![tactic(auto)]
 
+mod answering;
 mod answers;
 mod frames;
 mod framing;
+mod read_buffer;
 mod serving;
 mod wire;
 
 pub use answers::Answers;
 pub use frames::{Ended, Front, Want};
 pub use framing::Framing;
-pub use serving::Intake;
+pub use serving::{Intake, serve};
 pub use wire::{Duplex, Wire, send_piece};
