@@ -1,15 +1,12 @@
 -- What is read at the front of an input of lines.
-use Rattle.std.proofs.Common.{◌≡◌, ◌<◌, ◌≤◌, ◌+◌, zero, suc, ℕ, List, [], ◌∷◌, ◌++◌, length, take, drop, Bool, true, false, cond, ltb, Option, None, Some, inl, inr, refl, sym, ap, ◌∙◌, subst, append_assoc, arith, length-append}
+use Rattle.std.proofs.Common.{◌≡◌, ◌<◌, ◌≤◌, ◌+◌, ℕ, List, [], ◌∷◌, ◌++◌, length, take, drop, Bool, true, false, cond, ltb, None, Some, inl, inr, refl, sym, ap, ◌∙◌, subst, append_assoc, arith, length-append}
 use Rattle.std.proofs.lemmas.Bool.Decides.{nat_tests}
-use Rattle.std.proofs.lemmas.List.{append-nil, take-append-le}
-use Rattle.std.proofs.Math.Seq.{take-length}
 use Rattle.register_words.specs.declared.reply.Refusal.TheVariants.{NoMemory, TooLong}
 use Rattle.register_words.specs.declared.reply.Reply.{Reply}
 use Rattle.register_words.specs.declared.request.Asked.{Asked}
 use Rattle.register_words.specs.declared.request.Asked.TheVariants.{Ask, Refuse}
-use Rattle.register_words.specs.declared.request.Request.{Request}
 use Rattle.register_words.specs.declared.request.Request.TheVariants as requests
-use Rattle.request_loop.specs.Frames.{AreMeant, IsMeant, ReadsMore, ReadsWhole}
+use Rattle.request_loop.specs.Frames.{AreMeant, IsMeant, ReadsWhole}
 use Rattle.request_loop.specs.declared.frames.Want.{Want}
 use Rattle.line_reading.specs.Limits.{line_limit}
 use Rattle.line_reading.specs.Lines.{Ends, HasNoEnd, Line, line_of}

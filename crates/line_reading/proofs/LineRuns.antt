@@ -1,5 +1,5 @@
 -- What was served of frames that are lines was answered of lines.
-use Rattle.std.proofs.Common.{◌≡◌, ◌⊎◌, ◌<◌, ℕ, ℤ, ◌+◌, suc, List, [], ◌∷◌, ◌++◌, length, take, Bool, true, false, cond, eqb, Option, None, Some, inl, inr, refl, sym, ap, ◌∙◌, subst, append_assoc, arith, length-append}
+use Rattle.std.proofs.Common.{◌≡◌, ◌⊎◌, ◌<◌, ℕ, ℤ, List, [], ◌∷◌, ◌++◌, length, take, Bool, true, false, cond, eqb, Option, None, Some, inl, inr, refl, sym, ap, ◌∙◌, subst, append_assoc, arith, length-append}
 use Rattle.std.proofs.lemmas.List.{append-nil}
 use Rattle.std.proofs.Math.Seq.{take-length}
 use Rattle.std.specs.Str.Lines.{lines}
@@ -12,6 +12,8 @@ use Rattle.request_loop.specs.Frames.{Frames, GoesOn, asks_of, texts_of}
 use Rattle.request_loop.specs.Serving.{AnswersAll, AnswersInPart, AnswersToEnd, Progress, Ran, Stopped}
 use Rattle.request_loop.specs.Sessions.{Session}
 use Rattle.request_loop.specs.declared.frames.Want.{Want}
+use Rattle.request_loop.proofs.FrameLists.{asks_join, frames_join, frames_one}
+use Rattle.request_loop.proofs.Sessions.{session-length}
 use Rattle.line_reading.specs.Lines.{Ends, HasNoEnd, IsClosed, Line, last_part, line_of, whole_part}
 use Rattle.line_reading.specs.LineFrames.{IsReadOf, ReadsAs, line_rules, want_of, wanted}
 use Rattle.line_reading.specs.LineRuns.{AnsweredFront, AnsweredLines, AreTextsOf, asks_of_lines}
@@ -20,7 +22,7 @@ use Rattle.line_reading.specs.Requests.{MayWantMemory, asked}
 use Rattle.line_reading.specs.declared.framing.NoEnd.{NoEnd}
 use Rattle.line_reading.proofs.LineFronts.{text_same}
 use Rattle.line_reading.proofs.LineLemmas.{HasNoEnd-last_part, IsClosed-append, IsClosed-whole_part, lines-closed, lines-end, lines-first, parts_of, whole_part-is}
-use Rattle.line_reading.proofs.Lined.{Frame, frames_more, goes_on, wants_asked}
+use Rattle.line_reading.proofs.Lined.{Frame, goes_on, wants_asked}
 
 -- ---- what lines ask, and what their frames ask
 
@@ -33,11 +35,6 @@ asks_of_lines-append (line ∷ xs) ys =
       | true ↦ asks_of_lines-append xs ys
       | false ↦ ap (λ asks. asked line ∷ asks) (asks_of_lines-append xs ys)
     ]
-
-asks_of-append : (xs ys : List Frame) → asks_of (xs ++ ys) ≡ asks_of xs ++ asks_of ys
-asks_of-append [] ys = refl
-asks_of-append (None ∷ xs) ys = asks_of-append xs ys
-asks_of-append (Some want ∷ xs) ys = ap (λ asks. want.asked ∷ asks) (asks_of-append xs ys)
 
 asks_first : (is_empty : Bool) (line : Line) (asks : List Asked) (frames : List Frame) → asks ≡ asks_of frames
     → cond is_empty asks (asked line ∷ asks) ≡ asks_of (cond is_empty None (Some (wanted (asked line))) ∷ frames)
@@ -104,7 +101,7 @@ asks_to_end bytes rest frames is none =
     ∙ (asks_of_lines-append (lines is.front) last
     ∙ (ap (λ xs. xs ++ asks_of_lines last) is.asks
     ∙ (ap (λ xs. asks_of frames ++ xs) (asks_last (eqb (length rest) 0) rest refl)
-    ∙ sym (asks_of-append frames (want_of rest ∷ []))))))
+    ∙ sym (asks_join frames (want_of rest ∷ []))))))
 
 -- ---- the texts of replies
 
@@ -113,14 +110,6 @@ texts_are [] replies = refl
 texts_are (None ∷ frames) replies = texts_are frames replies
 texts_are (Some want ∷ frames) [] = refl
 texts_are (Some want ∷ frames) (reply ∷ replies) = ap (λ xs. reply_text want.asked reply ++ xs) (texts_are frames replies)
-
-session-length : {A : Type 0} (step : A → Asked → List ℤ → Reply → A → Type 0) (old new : A) (asks : List Asked) (moments : List ℤ)
-    (replies : List Reply) → Session step old asks moments replies new → length asks ≡ length replies
-session-length step old new [] moments [] session = refl
-session-length step old new [] moments (reply ∷ replies) session = absurd session
-session-length step old new (ask ∷ asks) moments [] session = absurd session
-session-length step old new (ask ∷ asks) moments (reply ∷ replies) session =
-    ap suc (session-length step session.2 new asks session.1 replies session.5)
 
 none_written : (asks : List Asked) (written : List ℕ) → AreTextsOf asks [] written → written ≡ []
 none_written [] written texts = texts
@@ -225,9 +214,9 @@ asks_meant : {A : Type 0} (step : Steps A) (old new : A) (frames : List Frame) (
     → Session step old (asks_of (frames ++ Some (wanted what) ∷ [])) moments replies new
 asks_meant step old new frames what moments replies same wants session =
     let S : List Asked → Type 0 = λ asks. Session step old asks moments replies new in
-    subst S (sym (asks_of-append frames (Some (wanted what) ∷ [])))
+    subst S (sym (asks_join frames (Some (wanted what) ∷ [])))
     (session_meant step old new (asks_of frames) what (Refuse NoMemory) moments replies same (wants, refl)
-    (subst S (asks_of-append frames (no_memory ∷ [])) session))
+    (subst S (asks_join frames (no_memory ∷ [])) session))
 
 ran_meant : {A : Type 0} (step : Steps A) (start now : Progress A) (frames : List Frame) (what : Asked) → SameSteps step
     → MayWantMemory what → Ran step line_rules start (frames ++ no_memory ∷ []) now
@@ -271,10 +260,10 @@ stopped_front step start now frames want all front rest parts same stop =
     let S : List Asked → Type 0 = λ xs. Session step start.who xs stop.moments replies now.who in
     let T : List Asked → Type 0 = λ xs. AreTextsOf xs replies (reply_texts asks stop.replies ++ part) in
     let G : List ℕ → Type 0 = λ texts. Grows start.written now.written (texts ++ part) in
-    let is : asks_of_lines front ≡ asks ++ want.asked ∷ [] = same ∙ asks_of-append frames (Some want ∷ []) in
+    let is : asks_of_lines front ≡ asks ++ want.asked ∷ [] = same ∙ asks_join frames (Some want ∷ []) in
     let long = session-length step start.who now.who (asks_of (frames ++ Some want ∷ [])) stop.moments replies stop.session in
     let asks_long : length (asks_of (frames ++ Some want ∷ [])) ≡ length (asks ++ want.asked ∷ []) =
-    ap length (asks_of-append frames (Some want ∷ [])) in
+    ap length (asks_join frames (Some want ∷ [])) in
     let equal : length asks ≡ length stop.replies = omega
     (arith, long, asks_long, length-append asks (want.asked ∷ []), length-append stop.replies (stop.reply ∷ [])) in
     record {
@@ -297,7 +286,8 @@ stopped_whole : {A : Type 0} (step : Steps A) (start now : Progress A) (bytes re
     → AnsweredFront step start (lines (whole_part bytes)) now
 stopped_whole step start now bytes rest after frames want part are ends is stop =
     let goes = let P : Frame → Type 0 = λ f. GoesOn f in subst P (sym is) (goes_on (line_of part)) in
-    let all = frames_more frames bytes rest after (Some want) are (part, ends, is) goes in
+    let all = frames_join line_rules bytes rest frames (Some want ∷ []) after are
+    (frames_one line_rules rest (Some want) after (part, ends, is) goes) in
     let front = lined (frames ++ Some want ∷ []) bytes after all in
     stopped_front step start now frames want (lines (whole_part bytes)) (lines front.front) (lines (whole_part after))
     (lines-after bytes front.front after front.parts front.closed) front.asks stop

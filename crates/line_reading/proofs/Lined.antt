@@ -1,23 +1,20 @@
 -- Frames of lines, one after the other.
-use Rattle.std.proofs.Common.{◌≡◌, ◌≢◌, ◌⊎◌, ◌<◌, ◌≤◌, ◌+◌, ℕ, List, [], ◌∷◌, ◌++◌, length, take, drop, Bool, true, false, cond, eqb, ltb, Option, None, Some, inl, inr, refl, sym, ap, ◌∙◌, subst, append_assoc, arith, length-append, length-drop}
+use Rattle.std.proofs.Common.{◌≡◌, ◌<◌, ◌≤◌, ◌+◌, suc, ℕ, List, [], ◌∷◌, ◌++◌, length, take, drop, Bool, true, false, cond, eqb, Option, None, Some, inl, inr, refl, sym, ap, ◌∙◌, subst, arith, length-drop}
 use Rattle.std.proofs.lemmas.Bool.Decides.{nat_tests}
 use Rattle.std.proofs.lemmas.List.{append-nil, drop-drop}
-use Rattle.register_words.specs.declared.reply.Refusal.{Refusal}
-use Rattle.register_words.specs.declared.reply.Refusal.TheVariants.{NoMemory, TooLong}
 use Rattle.register_words.specs.declared.reply.Reply.{Reply}
 use Rattle.register_words.specs.declared.reply.Reply.TheVariants.{Words}
 use Rattle.register_words.specs.declared.request.Asked.{Asked}
-use Rattle.register_words.specs.declared.request.Asked.TheVariants.{Ask, Refuse}
-use Rattle.request_loop.specs.Frames.{AreMeant, AreRefused, Frames, GoesOn, texts_of}
+use Rattle.register_words.specs.declared.request.Asked.TheVariants.{Refuse}
+use Rattle.request_loop.specs.Frames.{AreRefused, GoesOn, asks_of, texts_of}
+use Rattle.request_loop.proofs.FrameLists.{frames_join, frames_one, texts_join}
 use Rattle.request_loop.specs.declared.frames.Want.{Want}
-use Rattle.line_reading.specs.Lines.{Ends, HasNoEnd, Line, line_of}
-use Rattle.line_reading.specs.LineFrames.{Gathers, Holds, IsLine, IsReadOf, RefusesBy, TakesLine, line_rules, want_of, wanted}
-use Rattle.line_reading.specs.Replies.{asks_file, reply_bytes, reply_text}
-use Rattle.line_reading.specs.Limits.{line_limit}
-use Rattle.line_reading.specs.Requests.{MayWantMemory, asked, asked_in, cut}
+use Rattle.line_reading.specs.Lines.{Ends, Line, line_of}
+use Rattle.line_reading.specs.LineFrames.{Gathers, IsLine, TakesLine, line_rules, want_of, wanted}
+use Rattle.line_reading.specs.Replies.{reply_bytes}
+use Rattle.line_reading.specs.Requests.{asked}
 use Rattle.line_reading.specs.declared.framing.NoEnd.{NoEnd}
 use Rattle.line_reading.proofs.Asking.{reports_no_fault}
-use Rattle.line_reading.proofs.LineLemmas.{HasNoEnd-nil}
 
 abbrev pub Frame : Type 0
 Frame = Option (Want Asked NoEnd)
@@ -44,15 +41,7 @@ goes_with false what = refl
 pub goes_on : (line : Line) → GoesOn (want_of line)
 goes_on line = goes_with (eqb (length line) 0) (asked line)
 
--- ---- frames after frames
-
-pub frames_more : (frames : List Frame) (bytes mid rest : List ℕ) (frame : Frame) → Frames line_rules bytes frames mid
-    → IsLine mid frame rest → GoesOn frame → Frames line_rules bytes (frames ++ frame ∷ []) rest
-frames_more [] bytes mid rest frame is more goes =
-    let F : List ℕ → Type 0 = λ xs. IsLine xs frame rest in
-    (rest, subst F (sym is) more, goes, refl)
-frames_more (first ∷ frames) bytes mid rest frame is more goes =
-    (is.0, is.1, is.2, frames_more frames is.0 mid rest frame is.3 more goes)
+-- ---- frames that are refused
 
 refused_join : (xs ys : List Frame) (rs ss : List Reply) → AreRefused line_rules xs rs → AreRefused line_rules ys ss
     → AreRefused line_rules (xs ++ ys) (rs ++ ss)
@@ -62,15 +51,14 @@ refused_join (None ∷ xs) ys rs ss first second = refused_join xs ys rs ss firs
 refused_join (Some want ∷ xs) ys [] ss first second = absurd first
 refused_join (Some want ∷ xs) ys (reply ∷ rs) ss first second = (first.0, refused_join xs ys rs ss first.1 second)
 
-texts_join : (xs ys : List Frame) (rs ss : List Reply) → AreRefused line_rules xs rs
-    → texts_of line_rules (xs ++ ys) (rs ++ ss) ≡ texts_of line_rules xs rs ++ texts_of line_rules ys ss
-texts_join [] ys [] ss refused = refl
-texts_join [] ys (reply ∷ rs) ss refused = absurd refused
-texts_join (None ∷ xs) ys rs ss refused = texts_join xs ys rs ss refused
-texts_join (Some want ∷ xs) ys [] ss refused = absurd refused
-texts_join (Some want ∷ xs) ys (reply ∷ rs) ss refused =
-    ap (λ bytes. reply_text want.asked reply ++ bytes) (texts_join xs ys rs ss refused.1)
-    ∙ sym (append_assoc (reply_text want.asked reply) (texts_of line_rules xs rs) (texts_of line_rules ys ss))
+-- each has its reply
+refused_length : (frames : List Frame) (replies : List Reply) → AreRefused line_rules frames replies
+    → length replies ≡ length (asks_of frames)
+refused_length [] [] refused = refl
+refused_length [] (reply ∷ replies) refused = absurd refused
+refused_length (None ∷ frames) replies refused = refused_length frames replies refused
+refused_length (Some want ∷ frames) [] refused = absurd refused
+refused_length (Some want ∷ frames) (reply ∷ replies) refused = ap suc (refused_length frames replies refused.1)
 
 -- ---- lines that are refused
 
@@ -87,10 +75,12 @@ gathers_one bytes mid rest texts texts_now frame replies before is goes refused 
     record {
       frames = before.frames ++ frame ∷ [];
       replies = before.replies ++ replies;
-      are = frames_more before.frames bytes mid rest frame before.are is goes;
+      are = frames_join line_rules bytes mid before.frames (frame ∷ []) rest before.are
+          (frames_one line_rules mid frame rest is goes);
       refused = refused_join before.frames (frame ∷ []) before.replies replies before.refused refused;
       texts_are = more ∙ (ap (λ xs. xs ++ texts_of line_rules (frame ∷ []) replies) before.texts_are
-          ∙ sym (texts_join before.frames (frame ∷ []) before.replies replies before.refused));
+          ∙ sym (texts_join line_rules before.frames (frame ∷ []) before.replies replies
+          (refused_length before.frames before.replies before.refused)));
     }
 
 pub gathers_line : (bytes mid part rest texts texts_now : List ℕ) → Gathers bytes mid texts → Ends mid part rest

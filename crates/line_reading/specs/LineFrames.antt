@@ -1,5 +1,5 @@
 -- Lines as the frames of an input.
-use Rattle.std.proofs.Common.{append_assoc, ap, ◌∙◌, inl, inr}
+use Rattle.std.proofs.Common.{append_assoc, ap, ◌∙◌}
 use Rattle.std.specs.Prelude.{◌≡◌, ◌≢◌, ◌⊎◌, ◌<◌, ◌≤◌, ◌+◌, ◌==◌, ℕ, List, [], ◌∷◌, ◌++◌, length, take, Bool, true, false, Option, None, Some, if◌then◌else◌}
 use Rattle.register_words.specs.Refusals.{refusal_status_code}
 use Rattle.register_words.specs.declared.reply.Refusal.{Refusal}

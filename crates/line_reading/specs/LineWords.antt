@@ -1,5 +1,4 @@
 -- What the code reads of a line, with the body of an upload where it stands.
-use Rattle.std.specs.Prelude.{ℕ}
 use Rattle.register_words.specs.declared.request.Asked.{Asked}
 use Rattle.register_words.specs.declared.request.Asked.TheVariants.{Ask, Refuse}
 use Rattle.register_words.specs.declared.request.Request.TheVariants.{Upload}

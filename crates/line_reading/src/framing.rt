@@ -87,7 +87,9 @@ impl LineFraming {
 
 impl Framing for LineFraming {
     type Asked = Asked;
+
     type Reply = Reply;
+
     type End = NoEnd;
 
     ghost use Rattle.std.specs.Prelude.{◌≡◌};

@@ -5,9 +5,10 @@ ghost use Rattle.line_reading.specs.Requests.{cut, accreditation_of, copy_of, de
 ghost use Rattle.line_reading.specs.LineWords.{asked_of};
 
 use lei_code::Lei;
-use register_words::{Asked, Call, Refusal, Request};
 use lei_outside::{NoMemory, Shared};
-use register_words::{base_of, code_of, form_of, number_of, sheet_of};
+use register_words::{
+    Asked, Call, Refusal, Request, base_of, code_of, form_of, number_of, sheet_of,
+};
 use std::alloc::Global;
 
 /// The greatest length of a line, without its end, in bytes. This project's profile.

@@ -91,7 +91,11 @@ fn put_reply<L: Wire>(
         }
         Reply::Text { text, .. } => put_all(buffer, link, &[code, b" ", text.as_slice(), b"\n"]),
         Reply::Words(refusal) => match refusal.number() {
-            None => put_all(buffer, link, &[code, b" ", refusal.name().as_bytes(), b"\n"]),
+            None => put_all(
+                buffer,
+                link,
+                &[code, b" ", refusal.name().as_bytes(), b"\n"],
+            ),
             Some(number) => {
                 let mut digits = itoa::Buffer::new();
                 let digits = digits.format(number).as_bytes();

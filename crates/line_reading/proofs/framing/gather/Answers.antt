@@ -1,4 +1,4 @@
-use Rattle.std.proofs.Common.{List, ℕ, length, drop, take, refl, sym, subst, arith}
+use Rattle.std.proofs.Common.{List, ℕ, take, sym, subst, arith}
 use Rattle.line_reading.specs.Lines.{HasNoEnd}
 use Rattle.line_reading.proofs.LineLemmas.{HasNoEnd-nil}
 use Rattle.line_reading.proofs.Lined.{gathers_next, gathers_nothing, next_within}

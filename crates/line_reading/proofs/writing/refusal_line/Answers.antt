@@ -1,4 +1,4 @@
-use Rattle.std.proofs.Common.{◌≡◌, List, ℕ, codes, false, refl, sym, subst}
+use Rattle.std.proofs.Common.{◌≡◌, codes, false, refl, sym, subst}
 use Rattle.std.specs.Fmt.{digits}
 use Rattle.register_words.specs.declared.reply.Refusal.{Refusal}
 use Rattle.register_words.specs.declared.reply.Refusal.TheVariants.{NoRoute, Path, TooLong}

@@ -1,4 +1,4 @@
-use Rattle.std.proofs.Common.{List, ℕ, [], ◌++◌, subst}
+use Rattle.std.proofs.Common.{List, ℕ, ◌++◌, subst}
 use Rattle.request_loop.specs.Wires.{IsSent}
 use Rattle.line_reading.specs.Replies.{reply_bytes}
 use Rattle.line_reading.proofs.Sending.{sends_rest}

@@ -1,6 +1,6 @@
-use Rattle.std.proofs.Common.{◌≡◌, ◌<◌, ◌≤◌, ℕ, Bool, List, true, length, arith, refl, sym, ap, subst}
+use Rattle.std.proofs.Common.{◌≡◌, ◌≤◌, Bool, length, arith, subst}
 use Rattle.std.proofs.lemmas.Bool.Decides.{nat_tests}
-use Rattle.line_reading.specs.LineFrames.{Holds, line_rules}
+use Rattle.line_reading.specs.LineFrames.{Holds}
 use Rattle.line_reading.proofs.LineFronts.{reads_line}
 use Rattle.line_reading.proofs.framing.LineFramingFraming.front.Goals as goal
 

@@ -1,5 +1,3 @@
-use Rattle.std.proofs.Common.{Ok, Err, ◌++◌, sym, ap, ◌∙◌}
-use Rattle.std.proofs.lemmas.List.{append-nil}
 use Rattle.line_reading.proofs.Sending.{sent_after, refused_after}
 use Rattle.line_reading.proofs.write_buffer.WriteBuffer.put.Goals as goal
 
