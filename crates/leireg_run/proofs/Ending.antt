@@ -165,11 +165,15 @@ runs_some : {A : Type 0} (step : Steps A) (office_in : A → OfficeState) (fault
     → length read < input_limit → IsCause status → AnsweredSome step start read left_now now
     → RunsFrom (office_in start.who) (outside_at faults_in left told start) (outside_at faults_in left_now kept now) status
 runs_some step office_in faults_in start now left left_now told kept read status are loses keeps short cause (inl front) =
-    runs_front step office_in faults_in start now left left_now told kept read (lines (whole_part read)) status are loses keeps front
-    (λ some. stops_so status _ _ cause (short, inl some))
+    let all = lines (whole_part read) in
+    runs_front step office_in faults_in start now left left_now told kept read all status are loses keeps front
+    (λ some. stops_so status (cut_course step office_in start now read all front) (outside_at faults_in left_now kept now) cause
+    (short, inl some))
 runs_some step office_in faults_in start now left left_now told kept read status are loses keeps short cause (inr (ended, front)) =
-    runs_front step office_in faults_in start now left left_now told kept read (lines read) status are loses keeps front
-    (λ some. stops_so status _ _ cause (short, inr (ended, some)))
+    let all = lines read in
+    runs_front step office_in faults_in start now left left_now told kept read all status are loses keeps front
+    (λ some. stops_so status (cut_course step office_in start now read all front) (outside_at faults_in left_now kept now) cause
+    (short, inr (ended, some)))
 
 runs_by : {A : Type 0} (step : Steps A) (office_in : A → OfficeState) (faults_in : A → ℕ) (start now : Progress A)
     (left left_now : Option (List ℕ)) (told kept : Option KeptTables) (read : List ℕ) (ended : Ended NoEnd)

@@ -1,4 +1,6 @@
 pub mod Ending
+pub mod Fitting
+pub mod Stopping
 pub mod FileReading
 pub mod Applied
 pub mod Completing

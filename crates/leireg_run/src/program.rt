@@ -6,6 +6,7 @@ ghost use Rattle.lei_outside.specs.Keeping.{KeptTables};
 ghost use Rattle.lei_outside.specs.Told.{Grows};
 ghost use Rattle.register_history.specs.Kept.{Keeps};
 ghost use Rattle.leireg_run.specs.Ends.{RunsFrom, RunsLines, Does, DoesIfRead, Completes, IsDamageTold, IsUnopened, MayTell, TellsDamage, damage_text};
+ghost use Rattle.line_reading.specs.LineFrames.{Holds};
 ghost use Rattle.leireg_run.specs.Outside.{outside};
 ghost use Rattle.leireg_run.specs.Status.{end_status, ended_as};
 ghost use Rattle.leireg_run.specs.Applying.{FailsOneOf};
@@ -162,9 +163,14 @@ fn run_lines<R: Threads + Sync, S: Source, W: Sink, K: Keeper, C: Clock>(
         (outside (S.left input.new) (C.given clock.new) (W.written out.new) (K.tables result.1) (K.faults result.1))
         (Ok (tt {0})) }
 {
+    let Ok(mut framing) = LineFraming::new(alloc) else {
+        return (Err(Stop::NoMemory), keeper);
+    };
     match Office::open(rt, alloc, keeper, Limits::standard()) {
         Ok(mut office) => {
-            let ended = answer_input(rt, alloc, &mut office, input, out, clock);
+            let mut wire = Duplex { input, out };
+            let ended = serve_lines(rt, alloc, &mut office, &mut framing, &mut wire, clock);
+            let Duplex { input: _, out: _ } = wire;
             (ended, office.close())
         }
         Err(OpenFault::KeeperFault(keeper)) => (Err(Stop::KeeperFault), keeper),
@@ -188,31 +194,36 @@ fn tell_damage<W: Sink>(damage: &Damage, out: &mut W) -> Stop
     }
 }
 
-// Answers the lines of an input.
-fn answer_input<R: Threads + Sync, S: Source, W: Sink, K: Keeper, C: Clock>(
+// Answers the lines of an input, by a framing that has read nothing.
+fn serve_lines<R: Threads + Sync, S: Source, W: Sink, K: Keeper, C: Clock>(
     rt: &R,
     alloc: Global,
     office: &mut Office<K>,
-    input: &mut S,
-    out: &mut W,
+    framing: &mut LineFraming,
+    wire: &mut Duplex<'_, S, W>,
     clock: &mut C,
 ) -> Result<(), Stop>
+    requires holds { Holds framing.old.skips framing.old.seen [] [] }
+    requires none_waits { framing.old.refusals ≡ [] }
     ensures runs { (kept : Option KeptTables) → Keeps kept office.new.office → RunsFrom office.old.office
-        (outside (S.left input.old) (C.given clock.old) (W.written out.old) (K.tables office.old.keeper) (K.faults office.old.keeper))
-        (outside (S.left input.new) (C.given clock.new) (W.written out.new) kept (K.faults office.new.keeper))
+        (outside (S.left wire.old.input.now) (C.given clock.old) (W.written wire.old.out.now)
+        (K.tables office.old.keeper) (K.faults office.old.keeper))
+        (outside (S.left wire.new.input.now) (C.given clock.new) (W.written wire.new.out.now) kept
+        (K.faults office.new.keeper))
         (end_status result) }
-    ensures read_fault { IsErrOf result Stop.ReadFault → FailsLast S.left S.faults input.old input.new }
-    ensures no_read_fault { ¬ (IsErrOf result Stop.ReadFault) → S.faults input.new ≡ S.faults input.old }
-    ensures write_fault { IsErrOf result Stop.WriteFault → FailsLast W.written W.faults out.old out.new }
-    ensures no_write_fault { ¬ (IsErrOf result Stop.WriteFault) → W.faults out.new ≡ W.faults out.old }
+    ensures read_fault { IsErrOf result Stop.ReadFault → FailsLast S.left S.faults wire.old.input.now wire.new.input.now }
+    ensures no_read_fault { ¬ (IsErrOf result Stop.ReadFault)
+        → S.faults wire.new.input.now ≡ S.faults wire.old.input.now }
+    ensures write_fault { IsErrOf result Stop.WriteFault → FailsLast W.written W.faults wire.old.out.now wire.new.out.now }
+    ensures no_write_fault { ¬ (IsErrOf result Stop.WriteFault) → W.faults wire.new.out.now ≡ W.faults wire.old.out.now }
+    ensures input { wire.new.input.ghost_name ≡ wire.old.input.ghost_name }
+    ensures out { wire.new.out.ghost_name ≡ wire.old.out.ghost_name }
 {
-    let mut framing = LineFraming::new(alloc)?;
-    let mut wire = Duplex { input, out };
     let intake = Intake {
         alloc,
         most: MAX_INPUT,
     };
-    ended_as(serve(rt, intake, office, &mut framing, &mut wire, clock))
+    ended_as(serve(rt, intake, office, framing, wire, clock))
 }
 
 // What a run is stopped as, by how serving its lines ended.
