@@ -1,6 +1,6 @@
 -- Frames one after the other.
 use Rattle.std.proofs.Common.{◌≡◌, ℕ, List, [], ◌∷◌, ◌++◌, length, Option, None, Some, refl, sym, ap, ◌∙◌, subst, append_assoc, arith}
-use Rattle.request_loop.specs.Frames.{Frames, GoesOn, Rules, asks_of, texts_of}
+use Rattle.request_loop.specs.Frames.{AreRefused, Frames, GoesOn, Rules, asks_of, texts_of}
 use Rattle.request_loop.specs.declared.frames.Want.{Want}
 
 -- whole frames stay where more bytes come
@@ -41,3 +41,33 @@ texts_join rules (Some want ∷ frames) more (reply ∷ replies) others same =
     let rest : length replies ≡ length (asks_of frames) = omega (arith, same) in
     ap (λ (bytes : List ℕ). rules.text want reply ++ bytes) (texts_join rules frames more replies others rest)
     ∙ sym (append_assoc (rules.text want reply) (texts_of rules frames replies) (texts_of rules more others))
+
+-- ---- frames that the framing refuses
+
+pub refused_join : {W P E : Type 0} (rules : Rules W P E) (frames more : List (Option (Want W E))) (replies others : List P)
+    → AreRefused rules frames replies → AreRefused rules more others
+    → AreRefused rules (frames ++ more) (replies ++ others)
+refused_join rules [] more [] others first second = second
+refused_join rules [] more (reply ∷ replies) others first second = absurd first
+refused_join rules (None ∷ frames) more replies others first second =
+    refused_join rules frames more replies others first second
+refused_join rules (Some want ∷ frames) more [] others first second = absurd first
+refused_join rules (Some want ∷ frames) more (reply ∷ replies) others first second =
+    (first.0, refused_join rules frames more replies others first.1 second)
+
+-- each ask has its reply
+pub refused_length : {W P E : Type 0} (rules : Rules W P E) (frames : List (Option (Want W E))) (replies : List P)
+    → AreRefused rules frames replies → length replies ≡ length (asks_of frames)
+refused_length rules [] [] are = refl
+refused_length rules [] (reply ∷ replies) are = absurd are
+refused_length rules (None ∷ frames) replies are = refused_length rules frames replies are
+refused_length rules (Some want ∷ frames) [] are = absurd are
+refused_length rules (Some want ∷ frames) (reply ∷ replies) are =
+    let rest : length replies ≡ length (asks_of frames) = refused_length rules frames replies are.1 in omega (arith, rest)
+
+-- and so their texts join
+pub refused_texts : {W P E : Type 0} (rules : Rules W P E) (frames more : List (Option (Want W E))) (replies others : List P)
+    → AreRefused rules frames replies
+    → texts_of rules (frames ++ more) (replies ++ others) ≡ texts_of rules frames replies ++ texts_of rules more others
+refused_texts rules frames more replies others are =
+    texts_join rules frames more replies others (refused_length rules frames replies are)

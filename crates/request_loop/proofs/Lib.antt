@@ -6,6 +6,7 @@ pub mod Sending
 pub mod FrameLists
 mod Filling
 pub mod Running
+pub mod Parts
 mod Refusing
 mod Ending
 mod Completing
