@@ -27,7 +27,7 @@ use Rattle.program_words.specs.Words.{Invocation, to_answer_lines, to_check, to_
 use Rattle.leireg_run.specs.Status.{end_status, stop_status}
 use Rattle.leireg_run.specs.declared.status.Stop.{Stop}
 use Rattle.leireg_run.specs.declared.status.Stop.TheVariants as stops
-use Rattle.lei_office.proofs.Counting.{none_told}
+use Rattle.lei_office.proofs.Counting.{none_reported}
 
 -- what was read of told bytes, to their end
 told_read : (bytes read : List ℕ) (left : Option (List ℕ)) → Loses (Some bytes) left read → IsAtEnd left → read ≡ bytes
@@ -48,7 +48,7 @@ exactly from bytes course before now first answered rose still lacks =
     let asks = asks_of_lines (lines bytes) in
     let E : OfficeState → Type 0 = λ office. course.replies ≡ replies_to office asks course.moments in
     subst E first (exact asks course.first course.last course.moments course.replies answered.session lacks
-    (none_told course.replies before now rose still))
+    (none_reported course.replies before now rose still))
 
 complete_of : (may : Option KeptTables → Type 0) (from : OfficeState) (bytes : List ℕ) (before after : Outside) (course : Course) (status : ℕ) → status ≡ 0
     → Opens may before.kept from → IsAtEnd after.left → course.first ≡ from → Leads before course after

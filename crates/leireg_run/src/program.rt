@@ -1,10 +1,13 @@
 //! The program's run, from its words, its inputs, its output, its keeper and its clock to its status.
-ghost use Rattle.std.specs.Prelude.{◌≡◌, ◌≢◌, ◌⊎◌, [], None, Some, Ok, false, Option, map, string_bytes, IsErrOf};
+ghost use Rattle.std.specs.Prelude.{◌≡◌, ◌≢◌, ◌⊎◌, [], None, Some, Ok, false, Option, map, string_bytes, IfErr, IfOk, IsErrOf};
 ghost use Rattle.lei_outside.specs.Count.{Rose};
 ghost use Rattle.lei_outside.specs.Faults.{FailsLast};
-ghost use Rattle.lei_outside.specs.Keeping.{KeptTables};
+ghost use Rattle.lei_outside.specs.Keeping.{KeptTables, Stays};
 ghost use Rattle.lei_outside.specs.Told.{Grows};
 ghost use Rattle.register_history.specs.Kept.{Keeps};
+ghost use Rattle.register_words.specs.Limits.{standard};
+ghost use Rattle.lei_office.specs.Offices.{FaultRose, IsRefused, keeper_back};
+ghost use Rattle.leireg_run.specs.Opened.{IsOpened};
 ghost use Rattle.leireg_run.specs.Ends.{RunsFrom, RunsLines, Does, DoesIfRead, Completes, IsDamageTold, IsUnopened, MayTell, TellsDamage, damage_text};
 ghost use Rattle.line_reading.specs.LineFrames.{Holds};
 ghost use Rattle.leireg_run.specs.Outside.{outside};
@@ -166,11 +169,9 @@ fn run_lines<R: Threads + Sync, S: Source, W: Sink, K: Keeper, C: Clock>(
     let Ok(mut framing) = LineFraming::new(alloc) else {
         return (Err(Stop::NoMemory), keeper);
     };
-    match Office::open(rt, alloc, keeper, Limits::standard()) {
+    match open_office(rt, alloc, keeper) {
         Ok(mut office) => {
-            let mut wire = Duplex { input, out };
-            let ended = serve_lines(rt, alloc, &mut office, &mut framing, &mut wire, clock);
-            let Duplex { input: _, out: _ } = wire;
+            let ended = answer_input(rt, &mut office, &mut framing, input, out, clock);
             (ended, office.close())
         }
         Err(OpenFault::KeeperFault(keeper)) => (Err(Stop::KeeperFault), keeper),
@@ -194,10 +195,51 @@ fn tell_damage<W: Sink>(damage: &Damage, out: &mut W) -> Stop
     }
 }
 
-// Answers the lines of an input, by a framing that has read nothing.
-fn serve_lines<R: Threads + Sync, S: Source, W: Sink, K: Keeper, C: Clock>(
+// The office of what the keeper has, under the standard limits. Where it can't be opened, the keeper comes back.
+fn open_office<R: Threads + Sync, K: Keeper>(
     rt: &R,
     alloc: Global,
+    keeper: K,
+) -> Result<Office<K>, OpenFault<K>>
+    ensures opened { IfOk result (λ office. IsOpened (K.tables office.keeper) office.office) }
+    ensures told { IfOk result (λ office. Stays (K.tables keeper) (K.tables office.keeper)) }
+    ensures faultless { IfOk result (λ office. K.faults office.keeper ≡ K.faults keeper) }
+    ensures refused { IfErr result (IsRefused standard K.tables) }
+    ensures same { IfErr result (λ fault. Stays (K.tables keeper) (K.tables (keeper_back fault))) }
+    ensures failed { IfErr result (λ fault. FaultRose (K.faults keeper) (K.faults (keeper_back fault)) fault) }
+{
+    Office::open(rt, alloc, keeper, Limits::standard())
+}
+
+// Answers the lines of an input, by a framing that has read nothing.
+fn answer_input<R: Threads + Sync, S: Source, W: Sink, K: Keeper, C: Clock>(
+    rt: &R,
+    office: &mut Office<K>,
+    framing: &mut LineFraming,
+    input: &mut S,
+    out: &mut W,
+    clock: &mut C,
+) -> Result<(), Stop>
+    requires holds { Holds framing.old.skips framing.old.seen [] [] }
+    requires none_waits { framing.old.refusals ≡ [] }
+    ensures runs { (kept : Option KeptTables) → Keeps kept office.new.office → RunsFrom office.old.office
+        (outside (S.left input.old) (C.given clock.old) (W.written out.old) (K.tables office.old.keeper) (K.faults office.old.keeper))
+        (outside (S.left input.new) (C.given clock.new) (W.written out.new) kept (K.faults office.new.keeper))
+        (end_status result) }
+    ensures read_fault { IsErrOf result Stop.ReadFault → FailsLast S.left S.faults input.old input.new }
+    ensures no_read_fault { ¬ (IsErrOf result Stop.ReadFault) → S.faults input.new ≡ S.faults input.old }
+    ensures write_fault { IsErrOf result Stop.WriteFault → FailsLast W.written W.faults out.old out.new }
+    ensures no_write_fault { ¬ (IsErrOf result Stop.WriteFault) → W.faults out.new ≡ W.faults out.old }
+{
+    let mut wire = Duplex { input, out };
+    let ended = serve_lines(rt, office, framing, &mut wire, clock);
+    let Duplex { input: _, out: _ } = wire;
+    ended
+}
+
+// Answers the lines that a wire gives, by a framing that has read nothing.
+fn serve_lines<R: Threads + Sync, S: Source, W: Sink, K: Keeper, C: Clock>(
+    rt: &R,
     office: &mut Office<K>,
     framing: &mut LineFraming,
     wire: &mut Duplex<'_, S, W>,
@@ -220,7 +262,7 @@ fn serve_lines<R: Threads + Sync, S: Source, W: Sink, K: Keeper, C: Clock>(
     ensures out { wire.new.out.ghost_name ≡ wire.old.out.ghost_name }
 {
     let intake = Intake {
-        alloc,
+        alloc: framing.alloc,
         most: MAX_INPUT,
     };
     ended_as(serve(rt, intake, office, framing, wire, clock))
