@@ -80,6 +80,7 @@ impl<L: Link> Wire for L {
 }
 
 /// A wire that reads from a source and writes to a sink, both of them lent.
+#[derive(Drop)]
 pub struct Duplex<'a, S, W> {
     pub input: &'a mut S,
     pub out: &'a mut W,
