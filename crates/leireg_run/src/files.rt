@@ -57,7 +57,7 @@ fn read_block<S: Source>(
     ensures failed { OnErr result (FailsLast S.left S.faults input.old input.new) }
 {
     let end = most.min(BLOCK);
-    input.read(&mut block[..end])
+    input.read(&mut block[0..end])
 }
 
 // The memory that one read fills.

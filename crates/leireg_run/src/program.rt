@@ -232,9 +232,7 @@ fn answer_input<R: Threads + Sync, S: Source, W: Sink, K: Keeper, C: Clock>(
     ensures no_write_fault { ¬ (IsErrOf result Stop.WriteFault) → W.faults out.new ≡ W.faults out.old }
 {
     let mut wire = Duplex { input, out };
-    let ended = serve_lines(rt, office, framing, &mut wire, clock);
-    let Duplex { input: _, out: _ } = wire;
-    ended
+    serve_lines(rt, office, framing, &mut wire, clock)
 }
 
 // Answers the lines that a wire gives, by a framing that has read nothing.

@@ -1,13 +1,13 @@
 -- Frames of lines, one after the other.
-use Rattle.std.proofs.Common.{◌≡◌, ◌<◌, ◌≤◌, ◌+◌, suc, ℕ, List, [], ◌∷◌, ◌++◌, length, take, drop, Bool, true, false, cond, eqb, Option, None, Some, inl, inr, refl, sym, ap, ◌∙◌, subst, arith, length-drop}
+use Rattle.std.proofs.Common.{◌≡◌, ◌<◌, ◌≤◌, ◌+◌, ℕ, List, [], ◌∷◌, ◌++◌, length, take, drop, Bool, true, false, cond, eqb, Option, None, Some, inl, inr, refl, sym, ap, ◌∙◌, subst, arith, length-drop}
 use Rattle.std.proofs.lemmas.Bool.Decides.{nat_tests}
 use Rattle.std.proofs.lemmas.List.{append-nil, drop-drop}
 use Rattle.register_words.specs.declared.reply.Reply.{Reply}
 use Rattle.register_words.specs.declared.reply.Reply.TheVariants.{Words}
 use Rattle.register_words.specs.declared.request.Asked.{Asked}
 use Rattle.register_words.specs.declared.request.Asked.TheVariants.{Refuse}
-use Rattle.request_loop.specs.Frames.{AreRefused, GoesOn, asks_of, texts_of}
-use Rattle.request_loop.proofs.FrameLists.{frames_join, frames_one, texts_join}
+use Rattle.request_loop.specs.Frames.{AreRefused, GoesOn, texts_of}
+use Rattle.request_loop.proofs.FrameLists.{frames_join, frames_one, refused_join, refused_texts}
 use Rattle.request_loop.specs.declared.frames.Want.{Want}
 use Rattle.line_reading.specs.Lines.{Ends, Line, line_of}
 use Rattle.line_reading.specs.LineFrames.{Gathers, IsLine, TakesLine, line_rules, want_of, wanted}
@@ -20,9 +20,6 @@ abbrev pub Frame : Type 0
 Frame = Option (Want Asked NoEnd)
 
 -- ---- what one line wants
-
-want_with : Bool → Line → Frame
-want_with is_empty line = cond is_empty None (Some (wanted (asked line)))
 
 pub wants_nothing : (line : Line) → length line ≡ 0 → want_of line ≡ None
 wants_nothing line none =
@@ -41,25 +38,6 @@ goes_with false what = refl
 pub goes_on : (line : Line) → GoesOn (want_of line)
 goes_on line = goes_with (eqb (length line) 0) (asked line)
 
--- ---- frames that are refused
-
-refused_join : (xs ys : List Frame) (rs ss : List Reply) → AreRefused line_rules xs rs → AreRefused line_rules ys ss
-    → AreRefused line_rules (xs ++ ys) (rs ++ ss)
-refused_join [] ys [] ss first second = second
-refused_join [] ys (reply ∷ rs) ss first second = absurd first
-refused_join (None ∷ xs) ys rs ss first second = refused_join xs ys rs ss first second
-refused_join (Some want ∷ xs) ys [] ss first second = absurd first
-refused_join (Some want ∷ xs) ys (reply ∷ rs) ss first second = (first.0, refused_join xs ys rs ss first.1 second)
-
--- each has its reply
-refused_length : (frames : List Frame) (replies : List Reply) → AreRefused line_rules frames replies
-    → length replies ≡ length (asks_of frames)
-refused_length [] [] refused = refl
-refused_length [] (reply ∷ replies) refused = absurd refused
-refused_length (None ∷ frames) replies refused = refused_length frames replies refused
-refused_length (Some want ∷ frames) [] refused = absurd refused
-refused_length (Some want ∷ frames) (reply ∷ replies) refused = ap suc (refused_length frames replies refused.1)
-
 -- ---- lines that are refused
 
 pub gathers_nothing : (bytes texts : List ℕ) → texts ≡ [] → Gathers bytes bytes texts
@@ -77,10 +55,9 @@ gathers_one bytes mid rest texts texts_now frame replies before is goes refused 
       replies = before.replies ++ replies;
       are = frames_join line_rules bytes mid before.frames (frame ∷ []) rest before.are
           (frames_one line_rules mid frame rest is goes);
-      refused = refused_join before.frames (frame ∷ []) before.replies replies before.refused refused;
+      refused = refused_join line_rules before.frames (frame ∷ []) before.replies replies before.refused refused;
       texts_are = more ∙ (ap (λ xs. xs ++ texts_of line_rules (frame ∷ []) replies) before.texts_are
-          ∙ sym (texts_join line_rules before.frames (frame ∷ []) before.replies replies
-          (refused_length before.frames before.replies before.refused)));
+          ∙ sym (refused_texts line_rules before.frames (frame ∷ []) before.replies replies before.refused));
     }
 
 pub gathers_line : (bytes mid part rest texts texts_now : List ℕ) → Gathers bytes mid texts → Ends mid part rest
