@@ -4,3 +4,5 @@ pub mod ComparedPages
 pub mod Leading
 pub mod ReplayedEntries
 pub mod ReplayedPages
+pub mod Counting
+pub mod Sessions

@@ -1,2 +1,4 @@
 pub mod Offices
 pub mod Opening
+pub mod Faults
+pub mod Answering

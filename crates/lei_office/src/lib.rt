@@ -1,6 +1,7 @@
 //! The office of the register: what it answers to requests, and how it is opened over what a keeper has.
 #![tactic(auto)]
 
+mod answering;
 mod comparing;
 mod damage;
 mod office;

@@ -1,0 +1,51 @@
+-- An office as whoever answers in a session.
+use Rattle.std.specs.Prelude.{◌≡◌, ◌≢◌, ℕ, ℤ, List, [], ◌∷◌}
+use Rattle.register_history.specs.Legal.{AskStep}
+use Rattle.register_history.specs.State.{OfficeState}
+use Rattle.register_words.specs.Refusals.{refusal_status_code}
+use Rattle.register_words.specs.Requests.{IsNumbered, TakesMemoryToRead}
+use Rattle.register_words.specs.declared.reply.Refusal.TheVariants.{NoMemory}
+use Rattle.register_words.specs.declared.reply.Reply.{Reply}
+use Rattle.register_words.specs.declared.reply.Reply.TheVariants.{Words}
+use Rattle.register_words.specs.declared.request.Asked.{Asked}
+use Rattle.register_words.specs.declared.request.Asked.TheVariants.{Ask, Refuse}
+use Rattle.request_loop.specs.Counts.{RoseBy}
+use Rattle.lei_office.specs.Faults.{keeper_faults}
+use Rattle.lei_office.specs.Offices.{KeptOffice}
+
+-- An office, and how many calls of its keeper have failed.
+pub record CountedOffice : Type 0 where
+  pub office : OfficeState
+  pub faults : ℕ
+
+-- An office with its keeper as such, by the keeper's count.
+abbrev pub counted : {K : Type 0} → (K → ℕ) → KeptOffice K → CountedOffice
+counted faults kept = record { office = kept.office; faults = faults kept.keeper }
+
+-- What may be asked: a request whose number lies in its range. A refusal of the reader is no fault of the keeper.
+abbrev pub MayBeAsked : Asked → Type 0
+MayBeAsked (Ask request) = IsNumbered request
+MayBeAsked (Refuse refusal) = refusal_status_code refusal ≢ 503
+
+-- What was asked got this reply, at these moments, by one step from one office to the other. The reply is KEEPER_FAULT only
+-- where a call of the keeper failed.
+pub record OfficeStep (old : CountedOffice) (asked : Asked) (moments : List ℤ) (reply : Reply) (new : CountedOffice) : Type 0
+  where
+    pub made : AskStep old.office asked moments reply new.office
+    pub refuses : RoseBy (keeper_faults (reply ∷ [])) old.faults new.faults
+
+-- The same, of whoever has such an office.
+abbrev pub StepsBy : {A : Type 0} → (A → CountedOffice) → A → Asked → List ℤ → Reply → A → Type 0
+StepsBy part old asked moments reply new = OfficeStep (part old) asked moments reply (part new)
+
+-- ---- what readers make of requests
+
+-- Where there is no memory for the body of an upload, its refusal for that may be read in its place.
+abbrev pub ReadsAs : Asked → Asked → Type 0
+ReadsAs (Ask request) read = TakesMemoryToRead request × (read ≡ Refuse NoMemory)
+ReadsAs (Refuse refusal) read = ⊥
+
+-- A refusal of the reader is its own reply. None reports a fault of the keeper.
+abbrev pub RefusesBy : Asked → Reply → Type 0
+RefusesBy (Ask request) reply = ⊥
+RefusesBy (Refuse refusal) reply = (reply ≡ Words refusal) × (refusal_status_code refusal ≢ 503)
