@@ -6,16 +6,15 @@ use Rattle.register_words.specs.declared.request.Asked.{Asked}
 use Rattle.register_words.specs.declared.request.Asked.TheVariants.{Ask, Refuse}
 use Rattle.request_loop.specs.Frames.{Fits}
 use Rattle.request_loop.specs.declared.frames.Want.{Want}
-use Rattle.lei_office.specs.Answering.{CountedOffice, MayBeAsked, OfficeStep, counted}
+use Rattle.lei_office.specs.Answering.{CountedOffice, MayBeAsked, OfficeStep, StepsBy}
 use Rattle.lei_office.specs.Answering as answering
-use Rattle.lei_office.specs.Offices.{KeptOffice}
-use Rattle.lei_office.proofs.Sessions.{may_be_read, reads_so, refuses_so}
+use Rattle.lei_office.proofs.Sessions.{office_fits, reads_so}
 use Rattle.line_reading.specs.LineFrames.{IsReadOf, ReadsAs, RefusesBy, line_rules, want_of, wanted}
 use Rattle.line_reading.specs.Lines.{Line, line_of}
 use Rattle.line_reading.specs.Requests.{asked}
 use Rattle.line_reading.specs.declared.framing.NoEnd.{NoEnd}
 use Rattle.line_reading.proofs.Asking.{AsksInRange, in_range}
-use Rattle.line_reading.proofs.LineRuns.{SameSteps, Steps}
+use Rattle.line_reading.proofs.LineRuns.{SameSteps}
 
 -- ---- what may be asked
 
@@ -55,16 +54,9 @@ pub reads_office : SameSteps OfficeStep
 reads_office meant read old new moments reply reads step =
     reads_so meant read old new moments reply (read_so meant read reads) step
 
--- the steps of an office with its keeper
-abbrev pub keeper_step : {K : Type 0} → (K → ℕ) → Steps (KeptOffice K)
-keeper_step faults old asked moments reply new = OfficeStep (counted faults old) asked moments reply (counted faults new)
-
-pub lines_fit : {K : Type 0} (faults : K → ℕ) → Fits MayBeAsked (keeper_step faults) line_rules
-lines_fit {K} faults = record {
-  whole = λ bytes want rest is. line_asked (line_of is.0) want is.2;
-  ends = λ bytes want is. last_asked bytes want is;
-  reads = λ meant read reads. may_be_read meant read (read_so meant read reads);
-  same = λ meant read old new moments reply reads step.
-      reads_office meant read (counted faults old) (counted faults new) moments reply reads step;
-  refused = λ what who reply refuses. refuses_so what (counted faults who) reply (refused_so what reply refuses);
-}
+-- so what lines ask fits whoever has an office, where what else it asks for holds
+pub lines_fit : {A : Type 0} (S : Type 0) (part : A → CountedOffice) → S
+    → Fits (λ what. MayBeAsked what × S) (StepsBy part) line_rules
+lines_fit S part holds =
+    office_fits S part line_rules holds (λ bytes want rest is. line_asked (line_of is.0) want is.2)
+    (λ bytes want is. last_asked bytes want is) read_so refused_so

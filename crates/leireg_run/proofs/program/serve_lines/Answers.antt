@@ -4,7 +4,7 @@ use Rattle.register_history.specs.State.{OfficeState}
 use Rattle.request_loop.proofs.Failing.{fails_at}
 use Rattle.request_loop.proofs.Parts.{progress_of, serves_of}
 use Rattle.request_loop.specs.Serving.{progress}
-use Rattle.lei_office.specs.Answering.{OfficeStep, counted}
+use Rattle.lei_office.specs.Answering.{OfficeStep, StepsBy, counted}
 use Rattle.line_reading.specs.LineFrames.{line_rules}
 use Rattle.leireg_run.specs.Ends.{RunsFrom}
 use Rattle.leireg_run.specs.Outside.{outside}
@@ -12,12 +12,12 @@ use Rattle.leireg_run.specs.Runs.{input_limit}
 use Rattle.leireg_run.specs.Status.{end_status}
 use Rattle.leireg_run.specs.declared.status.Stop.{Stop}
 use Rattle.leireg_run.proofs.Ending.{runs_served}
-use Rattle.leireg_run.proofs.Fitting.{keeper_step, lines_fit}
+use Rattle.leireg_run.proofs.Fitting.{lines_fit}
 use Rattle.leireg_run.proofs.Stopping.{only_read_fault, only_write_fault}
 use Rattle.leireg_run.proofs.program.serve_lines.Goals as goal
 
 pub serve-requires-clause-fits : goal.serve-requires-clause-fits
-serve-requires-clause-fits g c = lines_fit g.K.Keeper.faults
+serve-requires-clause-fits g c = lines_fit _ (counted g.K.Keeper.faults) (record { shared = c.type_bounds.sync-R.shared })
 
 pub returns-clause-runs : goal.returns-clause-runs
 returns-clause-runs g c kept keeps =
@@ -32,8 +32,7 @@ returns-clause-runs g c kept keeps =
     let office_now = c.serve.new.who in
     let start = progress office (given c.args.clock.now) (written wire.out.now) in
     let now = progress office_now (given c.serve.new.clock) (written wire_now.out.now) in
-    let step = keeper_step faults in
-    let serves = serves_of step (counted faults) OfficeStep line_rules (λ old new ask moments reply made. made) input_limit
+    let serves = serves_of (StepsBy (counted faults)) (counted faults) OfficeStep line_rules (λ old new ask moments reply made. made) input_limit
     c.serve.result start now (left wire.input.now) (left wire_now.input.now) c.serve.ensures.serves in
     let R : Result (Unit {0}) Stop → Type 0 = λ result. RunsFrom office.office
     (outside (left wire.input.now) (given c.args.clock.now) (written wire.out.now) (tables office.keeper) (faults office.keeper))
