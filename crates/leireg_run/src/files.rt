@@ -42,11 +42,7 @@ pub fn read_file<S: Source>(alloc: Global, input: &mut S) -> Result<Vec<u8>, Sto
 }
 
 // Reads once, at most a block and at most this many bytes, into the front of a block.
-fn read_block<S: Source>(
-    input: &mut S,
-    block: &mut Vec<u8>,
-    most: usize,
-) -> Result<usize, Failed>
+fn read_block<S: Source>(input: &mut S, block: &mut Vec<u8>, most: usize) -> Result<usize, Failed>
     requires room { vec_len block.old ≡ BLOCK }
     requires some { 0 < most }
     ensures ok { IfOk result (λ count. Fills (S.left input.old) (S.left input.new) [] (take count block.new.items) count most) }
