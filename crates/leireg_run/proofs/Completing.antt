@@ -18,15 +18,16 @@ use Rattle.leireg_run.specs.Applying.{files}
 use Rattle.register_demo.specs.Session.{IsSummary}
 use Rattle.lei_code.specs.Texts.{Text}
 use Rattle.leireg_run.proofs.Applied.{completes_files}
-use Rattle.line_reading.specs.Faults.{RoseBy, keeper_faults}
-use Rattle.line_reading.specs.Limits.{input_limit}
+use Rattle.request_loop.specs.Counts.{RoseBy}
+use Rattle.lei_office.specs.Faults.{keeper_faults}
+use Rattle.leireg_run.specs.Runs.{input_limit}
 use Rattle.leireg_run.specs.Outside.{Course, Leads, Outside}
-use Rattle.line_reading.specs.Runs.{asks_of}
+use Rattle.line_reading.specs.LineRuns.{asks_of_lines}
 use Rattle.program_words.specs.Words.{Invocation, to_answer_lines, to_check, to_make_digits, to_make_up, to_patch, to_serve}
 use Rattle.leireg_run.specs.Status.{end_status, stop_status}
 use Rattle.leireg_run.specs.declared.status.Stop.{Stop}
 use Rattle.leireg_run.specs.declared.status.Stop.TheVariants as stops
-use Rattle.line_reading.proofs.Counting.{none_told}
+use Rattle.lei_office.proofs.Counting.{none_reported}
 
 -- what was read of told bytes, to their end
 told_read : (bytes read : List ℕ) (left : Option (List ℕ)) → Loses (Some bytes) left read → IsAtEnd left → read ≡ bytes
@@ -42,19 +43,19 @@ told_length bytes read (Some left) loses = let whole : length bytes ≡ length (
 exactly : (from : OfficeState) (bytes : List ℕ) (course : Course) (before now : ℕ) → course.first ≡ from
     → AnswersLines (lines bytes) course → RoseBy (keeper_faults course.replies) before now → ¬ (Rose before now)
     → ¬ (Contains course.replies (Words NoMemory))
-    → course.replies ≡ replies_to from (asks_of (lines bytes)) course.moments
+    → course.replies ≡ replies_to from (asks_of_lines (lines bytes)) course.moments
 exactly from bytes course before now first answered rose still lacks =
-    let asks = asks_of (lines bytes) in
+    let asks = asks_of_lines (lines bytes) in
     let E : OfficeState → Type 0 = λ office. course.replies ≡ replies_to office asks course.moments in
     subst E first (exact asks course.first course.last course.moments course.replies answered.session lacks
-    (none_told course.replies before now rose still))
+    (none_reported course.replies before now rose still))
 
 complete_of : (may : Option KeptTables → Type 0) (from : OfficeState) (bytes : List ℕ) (before after : Outside) (course : Course) (status : ℕ) → status ≡ 0
     → Opens may before.kept from → IsAtEnd after.left → course.first ≡ from → Leads before course after
     → AnswersLines (lines bytes) course → IsComplete may bytes before after status
 complete_of may from bytes before after course status is opened ended first leads answered =
     let G : List ℕ → Type 0 = λ texts. Grows before.written after.written texts in
-    let S : OfficeState → Type 0 = λ office. Session office (asks_of (lines bytes)) course.moments course.replies
+    let S : OfficeState → Type 0 = λ office. Session office (asks_of_lines (lines bytes)) course.moments course.replies
     course.last in
     record {
       ok = is;
@@ -149,7 +150,7 @@ only_write stops.NoMemory is = cc
 only_write stops.StoreDamaged is = cc
 only_write stops.InputTooLong is = cc
 
-only_damage : (stop : Stop) → stop_status stop ≡ 7 → stop ≡ stops.StoreDamaged
+pub only_damage : (stop : Stop) → stop_status stop ≡ 7 → stop ≡ stops.StoreDamaged
 only_damage stops.Refused is = cc
 only_damage stops.ReadFault is = cc
 only_damage stops.WriteFault is = cc

@@ -1,6 +1,8 @@
 -- A file that is read block by block.
-use Rattle.std.proofs.Common.{◌≡◌, ℕ, ◌+◌, ◌<◌, List, [], ◌++◌, length, Option, arith, length-append, append-nil, subst, sym, ◌∙◌, Result, Ok, Err}
-use Rattle.lei_outside.specs.Told.{IsAtEnd, Loses}
+use Rattle.std.proofs.Common.{◌≡◌, ℕ, ◌+◌, ◌<◌, ◌≤◌, List, [], ◌++◌, length, take, Option, ap, arith, append_assoc, length-append, append-nil, subst, sym, ◌∙◌, Result, Ok, Err, IfOk}
+use Rattle.std.proofs.lemmas.List.{take-take, take-append-le, length-take-le}
+use Rattle.lei_outside.specs.Told.{IsAtEnd, Loses, Reads}
+use Rattle.request_loop.specs.ReadBuffers.{Fills}
 use Rattle.lei_outside.proofs.Told.{Loses-join, Loses-none}
 use Rattle.std.specs.Result.{IsErrAnd}
 use Rattle.std.specs.Prelude.{IfErr}
@@ -55,3 +57,18 @@ pub stops-short : {A : Type 0} (before after : Option (List ℕ)) (result : Resu
     → IsReadShort before after → IfErr result (IsFileStop before after)
 stops-short before after (Ok file) is short = tt
 stops-short before after (Err stop) is short = (let P : Stop → Type 0 = λ s. IsFileStop before after s in subst P (sym is) short)
+
+-- a read into the front of a block
+pub fills_block : {E : Type 0} (before after : Option (List ℕ)) (result : Result ℕ E) (size most : ℕ)
+    (piece rest beyond : List ℕ) → length piece ≤ size → length piece ≤ most → Reads before after result piece
+    → IfOk result (λ n. Fills before after [] (take n (take size ((piece ++ rest) ++ beyond))) n most)
+fills_block before after (Ok n) size most piece rest beyond fits few reads = (
+  take n piece,
+  length-take-le n piece reads.0,
+  omega (arith, reads.0),
+  reads.1,
+  take-take n size ((piece ++ rest) ++ beyond) (omega (arith, reads.0))
+      ∙ ap (take n) (append_assoc piece rest beyond) ∙ take-append-le n piece (rest ++ beyond) reads.0,
+  reads.2,
+)
+fills_block before after (Err fault) size most piece rest beyond fits few reads = tt

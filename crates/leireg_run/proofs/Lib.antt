@@ -1,4 +1,5 @@
 pub mod Ending
+pub mod Fitting
 pub mod Stopping
 pub mod FileReading
 pub mod Applied

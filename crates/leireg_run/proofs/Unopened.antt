@@ -9,8 +9,9 @@ use Rattle.register_history.specs.Damage.{IsDamage}
 use Rattle.register_words.specs.Limits.{standard}
 use Rattle.register_history.specs.State.{OfficeState}
 use Rattle.leireg_run.specs.Ends.{EndsWith, IsDamageTold, IsUnopened, MayTell, RunsFrom, RunsLines, TellsDamage, damage_text}
-use Rattle.line_reading.specs.Opened.{IsOpened}
-use Rattle.line_reading.specs.Faults.{RoseBy, keeper_faults}
+use Rattle.leireg_run.specs.Opened.{IsOpened}
+use Rattle.request_loop.specs.Counts.{RoseBy}
+use Rattle.lei_office.specs.Faults.{keeper_faults}
 use Rattle.leireg_run.specs.Outside.{Course, Outside, outside}
 use Rattle.leireg_run.specs.Status.{stop_status}
 use Rattle.leireg_run.specs.declared.status.Stop.{Stop}

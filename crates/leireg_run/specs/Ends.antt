@@ -16,14 +16,15 @@ use Rattle.register_history.specs.State.{OfficeState}
 use Rattle.register_history.specs.Legal.{Legal, Session, replies_to}
 use Rattle.register_words.specs.Limits.{standard}
 use Rattle.leireg_run.specs.Codes.{check_line, digits_fault, digits_line, told_status, TellsLine}
-use Rattle.line_reading.specs.WriteBuffer.{IsWritten}
-use Rattle.line_reading.specs.Limits.{input_limit, read_limit}
+use Rattle.request_loop.specs.Wires.{IsSent}
+use Rattle.request_loop.specs.Serving.{read_limit}
 use Rattle.line_reading.specs.Lines.{Line, whole_part}
-use Rattle.line_reading.specs.Moments.{Gives}
-use Rattle.line_reading.specs.Opened.{IsOpened}
+use Rattle.request_loop.specs.Moments.{ClockGives}
+use Rattle.leireg_run.specs.Opened.{IsOpened}
 use Rattle.leireg_run.specs.Outside.{Course, Leads, Outside}
 use Rattle.line_reading.specs.Replies.{reply_texts}
-use Rattle.line_reading.specs.Runs.{asks_of, Answers, AnswersInPart}
+use Rattle.line_reading.specs.LineRuns.{asks_of_lines}
+use Rattle.leireg_run.specs.Runs.{Answers, AnswersCutShort, input_limit}
 use Rattle.leireg_run.specs.declared.status.Stop.{Stop}
 use Rattle.leireg_run.specs.declared.status.Stop.TheVariants as stops
 use Rattle.register_demo.specs.Session.{IsSummary}
@@ -36,14 +37,14 @@ use Rattle.program_words.specs.Words.{Invocation, to_answer_lines, to_check, to_
 -- texts of the replies in order.
 abbrev pub AnswersLines : List Line → Course → Type 0
 AnswersLines asked_lines course =
-    Answers course.first (asks_of asked_lines) course.moments course.replies course.written course.last
+    Answers course.first (asks_of_lines asked_lines) course.moments course.replies course.written course.last
 
 -- A front of the lines was answered so, and no line behind it: of the last reply's text perhaps a front alone is
 -- written.
 abbrev pub AnswersSome : List Line → Course → Type 0
 AnswersSome all_lines course =
     (front : List Line) × (rest : List Line) × (all_lines ≡ front ++ rest)
-    × AnswersInPart course.first (asks_of front) course.moments course.replies course.written course.last
+    × AnswersCutShort course.first (asks_of_lines front) course.moments course.replies course.written course.last
 
 -- Fewer bytes were read than end a run.
 abbrev pub IsShort : Course → Type 0
@@ -118,7 +119,7 @@ damage_text damage = codes "STORE_DAMAGED " ++ (decimal damage.entry
 pub record TellsDamage {E : Type 0} (before after : Outside) (result : Result (Unit {0}) E) : Type 0 where
   pub damage : Damage
   pub is : IfSome after.kept (λ tables. IsDamage standard tables damage)
-  pub written : IsWritten before.written after.written (damage_text damage) result
+  pub written : IsSent before.written after.written (damage_text damage) result
 
 -- Nothing was read, and the keeper has what it had. Status 5: a call of the keeper failed, and with no other status did one.
 -- Status 6: memory was wanted. Status 7: what the keeper has is damaged, and that is told.
@@ -140,7 +141,7 @@ IsUnopened status = (status ≡ 5) ⊎ (status ≡ 7)
 -- memory.
 abbrev pub IsDamageTold : Option (List ℕ) → Option (List ℕ) → Text → Stop → Type 0
 IsDamageTold before after text stop =
-    ((stop ≡ stops.StoreDamaged) × (told : Result (Unit {0}) (Unit {0})) × IsWritten before after text told)
+    ((stop ≡ stops.StoreDamaged) × (told : Result (Unit {0}) (Unit {0})) × IsSent before after text told)
     ⊎ ((stop ≡ stops.NoMemory) × WritesFront before after text)
 
 -- What a run over lines does: the store is opened and the lines are answered, or it isn't.
@@ -192,14 +193,14 @@ pub record IsComplete (may : Option KeptTables → Type 0) (bytes : List ℕ) (b
     pub opened : Opens may before.kept first
     pub ended : IsAtEnd after.left
     pub moments : List ℤ
-    pub gives : Gives before.given after.given moments
+    pub gives : ClockGives before.given after.given moments
     pub replies : List Reply
     pub office : OfficeState
-    pub session : Session first (asks_of (lines bytes)) moments replies office
-    pub writes : Grows before.written after.written (reply_texts (asks_of (lines bytes)) replies)
+    pub session : Session first (asks_of_lines (lines bytes)) moments replies office
+    pub writes : Grows before.written after.written (reply_texts (asks_of_lines (lines bytes)) replies)
     pub keeps : Keeps after.kept office
     pub exact : ¬ (Rose before.faults after.faults) → ¬ (Contains replies (Words NoMemory))
-        → replies ≡ replies_to first (asks_of (lines bytes)) moments
+        → replies ≡ replies_to first (asks_of_lines (lines bytes)) moments
 
 -- Where no source and no sink fails and no memory is wanting, all is done: an input that is told and short enough is
 -- answered whole, unless a call of the keeper failed while its store was opened, or the store is damaged, which is told

@@ -2,6 +2,8 @@ pub mod Codes
 pub mod Status
 pub mod Files
 pub mod Applying
+pub mod Opened
+pub mod Runs
 pub mod Outside
 pub mod Words
 pub mod Ends

@@ -5,8 +5,9 @@ use Rattle.lei_outside.specs.Told.{Grows, Loses}
 use Rattle.register_words.specs.declared.reply.Reply.{Reply}
 use Rattle.register_history.specs.Kept.{Keeps}
 use Rattle.register_history.specs.State.{OfficeState}
-use Rattle.line_reading.specs.Faults.{RoseBy, keeper_faults}
-use Rattle.line_reading.specs.Moments.{Gives}
+use Rattle.request_loop.specs.Counts.{RoseBy}
+use Rattle.request_loop.specs.Moments.{ClockGives}
+use Rattle.lei_office.specs.Faults.{keeper_faults}
 
 -- What the devices of a run tell at one time: the bytes that the input has left, the moments that the clock has
 -- given, the bytes that were written to the output, what the keeper has kept, and how many calls of the keeper have
@@ -43,7 +44,7 @@ pub record Course : Type 0 where
 -- told in the replies. A device that tells nothing says nothing of it.
 pub record Leads (before : Outside) (course : Course) (after : Outside) : Type 0 where
   pub reads : Loses before.left after.left course.read
-  pub gives : Gives before.given after.given course.moments
+  pub gives : ClockGives before.given after.given course.moments
   pub writes : Grows before.written after.written course.written
   pub keeps : Keeps after.kept course.last
   pub refuses : RoseBy (keeper_faults course.replies) before.faults after.faults

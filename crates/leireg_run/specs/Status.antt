@@ -3,6 +3,8 @@ use Rattle.std.specs.Prelude.{ℕ, List, [], ◌∷◌, codes, get_or, Result, O
 use Rattle.lei_code.specs.Texts.{Text}
 use Rattle.lei_outside.specs.declared.faults.SinkFault.{SinkFault}
 use Rattle.lei_outside.specs.declared.faults.SinkFault.TheVariants.{Failed, NoMemory}
+use Rattle.request_loop.specs.declared.frames.Ended.{Ended}
+use Rattle.line_reading.specs.declared.framing.NoEnd.{NoEnd}
 use Rattle.leireg_run.specs.declared.status.Stop.{Stop}
 use Rattle.leireg_run.specs.declared.status.Stop.TheVariants as stop
 
@@ -25,6 +27,15 @@ stop_of NoMemory = stop.NoMemory
 abbrev pub end_status : Result (Unit {0}) Stop → ℕ
 end_status (Ok done) = 0
 end_status (Err stopped) = stop_status stopped
+
+-- What a run over lines is stopped as, by how serving them ended.
+abbrev pub ended_as : Ended NoEnd → Result (Unit {0}) Stop
+ended_as Ended.AtEnd = Ok (tt {0})
+ended_as (Ended.By end) = elim end [ ]
+ended_as Ended.ReadFault = Err stop.ReadFault
+ended_as Ended.WriteFault = Err stop.WriteFault
+ended_as Ended.InputLimit = Err stop.InputTooLong
+ended_as Ended.NoMemory = Err stop.NoMemory
 
 -- The words of the statuses from 0 on.
 abbrev pub status_words : List Text

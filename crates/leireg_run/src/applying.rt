@@ -2,7 +2,7 @@
 ghost use Rattle.std.specs.Prelude.{◌≡◌, Ok, Err, IsErrOf};
 ghost use Rattle.lei_outside.specs.Faults.{FailsLast};
 ghost use Rattle.leireg_run.specs.Applying.{AppliesFiles, FailsOneOf, TellsAnswer, TellsOf, answer_text, files};
-ghost use Rattle.line_reading.specs.WriteBuffer.{IsWritten};
+ghost use Rattle.request_loop.specs.Wires.{IsSent};
 ghost use Rattle.leireg_run.specs.Status.{end_status};
 
 use crate::codes::write_pieces;
@@ -81,7 +81,7 @@ fn refuse<W: Sink>(fault: ApplyFault, out: &mut W) -> Result<(), Stop>
 }
 
 fn write_refusal<W: Sink>(fault: ApplyFault, out: &mut W) -> Result<(), SinkFault>
-    ensures written { IsWritten (W.written out.old) (W.written out.new) (answer_text (Err fault)) result }
+    ensures written { IsSent (W.written out.old) (W.written out.new) (answer_text (Err fault)) result }
     ensures kept { ¬ (IsErrOf result SinkFault.Failed) → W.faults out.new ≡ W.faults out.old }
     ensures failed { IsErrOf result SinkFault.Failed → FailsLast W.written W.faults out.old out.new }
 {

@@ -5,7 +5,7 @@ ghost use Rattle.lei_code.specs.Digits.{digits};
 ghost use Rattle.lei_outside.specs.Faults.{FailsLast};
 ghost use Rattle.lei_code.specs.Fault.{fault_of};
 ghost use Rattle.leireg_run.specs.Codes.{check_line, digits_fault, digits_line, line_or, TellsLine};
-ghost use Rattle.line_reading.specs.WriteBuffer.{IsWritten};
+ghost use Rattle.request_loop.specs.Wires.{IsSent};
 ghost use Rattle.leireg_run.specs.Status.{end_status};
 
 use crate::status::Stop;
@@ -60,7 +60,7 @@ fn refuse<W: Sink>(fault: LeiFault, out: &mut W) -> Result<(), Stop>
 }
 
 fn write_refusal<W: Sink>(fault: LeiFault, out: &mut W) -> Result<(), SinkFault>
-    ensures written { IsWritten (W.written out.old) (W.written out.new) (line_or [] (Some fault)) result }
+    ensures written { IsSent (W.written out.old) (W.written out.new) (line_or [] (Some fault)) result }
     ensures kept { ¬ (IsErrOf result SinkFault.Failed) → W.faults out.new ≡ W.faults out.old }
     ensures failed { IsErrOf result SinkFault.Failed → FailsLast W.written W.faults out.old out.new }
 {
@@ -77,7 +77,7 @@ fn write_refusal<W: Sink>(fault: LeiFault, out: &mut W) -> Result<(), SinkFault>
 
 /// Writes pieces of a text, one behind the other.
 pub fn write_pieces<W: Sink>(out: &mut W, pieces: &[&[u8]]) -> Result<(), SinkFault>
-    ensures written { IsWritten (W.written out.old) (W.written out.new) (flat_map (λ piece. piece.now) pieces.now) result }
+    ensures written { IsSent (W.written out.old) (W.written out.new) (flat_map (λ piece. piece.now) pieces.now) result }
     ensures kept { ¬ (IsErrOf result SinkFault.Failed) → W.faults out.new ≡ W.faults out.old }
     ensures failed { IsErrOf result SinkFault.Failed → FailsLast W.written W.faults out.old out.new }
 {

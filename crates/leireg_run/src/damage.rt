@@ -1,7 +1,7 @@
 //! What is told of a store that can't be opened.
 ghost use Rattle.std.specs.Prelude.{◌≡◌, IsErrOf};
 ghost use Rattle.lei_outside.specs.Faults.{FailsLast};
-ghost use Rattle.line_reading.specs.WriteBuffer.{IsWritten};
+ghost use Rattle.request_loop.specs.Wires.{IsSent};
 ghost use Rattle.leireg_run.specs.Ends.{damage_text};
 
 use crate::codes::write_pieces;
@@ -10,7 +10,7 @@ use lei_outside::{Sink, SinkFault};
 
 /// Writes the first difference between what a keeper has and what its entries come to, in three lines.
 pub fn write_damage<W: Sink>(damage: &Damage, out: &mut W) -> Result<(), SinkFault>
-    ensures written { IsWritten (W.written out.old) (W.written out.new) (damage_text damage.now) result }
+    ensures written { IsSent (W.written out.old) (W.written out.new) (damage_text damage.now) result }
     ensures kept { ¬ (IsErrOf result SinkFault.Failed) → W.faults out.new ≡ W.faults out.old }
     ensures failed { IsErrOf result SinkFault.Failed → FailsLast W.written W.faults out.old out.new }
 {

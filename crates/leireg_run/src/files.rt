@@ -1,11 +1,13 @@
 //! Files that are read to their ends.
-ghost use Rattle.std.specs.Prelude.{◌≡◌, ◌++◌, [], vec_len, IfErr, IfOk, IsErrOf, OnOk};
+ghost use Rattle.std.specs.Prelude.{◌≡◌, ◌≤◌, ◌<◌, ◌++◌, [], take, vec_len, IfErr, IfOk, IsErrOf, OnErr, OnOk};
+ghost use Rattle.lei_outside.specs.Told.{Loses};
+ghost use Rattle.request_loop.specs.ReadBuffers.{Fills};
 ghost use Rattle.lei_outside.specs.Faults.{FailsLast};
 ghost use Rattle.leireg_run.specs.Files.{IsFileStop, IsReadWhole};
 
 use crate::status::Stop;
-use lei_outside::{Bytes, NoMemory, Source, SureSource};
-use line_reading::{BLOCK, read_behind};
+use lei_outside::{Bytes, Failed, NoMemory, Source, SureSource};
+use line_reading::BLOCK;
 use std::alloc::Global;
 
 /// The bytes of a file at which its reading ends. This project's profile.
@@ -28,7 +30,7 @@ pub fn read_file<S: Source>(alloc: Global, input: &mut S) -> Result<Vec<u8>, Sto
     let mut block = block(alloc)?;
     let mut file = Vec::new(alloc);
     loop {
-        let count = read_behind(input, &mut block, 0, MAX_FILE - file.len())?;
+        let count = read_block(input, &mut block, MAX_FILE - file.len())?;
         if count == 0 {
             return Ok(file);
         }
@@ -37,6 +39,21 @@ pub fn read_file<S: Source>(alloc: Global, input: &mut S) -> Result<Vec<u8>, Sto
         }
         put_behind(&mut file, &block[..count])?;
     }
+}
+
+// Reads once, at most a block and at most this many bytes, into the front of a block.
+fn read_block<S: Source>(input: &mut S, block: &mut Vec<u8>, most: usize) -> Result<usize, Failed>
+    requires room { vec_len block.old ≡ BLOCK }
+    requires some { 0 < most }
+    ensures ok { IfOk result (λ count. Fills (S.left input.old) (S.left input.new) [] (take count block.new.items) count most) }
+    ensures block { IfOk result (λ count. count ≤ BLOCK) }
+    ensures err { OnErr result (Loses (S.left input.old) (S.left input.new) []) }
+    ensures len { vec_len block.new ≡ vec_len block.old }
+    ensures kept { OnOk result (S.faults input.new ≡ S.faults input.old) }
+    ensures failed { OnErr result (FailsLast S.left S.faults input.old input.new) }
+{
+    let end = most.min(BLOCK);
+    input.read(&mut block[0..end])
 }
 
 // The memory that one read fills.

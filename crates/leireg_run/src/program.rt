@@ -1,14 +1,17 @@
 //! The program's run, from its words, its inputs, its output, its keeper and its clock to its status.
-ghost use Rattle.std.specs.Prelude.{◌≡◌, ◌≢◌, ◌⊎◌, [], None, Some, Ok, false, Option, map, string_bytes, IsErrOf};
+ghost use Rattle.std.specs.Prelude.{◌≡◌, ◌≢◌, ◌⊎◌, [], None, Some, Ok, false, Option, map, string_bytes, IfErr, IfOk, IsErrOf};
 ghost use Rattle.lei_outside.specs.Count.{Rose};
 ghost use Rattle.lei_outside.specs.Faults.{FailsLast};
-ghost use Rattle.lei_outside.specs.Keeping.{KeptTables};
+ghost use Rattle.lei_outside.specs.Keeping.{KeptTables, Stays};
 ghost use Rattle.lei_outside.specs.Told.{Grows};
 ghost use Rattle.register_history.specs.Kept.{Keeps};
+ghost use Rattle.register_words.specs.Limits.{standard};
+ghost use Rattle.lei_office.specs.Offices.{FaultRose, IsRefused, keeper_back};
+ghost use Rattle.leireg_run.specs.Opened.{IsOpened};
 ghost use Rattle.leireg_run.specs.Ends.{RunsFrom, RunsLines, Does, DoesIfRead, Completes, IsDamageTold, IsUnopened, MayTell, TellsDamage, damage_text};
+ghost use Rattle.line_reading.specs.LineFrames.{Holds};
 ghost use Rattle.leireg_run.specs.Outside.{outside};
-ghost use Rattle.line_reading.specs.Reading.{Holds};
-ghost use Rattle.leireg_run.specs.Status.{end_status};
+ghost use Rattle.leireg_run.specs.Status.{end_status, ended_as};
 ghost use Rattle.leireg_run.specs.Applying.{FailsOneOf};
 ghost use Rattle.program_words.specs.Words.{Invocation, IsInRange, invocation_of, to_answer_lines};
 ghost use Rattle.leireg_run.specs.Words.{Mean, invocation_in, reads_input, reads_second, unless_serving};
@@ -19,11 +22,12 @@ use crate::command::command_of;
 use crate::damage::write_damage;
 use crate::demo::tell_demo;
 use crate::status::{NO_MEMORY, OK, Stop, USAGE};
-use lei_office::{Damage, OpenFault};
+use lei_office::{Damage, Limits, Office, OpenFault};
 use lei_outside::{Clock, Keeper, Sink, SinkFault, Source};
-use line_reading::{BLOCK, Reader};
+use line_reading::{LineFraming, NoEnd};
 use program_words::{Command, WordsFault};
 use register_demo::Progress;
+use request_loop::{Duplex, Ended, Intake, serve};
 use std::alloc::Global;
 use std::thread::Threads;
 
@@ -64,6 +68,10 @@ pub fn run<R: Threads + Sync, S: Source, T: Source, W: Sink, K: Keeper, C: Clock
     ensures write_fault { result.0 ≡ 4 → FailsLast W.written W.faults out.old out.new }
     ensures no_write_fault { result.0 ≢ 4 → result.0 ≢ 7 → W.faults out.new ≡ W.faults out.old }
     ensures damage_fault { result.0 ≡ 7 → Rose (W.faults out.old) (W.faults out.new) → FailsLast W.written W.faults out.old out.new }
+    ensures damage_told { result.0 ≡ 7 → ¬ (Rose (W.faults out.old) (W.faults out.new)) → TellsDamage {E = Unit {0}}
+        (outside (S.left input.old) (C.given clock.old) (W.written out.old) (K.tables keeper) (K.faults keeper))
+        (outside (S.left input.new) (C.given clock.new) (W.written out.new) (K.tables result.1) (K.faults result.1))
+        (Ok (tt {0})) }
     ensures complete { (what : Invocation) → Mean words.now what → result.0 ≢ 6
         → ¬ (Rose (S.faults input.old) (S.faults input.new)) → ¬ (Rose (T.faults second.old) (T.faults second.new))
         → ¬ (Rose (W.faults out.old) (W.faults out.new))
@@ -158,10 +166,13 @@ fn run_lines<R: Threads + Sync, S: Source, W: Sink, K: Keeper, C: Clock>(
         (outside (S.left input.new) (C.given clock.new) (W.written out.new) (K.tables result.1) (K.faults result.1))
         (Ok (tt {0})) }
 {
-    match Reader::open(rt, alloc, keeper) {
-        Ok(mut reader) => {
-            let ended = answer_input(rt, &mut reader, input, out, clock);
-            (ended, reader.close())
+    let Ok(mut framing) = LineFraming::new(alloc) else {
+        return (Err(Stop::NoMemory), keeper);
+    };
+    match open_office(rt, alloc, keeper) {
+        Ok(mut office) => {
+            let ended = answer_input(rt, &mut office, &mut framing, input, out, clock);
+            (ended, office.close())
         }
         Err(OpenFault::KeeperFault(keeper)) => (Err(Stop::KeeperFault), keeper),
         Err(OpenFault::StoreDamaged(keeper, damage)) => (Err(tell_damage(&damage, out)), keeper),
@@ -184,41 +195,87 @@ fn tell_damage<W: Sink>(damage: &Damage, out: &mut W) -> Stop
     }
 }
 
-// Answers the lines of an input, with a reader that has read nothing.
+// The office of what the keeper has, under the standard limits. Where it can't be opened, the keeper comes back.
+fn open_office<R: Threads + Sync, K: Keeper>(
+    rt: &R,
+    alloc: Global,
+    keeper: K,
+) -> Result<Office<K>, OpenFault<K>>
+    ensures opened { IfOk result (λ office. IsOpened (K.tables office.keeper) office.office) }
+    ensures told { IfOk result (λ office. Stays (K.tables keeper) (K.tables office.keeper)) }
+    ensures faultless { IfOk result (λ office. K.faults office.keeper ≡ K.faults keeper) }
+    ensures refused { IfErr result (IsRefused standard K.tables) }
+    ensures same { IfErr result (λ fault. Stays (K.tables keeper) (K.tables (keeper_back fault))) }
+    ensures failed { IfErr result (λ fault. FaultRose (K.faults keeper) (K.faults (keeper_back fault)) fault) }
+{
+    Office::open(rt, alloc, keeper, Limits::standard())
+}
+
+// Answers the lines of an input, by a framing that has read nothing.
 fn answer_input<R: Threads + Sync, S: Source, W: Sink, K: Keeper, C: Clock>(
     rt: &R,
-    reader: &mut Reader<K>,
+    office: &mut Office<K>,
+    framing: &mut LineFraming,
     input: &mut S,
     out: &mut W,
     clock: &mut C,
 ) -> Result<(), Stop>
-    requires held { Holds reader.old.skips reader.old.input [] }
-    requires waits { reader.old.output ≡ [] }
-    ensures runs { (kept : Option KeptTables) → Keeps kept reader.new.office.office → RunsFrom reader.old.office.office
-        (outside (S.left input.old) (C.given clock.old) (W.written out.old)
-        (K.tables reader.old.office.keeper) (K.faults reader.old.office.keeper))
-        (outside (S.left input.new) (C.given clock.new) (W.written out.new) kept (K.faults reader.new.office.keeper))
+    requires holds { Holds framing.old.skips framing.old.seen [] [] }
+    requires none_waits { framing.old.refusals ≡ [] }
+    ensures runs { (kept : Option KeptTables) → Keeps kept office.new.office → RunsFrom office.old.office
+        (outside (S.left input.old) (C.given clock.old) (W.written out.old) (K.tables office.old.keeper) (K.faults office.old.keeper))
+        (outside (S.left input.new) (C.given clock.new) (W.written out.new) kept (K.faults office.new.keeper))
         (end_status result) }
     ensures read_fault { IsErrOf result Stop.ReadFault → FailsLast S.left S.faults input.old input.new }
     ensures no_read_fault { ¬ (IsErrOf result Stop.ReadFault) → S.faults input.new ≡ S.faults input.old }
     ensures write_fault { IsErrOf result Stop.WriteFault → FailsLast W.written W.faults out.old out.new }
     ensures no_write_fault { ¬ (IsErrOf result Stop.WriteFault) → W.faults out.new ≡ W.faults out.old }
 {
-    let mut read = 0;
-    loop {
-        reader.output.flush(out)?;
-        let held = reader.input.bytes().len();
-        let count = reader.input.read_from(input, MAX_INPUT - read)?;
-        if count == 0 {
-            break;
-        }
-        read += count;
-        if read == MAX_INPUT {
-            return Err(Stop::InputTooLong);
-        }
-        reader.take_in(rt, held, clock, out)?;
+    let mut wire = Duplex { input, out };
+    serve_lines(rt, office, framing, &mut wire, clock)
+}
+
+// Answers the lines that a wire gives, by a framing that has read nothing.
+fn serve_lines<R: Threads + Sync, S: Source, W: Sink, K: Keeper, C: Clock>(
+    rt: &R,
+    office: &mut Office<K>,
+    framing: &mut LineFraming,
+    wire: &mut Duplex<'_, S, W>,
+    clock: &mut C,
+) -> Result<(), Stop>
+    requires holds { Holds framing.old.skips framing.old.seen [] [] }
+    requires none_waits { framing.old.refusals ≡ [] }
+    ensures runs { (kept : Option KeptTables) → Keeps kept office.new.office → RunsFrom office.old.office
+        (outside (S.left wire.old.input.now) (C.given clock.old) (W.written wire.old.out.now)
+        (K.tables office.old.keeper) (K.faults office.old.keeper))
+        (outside (S.left wire.new.input.now) (C.given clock.new) (W.written wire.new.out.now) kept
+        (K.faults office.new.keeper))
+        (end_status result) }
+    ensures read_fault { IsErrOf result Stop.ReadFault → FailsLast S.left S.faults wire.old.input.now wire.new.input.now }
+    ensures no_read_fault { ¬ (IsErrOf result Stop.ReadFault)
+        → S.faults wire.new.input.now ≡ S.faults wire.old.input.now }
+    ensures write_fault { IsErrOf result Stop.WriteFault → FailsLast W.written W.faults wire.old.out.now wire.new.out.now }
+    ensures no_write_fault { ¬ (IsErrOf result Stop.WriteFault) → W.faults wire.new.out.now ≡ W.faults wire.old.out.now }
+    ensures input { wire.new.input.ghost_name ≡ wire.old.input.ghost_name }
+    ensures out { wire.new.out.ghost_name ≡ wire.old.out.ghost_name }
+{
+    let intake = Intake {
+        alloc: framing.alloc,
+        most: MAX_INPUT,
+    };
+    ended_as(serve(rt, intake, office, framing, wire, clock))
+}
+
+// What a run is stopped as, by how serving its lines ended.
+fn ended_as(ended: Ended<NoEnd>) -> Result<(), Stop>
+    ensures { result ≡ ended_as ended }
+{
+    match ended {
+        Ended::AtEnd => Ok(()),
+        Ended::By(end) => match end {},
+        Ended::ReadFault => Err(Stop::ReadFault),
+        Ended::WriteFault => Err(Stop::WriteFault),
+        Ended::InputLimit => Err(Stop::InputTooLong),
+        Ended::NoMemory => Err(Stop::NoMemory),
     }
-    reader.answer_last(rt, clock, out)?;
-    reader.output.flush(out)?;
-    Ok(())
 }

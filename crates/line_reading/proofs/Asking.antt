@@ -1,43 +1,36 @@
--- What a line's request, refusal or want of memory does to an office.
-use Rattle.std.proofs.Common.{◌≡◌, ℕ, List, [], ◌∷◌, length, Option, Some, None, true, false, cond, ltb, inr, refl, sym, subst}
+-- What lines ask has numbers in their ranges, and no refusal of theirs is a fault of the keeper.
+use Rattle.std.proofs.Common.{◌≡◌, ◌≢◌, ◌<◌, arith, ℕ, List, length, Option, Some, None, true, false, cond, ltb, refl, subst}
 use Rattle.std.specs.Option.{option_and_then, option_map}
 use Rattle.register_words.specs.declared.request.Request.{Request}
 use Rattle.register_words.specs.declared.request.Request.TheVariants as requests
 use Rattle.register_words.specs.declared.request.Asked.{Asked}
 use Rattle.register_words.specs.declared.request.Asked.TheVariants.{Ask, Refuse}
+use Rattle.register_words.specs.Refusals.{refusal_status_code}
 use Rattle.register_words.specs.declared.reply.Refusal.{Refusal}
-use Rattle.register_words.specs.declared.reply.Refusal.TheVariants.{TooLong, NoMemory}
-use Rattle.register_words.specs.declared.reply.Reply.TheVariants.{Words}
-use Rattle.register_history.specs.State.{OfficeState}
-use Rattle.register_history.specs.Legal.{AskStep}
+use Rattle.register_words.specs.declared.reply.Refusal.TheVariants.{TooLong}
 use Rattle.register_words.specs.Requests.{IsNumbered}
 use Rattle.register_words.proofs.Numbers.{number_within-range}
 use Rattle.register_words.specs.Words.{base_of, code_of, form_of, number_of, sheet_of}
-use Rattle.line_reading.specs.Faults.{keeper_faults}
 use Rattle.line_reading.specs.Lines.{Line}
 use Rattle.line_reading.specs.Limits.{line_limit}
-use Rattle.line_reading.specs.Requests.{asked, asked_in, asked_by, or_path, cut, copy_of, delta_of, upload_of, kept_of, first_word, MayWantMemory}
+use Rattle.line_reading.specs.Requests.{asked, asked_in, asked_by, or_path, cut, copy_of, delta_of, upload_of, kept_of, first_word}
 use Rattle.line_reading.specs.declared.requests.FirstWord.{FirstWord}
 use Rattle.line_reading.specs.declared.requests.FirstWord.TheVariants.{Accredit, Upload, Kept, Publish, Show, Copy, Delta, Status}
 
--- want of memory for an upload's body leaves the office, and asks for no moment
-pub AskStep-no_memory : (old : OfficeState) (what : Asked) → MayWantMemory what → AskStep old what [] (Words NoMemory) old
-AskStep-no_memory old (Refuse refusal) is = absurd is
-AskStep-no_memory old (Ask request) is = inr (is, refl, refl, refl)
-
-pub AskStep-refused : (office : OfficeState) (what : Asked) (refusal : Refusal) → what ≡ Refuse refusal
-    → AskStep office what [] (Words refusal) office
-AskStep-refused office what refusal is =
-    let S : Asked → Type 0 = λ ask. AskStep office ask [] (Words refusal) office in subst S (sym is) (refl, refl, refl)
-
--- what is asked has a number in its range, and a refusal of the reader tells no fault of the keeper
+-- what is asked has a number in its range, and a refusal of the reader reports no fault of the keeper
 abbrev pub AsksInRange : Asked → Type 0
-AsksInRange (Refuse refusal) = keeper_faults (Words refusal ∷ []) ≡ 0
+AsksInRange (Refuse refusal) = refusal_status_code refusal ≢ 503
 AsksInRange (Ask request) = IsNumbered request
+
+apart : (code : ℕ) → code < 503 → code ≢ 503
+apart code low is = omega (arith, low, is)
+
+no_path : AsksInRange (or_path None)
+no_path = apart 400 (omega arith)
 
 bind_range : {A : Type 0} (o : Option A) (f : A → Option Request) → ((x : A) → o ≡ Some x → AsksInRange (or_path (f x)))
     → AsksInRange (or_path (option_and_then f o))
-bind_range None f each = refl
+bind_range None f each = no_path
 bind_range (Some x) f each = each x refl
 
 upload_range : (rest : List ℕ) → AsksInRange (or_path (upload_of rest))
@@ -54,15 +47,15 @@ kept_range rest =
     (λ parts _. bind_range (code_of parts.0) _ (λ issuer _. bind_range (number_of parts.1) _ (λ number _. tt)))
 
 accreditation_range : (code : Option (List ℕ)) → AsksInRange (or_path (option_map requests.Accredit code))
-accreditation_range None = refl
+accreditation_range None = no_path
 accreditation_range (Some office) = tt
 
 show_range : (code : Option (List ℕ)) → AsksInRange (or_path (option_map requests.Show code))
-show_range None = refl
+show_range None = no_path
 show_range (Some code) = tt
 
 publication_range : (rest : List ℕ) (number : Option ℕ) → number_of rest ≡ number → AsksInRange (or_path (option_map requests.Publish number))
-publication_range rest None is = refl
+publication_range rest None is = no_path
 publication_range rest (Some number) is = number_within-range 1 1_000_000 rest number is
 
 copy_range : (rest : List ℕ) → AsksInRange (or_path (copy_of rest))
@@ -78,23 +71,23 @@ delta_range rest =
     bind_range (sheet_of second.0) _ (λ sheet _. bind_range (form_of second.1) _ (λ form _. tt)))))
 
 by_range : (word : Option FirstWord) (rest : Option (List ℕ)) → AsksInRange (asked_by word rest)
-by_range None rest = refl
-by_range (Some Accredit) None = refl
+by_range None rest = apart 404 (omega arith)
+by_range (Some Accredit) None = no_path
 by_range (Some Accredit) (Some rest) = accreditation_range (code_of rest)
-by_range (Some Upload) None = refl
+by_range (Some Upload) None = no_path
 by_range (Some Upload) (Some rest) = upload_range rest
-by_range (Some Kept) None = refl
+by_range (Some Kept) None = no_path
 by_range (Some Kept) (Some rest) = kept_range rest
-by_range (Some Publish) None = refl
+by_range (Some Publish) None = no_path
 by_range (Some Publish) (Some rest) = publication_range rest (number_of rest) refl
-by_range (Some Show) None = refl
+by_range (Some Show) None = no_path
 by_range (Some Show) (Some rest) = show_range (code_of rest)
-by_range (Some Copy) None = refl
+by_range (Some Copy) None = no_path
 by_range (Some Copy) (Some rest) = copy_range rest
-by_range (Some Delta) None = refl
+by_range (Some Delta) None = no_path
 by_range (Some Delta) (Some rest) = delta_range rest
 by_range (Some Status) None = tt
-by_range (Some Status) (Some rest) = refl
+by_range (Some Status) (Some rest) = no_path
 
 cut_range : (line : Line) (parts : Option (List ℕ × List ℕ)) → AsksInRange (asked_in line parts)
 cut_range line None = by_range (first_word line) None
@@ -104,7 +97,7 @@ pub in_range : (line : Line) → AsksInRange (asked line)
 unfolding asked
 in_range line =
     elim (ltb line_limit (length line)) as (λ b. AsksInRange (cond b (Refuse TooLong) (asked_in line (cut line)))) [
-      | true ↦ refl
+      | true ↦ apart 413 (omega arith)
       | false ↦ cut_range line (cut line)
     ]
 
@@ -112,6 +105,6 @@ in_range line =
 pub is_numbered : (line : Line) (request : Request) → asked line ≡ Ask request → IsNumbered request
 is_numbered line request is = let P : Asked → Type 0 = λ what. AsksInRange what in subst P is (in_range line)
 
--- and a refusal tells no fault of the keeper
-pub tells_no_fault : (line : Line) (refusal : Refusal) → asked line ≡ Refuse refusal → keeper_faults (Words refusal ∷ []) ≡ 0
-tells_no_fault line refusal is = let P : Asked → Type 0 = λ what. AsksInRange what in subst P is (in_range line)
+-- and a refusal reports no fault of the keeper
+pub reports_no_fault : (line : Line) (refusal : Refusal) → asked line ≡ Refuse refusal → refusal_status_code refusal ≢ 503
+reports_no_fault line refusal is = let P : Asked → Type 0 = λ what. AsksInRange what in subst P is (in_range line)

@@ -1,12 +1,7 @@
 pub mod Asking
-pub mod Counting
-pub mod Filling
-pub mod Fronts
-pub mod Giving
-pub mod Going
-pub mod Joining
 pub mod LineLemmas
-pub mod Reading
-pub mod Running
+pub mod LineRuns
+pub mod LineFronts
+pub mod Lined
 pub mod Sending
-pub mod Handing
+pub mod Walking

@@ -1,11 +1,11 @@
--- What a sink took, piece after piece.
+-- What a wire took, piece after piece.
 use Rattle.std.proofs.Common.{◌≡◌, ℕ, ◌+◌, ◌<◌, List, [], ◌∷◌, ◌++◌, length, take, drop, get_or, flat_map, Bor, Option, Result, Ok, Err, OnOk, OnErr, refl, sym, ap, ◌∙◌, append_assoc, arith, length-append, subst}
 use Rattle.std.proofs.lemmas.List.{append-nil, take-append-le, take-append-drop, take_more}
 use Rattle.std.proofs.lemmas.List.Concat.{flat_map-append}
 use Rattle.std.proofs.Math.Seq.{take-append-add}
 use Rattle.lei_outside.proofs.Told.{Grows-none, Grows-join}
 use Rattle.lei_outside.specs.Told.{Grows, WritesFront}
-use Rattle.line_reading.specs.WriteBuffer.{IsWritten}
+use Rattle.request_loop.specs.Wires.{IsSent}
 use Rattle.line_reading.specs.WriteBuffer.{Sends}
 
 pub Grows-front : (a b c : Option (List ℕ)) (xs ys : List ℕ) → Grows a b xs → WritesFront b c ys
@@ -48,14 +48,28 @@ Sends-front a b c all waits piece first front =
 
 -- what waits was sent, or refused
 pub sends_rest : {E : Type 0} (a b c : Option (List ℕ)) (all waits : List ℕ) (result : Result (Unit {0}) E)
-    → Sends a b all waits → OnOk result (Grows b c waits) → OnErr result (WritesFront b c waits)
-    → IsWritten a c all result
-sends_rest a b c all waits (Ok done) first grown front =
+    → Sends a b all waits → IsSent b c waits result → IsSent a c all result
+sends_rest a b c all waits (Ok done) first grown =
     let G : List ℕ → Type 0 = λ xs. Grows a c xs in
     subst G (sym first.2) (Grows-join a b c first.0 waits first.1 grown)
-sends_rest a b c all waits (Err fault) first grown front =
+sends_rest a b c all waits (Err fault) first front =
     let W : List ℕ → Type 0 = λ xs. WritesFront a c xs in
     subst W (sym first.2) (Grows-front a b c first.0 waits first.1 front)
+
+-- a piece was sent after what waited
+pub sent_after : {E : Type 0} (a b c : Option (List ℕ)) (held piece rest : List ℕ) (result : Result (Unit {0}) E)
+    → Grows a b held → rest ≡ [] → IsSent b c piece result → OnOk result (Sends a c (held ++ piece) rest)
+sent_after a b c held piece rest (Ok done) first none more = (
+  held ++ piece,
+  Grows-join a b c held piece first more,
+  sym (append-nil (held ++ piece)) ∙ ap (λ xs. (held ++ piece) ++ xs) (sym none),
+)
+sent_after a b c held piece rest (Err fault) first none more = tt
+
+pub refused_after : {E : Type 0} (a b c : Option (List ℕ)) (held piece : List ℕ) (result : Result (Unit {0}) E)
+    → Grows a b held → IsSent b c piece result → OnErr result (WritesFront a c (held ++ piece))
+refused_after a b c held piece (Ok done) first more = tt
+refused_after a b c held piece (Err fault) first more = Grows-front a b c held piece first more
 
 pub Sends-nothing : (a : Option (List ℕ)) (waits : List ℕ) → Sends a a waits waits
 Sends-nothing a waits = ([], Grows-none a, refl)
@@ -104,7 +118,3 @@ sent_then a b c all piece first more = (
   ap (λ xs. xs ++ piece)
       (first.2 ∙ append-nil first.0) ∙ sym (append-nil (first.0 ++ piece)),
 )
-
-pub sent_all : (a b : Option (List ℕ)) (all : List ℕ) → Sends a b all [] → Grows a b all
-sent_all a b all sent = let G : List ℕ
-    → Type 0 = λ xs. Grows a b xs in subst G (sym (sent.2 ∙ append-nil sent.0)) sent.1

@@ -1,11 +1,8 @@
 pub mod Limits
 pub mod Lines
 pub mod Requests
-pub mod Faults
-pub mod Moments
+pub mod LineWords
 pub mod WriteBuffer
-pub mod ReadBuffer
 pub mod Replies
-pub mod Runs
-pub mod Reading
-pub mod Opened
+pub mod LineFrames
+pub mod LineRuns

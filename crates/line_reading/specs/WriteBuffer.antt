@@ -1,18 +1,12 @@
--- What a buffer of waiting bytes does to an output.
+-- What a buffer of waiting bytes does to a wire.
 use Rattle.std.specs.Prelude.{◌≡◌, ℕ, List, ◌++◌, Option, Result, MatchResult}
-use Rattle.lei_code.specs.Texts.{Text}
 use Rattle.lei_outside.specs.Told.{Grows, WritesFront}
 
 -- Of all these bytes a front was written, and the rest waits.
 abbrev pub Sends : Option (List ℕ) → Option (List ℕ) → List ℕ → List ℕ → Type 0
 Sends before after all waits = (sent : List ℕ) × Grows before after sent × (all ≡ sent ++ waits)
 
--- All these bytes are written or wait; or the output refused, and took a front of them and not all.
+-- All these bytes are written or wait; or the wire refused, and took a front of them and not all.
 abbrev pub Puts : {T E : Type 0} → Option (List ℕ) → Option (List ℕ) → List ℕ → Result T E → List ℕ → Type 0
 Puts before after all result waits =
     MatchResult result (λ _. Sends before after all waits) (λ _. WritesFront before after all)
-
--- A text was written whole; or the output refused, and took a front of it and not all.
-abbrev pub IsWritten : {E : Type 0} → Option (List ℕ) → Option (List ℕ) → Text → Result (Unit {0}) E → Type 0
-IsWritten before after text result =
-    MatchResult result (λ _. Grows before after text) (λ _. WritesFront before after text)

@@ -1,15 +1,13 @@
-//! The lines of an input: what each asks, its answer over an office, and the bytes that are read and written.
+//! The lines of an input: what each asks, the bytes of the replies, and lines as the frames of an input.
 #![tactic(auto)]
 
-mod answering;
+mod framing;
 mod laws;
-mod read_buffer;
-mod reader;
+mod lines;
 pub mod requests;
 mod write_buffer;
 mod writing;
 
+pub use framing::{LineFraming, NoEnd};
 pub use laws::lines_end_at_line_feeds;
-pub use read_buffer::{ReadBuffer, read_behind};
-pub use reader::Reader;
-pub use write_buffer::{BLOCK, WriteBuffer};
+pub use write_buffer::BLOCK;

@@ -1,15 +1,27 @@
 //! What a line asks.
 ghost use Rattle.std.specs.Prelude.{◌≡◌, None, Some, option_map, option_and_then, position, length, ◌==◌, ◌<◌, IfOk, IfSome, OnErr};
 ghost use Rattle.std.specs.Option.{option_copied};
-ghost use Rattle.line_reading.specs.Requests.{cut, accreditation_of, copy_of, delta_of, kept_of, publication_of, show_of, upload_of, first_word, request_alone, request_by, request_with, asked_by, asked, or_path, MayWantMemory};
+ghost use Rattle.line_reading.specs.Requests.{cut, accreditation_of, copy_of, delta_of, kept_of, publication_of, show_of, upload_of, first_word, asked_by, asked, or_path, MayWantMemory};
+ghost use Rattle.line_reading.specs.LineWords.{asked_of};
 
-use lei_office::{Asked, Call, Refusal, Request};
+use lei_code::Lei;
 use lei_outside::{NoMemory, Shared};
-use register_words::{base_of, code_of, form_of, number_of, sheet_of};
+use register_words::{
+    Asked, Call, Refusal, Request, base_of, code_of, form_of, number_of, sheet_of,
+};
 use std::alloc::Global;
 
 /// The greatest length of a line, without its end, in bytes. This project's profile.
 pub const MAX_LINE: usize = 4_194_340;
+
+/// What a line asks, with the body of an upload where it stands in the line.
+#[derive(Drop)]
+pub enum LineWords<'a> {
+    Refused(Refusal),
+    /// The issuer, the number and the body.
+    Upload(Lei, u32, &'a [u8]),
+    Other(Request),
+}
 
 // The first words of lines that ask something.
 #[derive(Clone, Copy)]
@@ -41,25 +53,21 @@ fn cut(bytes: &[u8]) -> Option<(&[u8], &[u8])>
     }
 }
 
+// An upload, with its body where it stands.
 #[tactic(auto, unfolding(crate::specs::Requests::upload_of))]
-fn upload_of(alloc: Global, rest: &[u8]) -> Result<Option<Request>, NoMemory>
-    ensures ok { IfOk result (λ request. request ≡ upload_of rest.now) }
-    ensures err { OnErr result (MayWantMemory (or_path (upload_of rest.now))) }
+fn upload_of(rest: &[u8]) -> LineWords<'_>
+    ensures { asked_of result ≡ or_path (upload_of rest.now) }
 {
     let Some((office, rest)) = cut(rest) else {
-        return Ok(None);
+        return LineWords::Refused(Refusal::Path);
     };
     let Some((number, body)) = cut(rest) else {
-        return Ok(None);
+        return LineWords::Refused(Refusal::Path);
     };
     let (Some(office), Some(number)) = (code_of(office), number_of(number)) else {
-        return Ok(None);
+        return LineWords::Refused(Refusal::Path);
     };
-    Ok(Some(Request::Upload(Call {
-        office,
-        number,
-        body: Shared::copy_of(alloc, body)?,
-    })))
+    LineWords::Upload(office, number, body)
 }
 
 fn accreditation_of(rest: &[u8]) -> Option<Request>
@@ -162,79 +170,71 @@ fn first_word(word: &[u8]) -> Option<FirstWord>
     None
 }
 
-// The request that a first word makes alone.
-fn request_alone(word: FirstWord) -> Option<Request>
-    ensures { result ≡ request_alone word }
+// A request, or the refusal of the words behind the first one.
+fn or_path(request: Option<Request>) -> LineWords<'static>
+    ensures { asked_of result ≡ or_path request }
 {
-    match word {
-        FirstWord::Status => Some(Request::Status),
-        FirstWord::Accredit
-        | FirstWord::Upload
-        | FirstWord::Kept
-        | FirstWord::Publish
-        | FirstWord::Show
-        | FirstWord::Copy
-        | FirstWord::Delta => None,
+    match request {
+        Some(request) => LineWords::Other(request),
+        None => LineWords::Refused(Refusal::Path),
     }
 }
 
-// The request that a first word makes with what stands behind its space.
-fn request_with(alloc: Global, word: FirstWord, rest: &[u8]) -> Result<Option<Request>, NoMemory>
-    ensures ok { IfOk result (λ found. found ≡ request_with word rest.now) }
-    ensures err { OnErr result (MayWantMemory (or_path (request_with word rest.now))) }
+// What a first word asks alone.
+fn asked_alone(word: Option<FirstWord>) -> LineWords<'static>
+    ensures { asked_of result ≡ asked_by word None }
 {
     match word {
-        FirstWord::Accredit => Ok(accreditation_of(rest)),
-        FirstWord::Upload => upload_of(alloc, rest),
-        FirstWord::Kept => Ok(kept_of(rest)),
-        FirstWord::Publish => Ok(publication_of(rest)),
-        FirstWord::Show => Ok(show_of(rest)),
-        FirstWord::Copy => Ok(copy_of(rest)),
-        FirstWord::Delta => Ok(delta_of(rest)),
-        FirstWord::Status => Ok(None),
+        Some(FirstWord::Status) => LineWords::Other(Request::Status),
+        Some(_) => LineWords::Refused(Refusal::Path),
+        None => LineWords::Refused(Refusal::NoRoute),
     }
 }
 
-// The request that a first word makes with what stands behind its space, if there is one.
-fn request_by(
-    alloc: Global,
-    word: FirstWord,
-    rest: Option<&[u8]>,
-) -> Result<Option<Request>, NoMemory>
-    ensures ok { IfOk result (λ found. found ≡ request_by word (option_copied rest.entry)) }
-    ensures err { OnErr result (MayWantMemory (or_path (request_by word (option_copied rest.entry)))) }
+// What a first word asks with what stands behind its space.
+fn asked_with(word: Option<FirstWord>, rest: &[u8]) -> LineWords<'_>
+    ensures { asked_of result ≡ asked_by word (Some rest.now) }
 {
-    match rest {
-        Some(rest) => request_with(alloc, word, rest),
-        None => Ok(request_alone(word)),
+    match word {
+        Some(FirstWord::Accredit) => or_path(accreditation_of(rest)),
+        Some(FirstWord::Upload) => upload_of(rest),
+        Some(FirstWord::Kept) => or_path(kept_of(rest)),
+        Some(FirstWord::Publish) => or_path(publication_of(rest)),
+        Some(FirstWord::Show) => or_path(show_of(rest)),
+        Some(FirstWord::Copy) => or_path(copy_of(rest)),
+        Some(FirstWord::Delta) => or_path(delta_of(rest)),
+        Some(FirstWord::Status) => LineWords::Refused(Refusal::Path),
+        None => LineWords::Refused(Refusal::NoRoute),
+    }
+}
+
+/// What the words of a line ask, without its end. It takes no memory.
+#[tactic(auto, unfolding(crate::specs::Requests::asked))]
+pub fn words_of(line: &[u8]) -> LineWords<'_>
+    ensures { asked_of result ≡ asked line.now }
+{
+    if line.len() > MAX_LINE {
+        return LineWords::Refused(Refusal::TooLong);
+    }
+    match cut(line) {
+        Some((word, rest)) => asked_with(first_word(word), rest),
+        None => asked_alone(first_word(line)),
     }
 }
 
 /// What a line asks, without its end: a request, or the refusal that is its reply. Its one error is want of memory
 /// for the body of an upload.
-#[tactic(auto, unfolding(crate::specs::Requests::asked))]
 pub fn line_request(alloc: Global, line: &[u8]) -> Result<Asked, NoMemory>
     ensures ok { IfOk result (λ found. found ≡ asked line.now) }
     ensures err { OnErr result (MayWantMemory (asked line.now)) }
 {
-    if line.len() > MAX_LINE {
-        return Ok(Asked::Refuse(Refusal::TooLong));
-    }
-    match cut(line) {
-        Some((word, rest)) => asked_by(alloc, first_word(word), Some(rest)),
-        None => asked_by(alloc, first_word(line), None),
-    }
-}
-
-fn asked_by(alloc: Global, word: Option<FirstWord>, rest: Option<&[u8]>) -> Result<Asked, NoMemory>
-    ensures ok { IfOk result (λ found. found ≡ asked_by word (option_copied rest.entry)) }
-    ensures err { OnErr result (MayWantMemory (asked_by word (option_copied rest.entry))) }
-{
-    let Some(word) = word else {
-        return Ok(Asked::Refuse(Refusal::NoRoute));
-    };
-    match request_by(alloc, word, rest)? {
-        Some(request) => Ok(Asked::Ask(request)),
-        None => Ok(Asked::Refuse(Refusal::Path)),
+    match words_of(line) {
+        LineWords::Refused(refusal) => Ok(Asked::Refuse(refusal)),
+        LineWords::Other(request) => Ok(Asked::Ask(request)),
+        LineWords::Upload(office, number, body) => Ok(Asked::Ask(Request::Upload(Call {
+            office,
+            number,
+            body: Shared::copy_of(alloc, body)?,
+        }))),
     }
 }

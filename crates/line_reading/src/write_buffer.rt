@@ -2,9 +2,12 @@
 ghost use Rattle.std.specs.Prelude.{◌≡◌, ◌≤◌, ◌+◌, ◌++◌, [], length, vec_len, vec_capacity, IfOk, OnOk, OnErr, IsErrOf};
 ghost use Rattle.lei_outside.specs.Told.{Grows, WritesFront};
 ghost use Rattle.lei_outside.specs.Faults.{FailsLast};
+ghost use Rattle.lei_outside.specs.Links.{told_by};
+ghost use Rattle.request_loop.specs.Wires.{IsSent};
 ghost use Rattle.line_reading.specs.WriteBuffer.{Sends};
 
-use lei_outside::{NoMemory, Sink, SinkFault, write_all};
+use lei_outside::{NoMemory, SinkFault};
+use request_loop::{Wire, send_piece};
 use std::alloc::Global;
 use std::marker::Model;
 
@@ -29,7 +32,7 @@ impl Model for WriteBuffer {
 }
 
 impl WriteBuffer {
-    /// An empty box, with the memory that it will ever take.
+    /// An empty buffer, with the memory that it will ever take.
     pub fn new(alloc: Global) -> Result<Self, NoMemory>
         ensures { IfOk result (λ b. b ≡ []) }
     {
@@ -38,36 +41,65 @@ impl WriteBuffer {
         })
     }
 
-    /// Puts a piece behind what waits, and sends what has no room. A piece of a block or more isn't copied.
-    pub fn put<W: Sink>(&mut self, out: &mut W, piece: &[u8]) -> Result<(), SinkFault>
-        ensures ok { OnOk result (Sends (W.written out.old) (W.written out.new) (self.old ++ piece.now) self.new) }
-        ensures err { OnErr result (WritesFront (W.written out.old) (W.written out.new) (self.old ++ piece.now)) }
-        ensures kept { ¬ (IsErrOf result SinkFault.Failed) → W.faults out.new ≡ W.faults out.old }
-        ensures failed { IsErrOf result SinkFault.Failed → FailsLast W.written W.faults out.old out.new }
+    /// The room that is left.
+    pub fn room(&self) -> usize
+        ensures { result + length self.now ≡ BLOCK }
+    {
+        BLOCK - self.held.len()
+    }
+
+    /// Puts a piece after what waits, where it has room.
+    pub fn append(&mut self, piece: &[u8])
+        requires { length self.old + length piece.now ≤ BLOCK }
+        ensures { self.new ≡ self.old ++ piece.now }
+    {
+        append(&mut self.held, piece);
+    }
+
+    /// Puts a piece after what waits, and sends what has no room. A piece of more than a block isn't copied.
+    pub fn put<L: Wire>(&mut self, link: &mut L, piece: &[u8]) -> Result<(), SinkFault>
+        ensures ok { OnOk result (Sends (L.written link.old) (L.written link.new) (self.old ++ piece.now) self.new) }
+        ensures err { OnErr result (WritesFront (L.written link.old) (L.written link.new) (self.old ++ piece.now)) }
+        ensures kept { ¬ (IsErrOf result SinkFault.Failed) → L.write_faults link.new ≡ L.write_faults link.old }
+        ensures failed { IsErrOf result SinkFault.Failed →
+            FailsLast (told_by L.left L.written) L.write_faults link.old link.new }
+        ensures left { L.left link.new ≡ L.left link.old }
+        ensures read_count { L.read_faults link.new ≡ L.read_faults link.old }
+        ensures wire { L.lends_same link.old link.new }
     {
         if piece.len() <= BLOCK - self.held.len() {
             append(&mut self.held, piece);
             return Ok(());
         }
-        self.flush(out)?;
+        self.flush(link)?;
         if piece.len() > BLOCK {
-            return write_all(out, piece);
+            return send_piece(link, piece);
         }
         append(&mut self.held, piece);
         Ok(())
     }
 
     /// Sends what waits.
-    pub fn flush<W: Sink>(&mut self, out: &mut W) -> Result<(), SinkFault>
-        ensures ok { OnOk result (Grows (W.written out.old) (W.written out.new) self.old) }
+    pub fn flush<L: Wire>(&mut self, link: &mut L) -> Result<(), SinkFault>
+        ensures sent { IsSent (L.written link.old) (L.written link.new) self.old result }
         ensures empty { OnOk result (self.new ≡ []) }
-        ensures err { OnErr result (WritesFront (W.written out.old) (W.written out.new) self.old) }
-        ensures kept { ¬ (IsErrOf result SinkFault.Failed) → W.faults out.new ≡ W.faults out.old }
-        ensures failed { IsErrOf result SinkFault.Failed → FailsLast W.written W.faults out.old out.new }
+        ensures kept { ¬ (IsErrOf result SinkFault.Failed) → L.write_faults link.new ≡ L.write_faults link.old }
+        ensures failed { IsErrOf result SinkFault.Failed →
+            FailsLast (told_by L.left L.written) L.write_faults link.old link.new }
+        ensures left { L.left link.new ≡ L.left link.old }
+        ensures read_count { L.read_faults link.new ≡ L.read_faults link.old }
+        ensures wire { L.lends_same link.old link.new }
     {
-        write_all(out, &self.held)?;
+        send_piece(link, &self.held)?;
         self.held.clear();
         Ok(())
+    }
+
+    /// Drops what waits.
+    pub fn clear(&mut self)
+        ensures { self.new ≡ [] }
+    {
+        self.held.clear();
     }
 }
 

@@ -1,47 +1,59 @@
 //! Replies as they are written.
-ghost use Rattle.std.specs.Prelude.{◌≡◌, [], ◌++◌, flat_map, IsErrOf, OnOk};
+ghost use Rattle.std.specs.Prelude.{◌≡◌, [], ◌++◌, flat_map, false, IfSome, IsErrOf};
 ghost use Rattle.lei_outside.specs.Faults.{FailsLast};
+ghost use Rattle.lei_outside.specs.Links.{told_by};
 ghost use Rattle.register_words.specs.declared.reply.Reply.{Reply};
-ghost use Rattle.register_words.specs.declared.request.Asked.{Asked};
-ghost use Rattle.register_words.specs.declared.request.Asked.TheVariants.{Ask};
-ghost use Rattle.line_reading.specs.WriteBuffer.{IsWritten};
+ghost use Rattle.request_loop.specs.Wires.{IsSent};
 ghost use Rattle.line_reading.specs.WriteBuffer.{Puts};
-ghost use Rattle.line_reading.specs.Replies.{reply_bytes, reply_text, wants_file};
+ghost use Rattle.line_reading.specs.Replies.{asks_file, reply_bytes, wants_file};
 
 use crate::write_buffer::WriteBuffer;
-use lei_office::{Refusal, Reply, Request};
-use lei_outside::{Sink, SinkFault};
+use lei_outside::SinkFault;
+use register_words::{Asked, Refusal, Reply, Request};
+use request_loop::Wire;
 
-/// Puts the reply that is a refusal, whatever was asked.
+/// The whole reply that is a refusal of a line's words.
 #[tactic(auto, unfolding(crate::specs::Replies::reply_bytes))]
-pub fn put_refusal<W: Sink>(
-    buffer: &mut WriteBuffer,
-    out: &mut W,
-    refusal: Refusal,
-) -> Result<(), SinkFault>
-    ensures puts { (asked : Asked) → Puts (W.written out.old) (W.written out.new)
-        (buffer.old ++ reply_text asked (Reply.Words refusal)) result buffer.new }
-    ensures kept { ¬ (IsErrOf result SinkFault.Failed) → W.faults out.new ≡ W.faults out.old }
-    ensures failed { IsErrOf result SinkFault.Failed → FailsLast W.written W.faults out.old out.new }
+pub fn refusal_line(refusal: Refusal) -> Option<&'static [u8]>
+    ensures { IfSome result (λ line. line.now ≡ reply_bytes (Reply.Words refusal) false) }
 {
-    put_reply(buffer, out, &Reply::Words(refusal), false)
+    match refusal {
+        Refusal::TooLong => Some(b"413 TOO_LONG\n"),
+        Refusal::NoRoute => Some(b"404 NO_ROUTE\n"),
+        Refusal::Path => Some(b"400 PATH\n"),
+        _ => None,
+    }
 }
 
-/// Sends what waits, and behind it the reply to a request.
-pub fn send_reply<W: Sink>(
+/// Writes a reply, by one write where it fits in a block. Where its text is a file, the number of its bytes stands in a
+/// line before it.
+pub fn send_reply<L: Wire>(
     buffer: &mut WriteBuffer,
-    out: &mut W,
-    request: &Request,
+    link: &mut L,
     reply: &Reply,
+    is_file: bool,
 ) -> Result<(), SinkFault>
-    ensures sent { IsWritten (W.written out.old) (W.written out.new)
-        (buffer.old ++ reply_text (Ask request.now) reply.now) result }
-    ensures empty { OnOk result (buffer.new ≡ []) }
-    ensures kept { ¬ (IsErrOf result SinkFault.Failed) → W.faults out.new ≡ W.faults out.old }
-    ensures failed { IsErrOf result SinkFault.Failed → FailsLast W.written W.faults out.old out.new }
+    requires none { buffer.old ≡ [] }
+    ensures sent { IsSent (L.written link.old) (L.written link.new) (reply_bytes reply.now is_file) result }
+    ensures kept { ¬ (IsErrOf result SinkFault.Failed) → L.write_faults link.new ≡ L.write_faults link.old }
+    ensures failed { IsErrOf result SinkFault.Failed →
+        FailsLast (told_by L.left L.written) L.write_faults link.old link.new }
+    ensures left { L.left link.new ≡ L.left link.old }
+    ensures read_count { L.read_faults link.new ≡ L.read_faults link.old }
+    ensures wire { L.lends_same link.old link.new }
 {
-    put_reply(buffer, out, reply, wants_file(request))?;
-    buffer.flush(out)
+    put_reply(buffer, link, reply, is_file)?;
+    buffer.flush(link)
+}
+
+/// Whether a file is asked for.
+pub fn asks_file(asked: &Asked) -> bool
+    ensures { result ≡ asks_file asked.now }
+{
+    match asked {
+        Asked::Ask(request) => wants_file(request),
+        Asked::Refuse(_) => false,
+    }
 }
 
 // Whether a request is one for a file.
@@ -51,18 +63,22 @@ fn wants_file(request: &Request) -> bool
     matches!(request, Request::Copy(_, _) | Request::Delta(_, _, _))
 }
 
-/// Puts a reply: its status code, a space, its text and the end of the line. Where its text is a file, the number of its
-/// bytes stands in a line before it.
+// Puts a reply: its status code, a space, its text and the end of the line. Where its text is a file, the number of its
+// bytes stands in a line before it.
 #[tactic(auto, unfolding(crate::specs::Replies::reply_bytes))]
-pub fn put_reply<W: Sink>(
+fn put_reply<L: Wire>(
     buffer: &mut WriteBuffer,
-    out: &mut W,
+    link: &mut L,
     reply: &Reply,
     is_file: bool,
 ) -> Result<(), SinkFault>
-    ensures puts { Puts (W.written out.old) (W.written out.new) (buffer.old ++ reply_bytes reply.now is_file) result buffer.new }
-    ensures kept { ¬ (IsErrOf result SinkFault.Failed) → W.faults out.new ≡ W.faults out.old }
-    ensures failed { IsErrOf result SinkFault.Failed → FailsLast W.written W.faults out.old out.new }
+    ensures puts { Puts (L.written link.old) (L.written link.new) (buffer.old ++ reply_bytes reply.now is_file) result buffer.new }
+    ensures kept { ¬ (IsErrOf result SinkFault.Failed) → L.write_faults link.new ≡ L.write_faults link.old }
+    ensures failed { IsErrOf result SinkFault.Failed →
+        FailsLast (told_by L.left L.written) L.write_faults link.old link.new }
+    ensures left { L.left link.new ≡ L.left link.old }
+    ensures read_count { L.read_faults link.new ≡ L.read_faults link.old }
+    ensures wire { L.lends_same link.old link.new }
 {
     let mut code = itoa::Buffer::new();
     let code = code.format(reply.status_code()).as_bytes();
@@ -71,33 +87,41 @@ pub fn put_reply<W: Sink>(
             let mut digits = itoa::Buffer::new();
             let digits = digits.format(text.len()).as_bytes();
             let pieces = &[code, b" ", digits, b"\n", text.as_slice(), b"\n"];
-            put_all(buffer, out, pieces)
+            put_all(buffer, link, pieces)
         }
-        Reply::Text { text, .. } => { put_all(buffer, out, &[code, b" ", text.as_slice(), b"\n"]) }
+        Reply::Text { text, .. } => put_all(buffer, link, &[code, b" ", text.as_slice(), b"\n"]),
         Reply::Words(refusal) => match refusal.number() {
-            None => put_all(buffer, out, &[code, b" ", refusal.name().as_bytes(), b"\n"]),
+            None => put_all(
+                buffer,
+                link,
+                &[code, b" ", refusal.name().as_bytes(), b"\n"],
+            ),
             Some(number) => {
                 let mut digits = itoa::Buffer::new();
                 let digits = digits.format(number).as_bytes();
                 let name = refusal.name().as_bytes();
-                put_all(buffer, out, &[code, b" ", name, b" ", digits, b"\n"])
+                put_all(buffer, link, &[code, b" ", name, b" ", digits, b"\n"])
             }
         },
     }
 }
 
-fn put_all<W: Sink>(
+fn put_all<L: Wire>(
     buffer: &mut WriteBuffer,
-    out: &mut W,
+    link: &mut L,
     pieces: &[&[u8]],
 ) -> Result<(), SinkFault>
-    ensures puts { Puts (W.written out.old) (W.written out.new)
+    ensures puts { Puts (L.written link.old) (L.written link.new)
         (buffer.old ++ flat_map (λ piece. piece.now) pieces.now) result buffer.new }
-    ensures kept { ¬ (IsErrOf result SinkFault.Failed) → W.faults out.new ≡ W.faults out.old }
-    ensures failed { IsErrOf result SinkFault.Failed → FailsLast W.written W.faults out.old out.new }
+    ensures kept { ¬ (IsErrOf result SinkFault.Failed) → L.write_faults link.new ≡ L.write_faults link.old }
+    ensures failed { IsErrOf result SinkFault.Failed →
+        FailsLast (told_by L.left L.written) L.write_faults link.old link.new }
+    ensures left { L.left link.new ≡ L.left link.old }
+    ensures read_count { L.read_faults link.new ≡ L.read_faults link.old }
+    ensures wire { L.lends_same link.old link.new }
 {
     for piece in pieces {
-        buffer.put(out, piece)?;
+        buffer.put(link, piece)?;
     }
     Ok(())
 }

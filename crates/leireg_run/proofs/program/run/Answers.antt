@@ -1,7 +1,7 @@
-use Rattle.std.proofs.Common.{ap, sym}
+use Rattle.std.proofs.Common.{Err, ap, sym, ◌∙◌}
 use Rattle.leireg_run.specs.Status.{end_status}
 use Rattle.leireg_run.specs.Ends.{MayTell}
-use Rattle.leireg_run.proofs.Completing.{completes_meant, completes_stopped}
+use Rattle.leireg_run.proofs.Completing.{completes_meant, completes_stopped, only_damage}
 use Rattle.leireg_run.proofs.Applied.{rose_of, one_rose}
 use Rattle.leireg_run.proofs.program.run.Goals as goal
 
@@ -15,3 +15,8 @@ returns-in-Err-default-clause-complete g c = λ what means n6 input_still second
     completes_stopped (MayTell g.K.Keeper.tables) _ what _ _ _ _ _ c.run_command.result.0 c.in-Err-default.stop c.status.result c.in-Err-default.is-0 c.status.ensures (sym c.in-Ok.ensures.meant) means
     (λ failed. one_rose _ _ _ _ _ _ _ _ (ended.read_fault failed) input_still second_still) (λ failed. out_still (rose_of _ _ _ _ (ended.write_fault failed))) n6
     (λ damaged. ended.damage_told damaged out_still) ended.does
+
+pub returns-in-Err-default-clause-damage_told : goal.returns-in-Err-default-clause-damage_told
+returns-in-Err-default-clause-damage_told g c = λ seven out_still.
+    let stop = c.in-Err-default.stop in
+    c.run_command.ensures.damage_told (c.in-Err-default.is-0 ∙ ap Err (only_damage stop (sym c.status.ensures ∙ seven))) out_still

@@ -1,10 +1,31 @@
-use Rattle.std.proofs.Common.{subst}
+use Rattle.std.proofs.Common.{ℕ, ap, subst, sym}
 use Rattle.lei_outside.specs.Keeping.{Stays}
 use Rattle.register_words.specs.Limits.{standard}
 use Rattle.lei_office.specs.Offices.{FaultRose, IsRefused, keeper_back}
-use Rattle.leireg_run.specs.Ends.{MayTell}
-use Rattle.leireg_run.proofs.Unopened.{damaged_opening}
+use Rattle.leireg_run.specs.Ends.{MayTell, RunsFrom}
+use Rattle.leireg_run.specs.Outside.{Outside, outside}
+use Rattle.leireg_run.specs.Status.{end_status}
+use Rattle.leireg_run.proofs.Unopened.{damaged_opening, opens_runs}
 use Rattle.leireg_run.proofs.program.run_lines.Goals as goal
+
+pub returns-in-Ok-open_office-clause-runs : goal.returns-in-Ok-open_office-clause-runs
+returns-in-Ok-open_office-clause-runs g c =
+    let left = g.S.Source.left in
+    let given = g.C.Clock.given in
+    let written = g.W.Sink.written in
+    let tables = g.K.Keeper.tables in
+    let faults = g.K.Keeper.faults in
+    let opened = c.in-Ok-open_office.office in
+    let now = c.answer_input-ended.new in
+    let before = outside (left c.args.input.now) (given c.args.clock.now) (written c.args.out.now) (tables opened.keeper)
+    (faults opened.keeper) in
+    let after : ℕ → Outside = λ n. outside (left now.input) (given now.clock) (written now.out) (tables c.close.result) n in
+    let status = end_status c.answer_input-ended.result in
+    let R : ℕ → Type 0 = λ n. RunsFrom opened.office before (after n) status in
+    opens_runs tables faults (left c.args.input.now) (given c.args.clock.now) (written c.args.out.now) c.args.keeper opened.keeper
+    opened.office (after (faults c.close.result)) status c.in-Ok-open_office.ensures.told c.in-Ok-open_office.ensures.faultless
+    c.in-Ok-open_office.ensures.opened
+    (subst R (sym (ap faults c.close.ensures.keeper)) (c.answer_input-ended.ensures.runs (tables c.close.result) c.close.ensures.kept))
 
 pub returns-in-Err-StoreDamaged-clause-runs : goal.returns-in-Err-StoreDamaged-clause-runs
 returns-in-Err-StoreDamaged-clause-runs g c =

@@ -4,10 +4,12 @@ use Rattle.line_reading.proofs.writing.put_all.Given as goal
 
 abbrev pub invariant-loop-piece : goal.invariant-loop-piece
 invariant-loop-piece g l =
-    let written = g.W.Sink.written in
-    let faults = g.W.Sink.faults in
+    let wire = g.L.Wire in
     record {
-      sent : Sends (written l.fn.out) (written l.out)
+      sent : Sends (wire.written l.fn.link) (wire.written l.link)
           (l.fn.buffer ++ flat_map (λ piece. piece.now) (take l.piece-index l.pieces)) l.buffer;
-      kept : faults l.out ≡ faults l.fn.out;
+      kept : wire.write_faults l.link ≡ wire.write_faults l.fn.link;
+      left : wire.left l.link ≡ wire.left l.fn.link;
+      read_count : wire.read_faults l.link ≡ wire.read_faults l.fn.link;
+      wire : wire.lends_same l.fn.link l.link;
     }

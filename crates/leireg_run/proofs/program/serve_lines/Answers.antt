@@ -1,0 +1,59 @@
+use Rattle.std.proofs.Common.{ℕ, List, Option, Result, refl, subst, sym}
+use Rattle.lei_outside.specs.Links.{told_by}
+use Rattle.register_history.specs.State.{OfficeState}
+use Rattle.request_loop.proofs.Failing.{fails_at}
+use Rattle.request_loop.proofs.Parts.{progress_of, serves_of}
+use Rattle.request_loop.specs.Serving.{progress}
+use Rattle.lei_office.specs.Answering.{OfficeStep, StepsBy, counted}
+use Rattle.line_reading.specs.LineFrames.{line_rules}
+use Rattle.leireg_run.specs.Ends.{RunsFrom}
+use Rattle.leireg_run.specs.Outside.{outside}
+use Rattle.leireg_run.specs.Runs.{input_limit}
+use Rattle.leireg_run.specs.Status.{end_status}
+use Rattle.leireg_run.specs.declared.status.Stop.{Stop}
+use Rattle.leireg_run.proofs.Ending.{runs_served}
+use Rattle.leireg_run.proofs.Fitting.{lines_fit}
+use Rattle.leireg_run.proofs.Stopping.{only_read_fault, only_write_fault}
+use Rattle.leireg_run.proofs.program.serve_lines.Goals as goal
+
+pub serve-requires-clause-fits : goal.serve-requires-clause-fits
+serve-requires-clause-fits g c = lines_fit _ (counted g.K.Keeper.faults) (record { shared = c.type_bounds.sync-R.shared })
+
+pub returns-clause-runs : goal.returns-clause-runs
+returns-clause-runs g c kept keeps =
+    let left = g.S.Source.left in
+    let given = g.C.Clock.given in
+    let written = g.W.Sink.written in
+    let tables = g.K.Keeper.tables in
+    let faults = g.K.Keeper.faults in
+    let wire = c.args.wire.now in
+    let wire_now = c.serve.new.link in
+    let office = c.args.office.now in
+    let office_now = c.serve.new.who in
+    let start = progress office (given c.args.clock.now) (written wire.out.now) in
+    let now = progress office_now (given c.serve.new.clock) (written wire_now.out.now) in
+    let serves = serves_of (StepsBy (counted faults)) (counted faults) OfficeStep line_rules (λ old new ask moments reply made. made) input_limit
+    c.serve.result start now (left wire.input.now) (left wire_now.input.now) c.serve.ensures.serves in
+    let R : Result (Unit {0}) Stop → Type 0 = λ result. RunsFrom office.office
+    (outside (left wire.input.now) (given c.args.clock.now) (written wire.out.now) (tables office.keeper) (faults office.keeper))
+    (outside (left wire_now.input.now) (given c.serve.new.clock) (written wire_now.out.now) kept (faults office_now.keeper))
+    (end_status result) in
+    subst R (sym c.ended_as.ensures)
+    (runs_served (progress_of (counted faults) start) (progress_of (counted faults) now) (left wire.input.now)
+    (left wire_now.input.now) (tables office.keeper) kept c.serve.result serves keeps)
+
+pub returns-clause-read_fault : goal.returns-clause-read_fault
+returns-clause-read_fault g c is =
+    let left = g.S.Source.left in
+    let written = g.W.Sink.written in
+    fails_at (told_by (λ d. left d.input.now) (λ d. written d.out.now)) (λ d. g.S.Source.faults d.input.now) (λ d. d.input.now)
+    left g.S.Source.faults (λ told. told.left) c.args.wire.now c.serve.new.link (λ d. refl) (λ d. refl)
+    (c.serve.ensures.read_fault (only_read_fault c.serve.result c.ended_as.result c.ended_as.ensures is))
+
+pub returns-clause-write_fault : goal.returns-clause-write_fault
+returns-clause-write_fault g c is =
+    let left = g.S.Source.left in
+    let written = g.W.Sink.written in
+    fails_at (told_by (λ d. left d.input.now) (λ d. written d.out.now)) (λ d. g.W.Sink.faults d.out.now) (λ d. d.out.now)
+    written g.W.Sink.faults (λ told. told.written) c.args.wire.now c.serve.new.link (λ d. refl) (λ d. refl)
+    (c.serve.ensures.write_fault (only_write_fault c.serve.result c.ended_as.result c.ended_as.ensures is))

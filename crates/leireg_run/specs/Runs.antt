@@ -1,0 +1,26 @@
+-- Replies to lines over an office.
+use Rattle.std.specs.Prelude.{◌≡◌, ℕ, ℤ, List}
+use Rattle.register_words.specs.declared.reply.Reply.{Reply}
+use Rattle.register_words.specs.declared.request.Asked.{Asked}
+use Rattle.register_history.specs.State.{OfficeState}
+use Rattle.register_history.specs.Legal.{Session}
+use Rattle.line_reading.specs.LineRuns.{AreTextsOf}
+use Rattle.line_reading.specs.Replies.{reply_texts}
+
+-- A run ends where it has read 4,294,967,296 bytes (4 GiB). This project's profile.
+abbrev pub input_limit : ℕ
+input_limit = 4_294_967_296
+
+-- These replies answer what was asked, in order, at these moments, from one office to the other, and these bytes are
+-- their texts in order.
+pub record Answers (old : OfficeState) (asks : List Asked) (moments : List ℤ) (replies : List Reply) (written : List ℕ)
+    (new : OfficeState) : Type 0 where
+  pub session : Session old asks moments replies new
+  pub texts : written ≡ reply_texts asks replies
+
+-- The same, but of the last reply's text perhaps a front alone: these replies answer what was asked, in order, at these
+-- moments, from one office to the other, and these bytes are their texts so.
+pub record AnswersCutShort (old : OfficeState) (asks : List Asked) (moments : List ℤ) (replies : List Reply)
+    (written : List ℕ) (new : OfficeState) : Type 0 where
+  pub session : Session old asks moments replies new
+  pub texts : AreTextsOf asks replies written

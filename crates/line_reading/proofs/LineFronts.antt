@@ -1,0 +1,126 @@
+-- What is read at the front of an input of lines.
+use Rattle.std.proofs.Common.{◌≡◌, ◌<◌, ◌≤◌, ◌+◌, ℕ, List, [], ◌∷◌, ◌++◌, length, take, drop, Bool, true, false, cond, ltb, None, Some, inl, inr, refl, sym, ap, ◌∙◌, subst, append_assoc, arith, length-append}
+use Rattle.std.proofs.lemmas.Bool.Decides.{nat_tests}
+use Rattle.register_words.specs.declared.reply.Refusal.TheVariants.{NoMemory, TooLong}
+use Rattle.register_words.specs.declared.reply.Reply.{Reply}
+use Rattle.register_words.specs.declared.request.Asked.{Asked}
+use Rattle.register_words.specs.declared.request.Asked.TheVariants.{Ask, Refuse}
+use Rattle.register_words.specs.declared.request.Request.TheVariants as requests
+use Rattle.request_loop.specs.Frames.{AreMeant, IsMeant, ReadsWhole}
+use Rattle.request_loop.specs.declared.frames.Want.{Want}
+use Rattle.line_reading.specs.Limits.{line_limit}
+use Rattle.line_reading.specs.Lines.{Ends, HasNoEnd, Line, line_of}
+use Rattle.line_reading.specs.LineFrames.{Holds, IsLine, IsReadOf, line_rules, want_of, wanted}
+use Rattle.line_reading.specs.Replies.{asks_file, reply_bytes, reply_text}
+use Rattle.line_reading.specs.Requests.{MayWantMemory, asked, asked_in, cut}
+use Rattle.line_reading.specs.declared.framing.NoEnd.{NoEnd}
+use Rattle.line_reading.proofs.LineLemmas.{HasNoEnd-append, HasNoEnd-nil, length-line_of}
+use Rattle.line_reading.proofs.Lined.{Frame, wants_asked}
+
+-- ---- what is meant
+
+meant_same : (want : Want Asked NoEnd) → IsMeant line_rules want want
+meant_same want = record { asked = inl refl; ends = refl; text = λ reply. refl }
+
+same_meant : (frame : Frame) → AreMeant line_rules frame frame
+same_meant None = tt
+same_meant (Some want) = meant_same want
+
+no_file : (what : Asked) → MayWantMemory what → asks_file what ≡ false
+no_file (Refuse refusal) wants = absurd wants
+no_file (Ask (requests.Accredit issuer)) wants = absurd wants
+no_file (Ask (requests.Upload call)) wants = refl
+no_file (Ask (requests.Kept issuer number)) wants = absurd wants
+no_file (Ask (requests.Publish number)) wants = absurd wants
+no_file (Ask (requests.Show lei)) wants = absurd wants
+no_file (Ask (requests.Copy sheet form)) wants = absurd wants
+no_file (Ask (requests.Delta base sheet form)) wants = absurd wants
+no_file (Ask requests.Status) wants = absurd wants
+
+-- what is read where memory ran out is written alike
+pub text_same : (what : Asked) (reply : Reply) → MayWantMemory what
+    → reply_text (Refuse NoMemory) reply ≡ reply_text what reply
+text_same what reply wants = ap (reply_bytes reply) (sym (no_file what wants))
+
+memory_meant : (what : Asked) → MayWantMemory what → IsMeant line_rules (wanted what) (wanted (Refuse NoMemory))
+memory_meant what wants = record { asked = inr (wants, refl); ends = refl; text = λ reply. text_same what reply wants }
+
+pub are_meant : (line : Line) (frame : Frame) → IsReadOf line frame → AreMeant line_rules (want_of line) frame
+are_meant line frame (inl same) = let M : Frame → Type 0 = λ read. AreMeant line_rules (want_of line) read in
+    subst M (sym same) (same_meant (want_of line))
+are_meant line frame (inr read) =
+    let M : Frame → Type 0 = λ meant. AreMeant line_rules meant (Some (wanted (Refuse NoMemory))) in
+    let R : Frame → Type 0 = λ read. AreMeant line_rules (want_of line) read in
+    subst R (sym read.2) (subst M (sym (wants_asked line read.0)) (memory_meant (asked line) read.1))
+
+-- ---- a line is whole
+
+-- nothing is held of what comes after it
+pub holds_rest : (rest : List ℕ) → Holds false 0 rest rest
+holds_rest rest = (refl, omega arith, HasNoEnd-nil)
+
+pub reads_line : (skips : Bool) (held bytes waiting : List ℕ) (seen searched end : ℕ) (line : Line) (frame : Frame)
+    → skips ≡ false → Holds skips seen held bytes → waiting ≡ [] → end < length held → (seen ≤ length held → searched ≡ seen)
+    → (HasNoEnd (take searched held) → Ends held (take end held) (drop (end + 1) held)) → line ≡ line_of (take end held)
+    → IsReadOf line frame → ReadsWhole line_rules (Holds skips 0) bytes held waiting frame (end + 1)
+reads_line true held bytes waiting seen searched end line frame is holds waits within same ends line_is read = cc
+reads_line false held bytes waiting seen searched end line frame is holds waits within same ends line_is read =
+    let N : ℕ → Type 0 = λ n. HasNoEnd (take n held) in
+    let unseen : HasNoEnd (take searched held) = subst N (sym (same holds.1)) holds.2 in
+    let rest = drop (end + 1) held in
+    let W : List ℕ → Type 0 = λ xs. IsLine xs (want_of line) rest in
+    record {
+      within = omega (arith, within);
+      some = λ _. omega arith;
+      meant = want_of line;
+      whole = subst W holds.0 (take end held, ends unseen, ap want_of line_is);
+      are_meant = are_meant line frame read;
+      holds = holds_rest rest;
+      waits = waits;
+    }
+
+-- ---- lines that are too long
+
+too_long : (line : Line) → line_limit < length line → asked line ≡ Refuse TooLong
+unfolding asked
+too_long line long =
+    let is : ltb line_limit (length line) ≡ true = grind (arith, nat_tests) in
+    ap (λ b. cond b (Refuse TooLong) (asked_in line (cut line))) is
+
+pub long_wants : (line : Line) → line_limit < length line → want_of line ≡ Some (wanted (Refuse TooLong))
+long_wants line long = wants_asked line (omega (arith, long)) ∙ ap (λ what. Some (wanted what)) (too_long line long)
+
+-- the last line, of which a front was dropped
+pub long_last : (skips : Bool) (seen : ℕ) (held bytes : List ℕ) (want : Want Asked NoEnd) → skips ≡ true
+    → want ≡ wanted (Refuse TooLong) → Holds skips seen held bytes → IsReadOf bytes (Some want)
+long_last true seen held bytes want is refused (dropped, parts, none, long) =
+    let size : line_limit < length bytes = omega (arith, ap length parts, length-append dropped held, long) in
+    inl (ap Some refused ∙ sym (long_wants bytes size))
+long_last false seen held bytes want is refused holds = cc
+
+-- a line that is too long ends
+pub long_ends : (seen : ℕ) (held bytes waiting : List ℕ) (end : ℕ) (want : Want Asked NoEnd) → Holds true seen held bytes
+    → Ends held (take end held) (drop (end + 1) held) → end < length held → want ≡ wanted (Refuse TooLong) → waiting ≡ []
+    → ReadsWhole line_rules (Holds false 0) bytes held waiting (Some want) (end + 1)
+long_ends seen held bytes waiting end want (dropped, parts, none, long) ends within refused waits =
+    let rest = drop (end + 1) held in
+    let part = dropped ++ take end held in
+    let size : line_limit < length (line_of part) = omega
+    (arith, length-line_of part, length-append dropped (take end held), long) in
+    let cut_there : bytes ≡ (part ++ 10 ∷ []) ++ rest =
+    parts ∙ (ap (λ xs. dropped ++ xs) ends.parts
+    ∙ (sym (append_assoc dropped (take end held ++ 10 ∷ []) rest)
+    ∙ ap (λ xs. xs ++ rest) (sym (append_assoc dropped (take end held) (10 ∷ []))))) in
+    record {
+      within = omega (arith, within);
+      some = λ _. omega arith;
+      meant = Some want;
+      whole = (
+        part,
+        record { parts = cut_there; none = HasNoEnd-append dropped (take end held) none ends.none },
+        ap Some refused ∙ sym (long_wants (line_of part) size),
+      );
+      are_meant = meant_same want;
+      holds = holds_rest rest;
+      waits = waits;
+    }
