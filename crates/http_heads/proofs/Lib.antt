@@ -4,4 +4,5 @@ pub mod HeaderLemmas
 pub mod RouteLemmas
 pub mod RouteTexts
 pub mod MoreBytes
+pub mod Reading
 pub mod HeadPieces

@@ -1,11 +1,4 @@
-pub mod Filling
-pub mod Reading
 pub mod Ranging
-pub mod Wanting
-pub mod Giving
-pub mod Counting
 pub mod Sending
-pub mod Running
-pub mod Stepping
-pub mod Ending
-pub mod Completing
+pub mod Fronts
+pub mod Offices

@@ -5,8 +5,6 @@ use Rattle.std.specs.Prelude.{codes, nat_lt, option_map, if◌then◌else◌}
 use Rattle.httparse.specs.Grammar.{RequestHead}
 use Rattle.matchit.specs.Params.{named}
 use Rattle.matchit.specs.Router.{RouteOf}
-use Rattle.register_history.specs.Legal.{AskStep}
-use Rattle.register_history.specs.State.{OfficeState}
 use Rattle.register_words.proofs.Numbers.{number_within-range}
 use Rattle.register_words.specs.Requests.{IsNumbered}
 use Rattle.register_words.specs.Words.{base_of, code_of, form_of, number_of, sheet_of}
@@ -28,8 +26,10 @@ use Rattle.http_heads.specs.declared.headers.ContentLength.{ContentLength}
 use Rattle.http_heads.specs.declared.headers.HeaderFacts.{HeaderFacts}
 use Rattle.http_heads.specs.declared.routes.Method.{Method}
 use Rattle.http_heads.specs.declared.routes.Place.{Place}
-use Rattle.issuer_http.specs.Faults.{keeper_faults}
-use Rattle.issuer_http.proofs.Reading.{bad_of_read}
+use Rattle.lei_office.specs.Answering.{MayBeAsked}
+use Rattle.lei_office.specs.Faults.{keeper_faults}
+use Rattle.lei_office.proofs.Counting.{not_503}
+use Rattle.http_heads.proofs.Reading.{bad_of_read}
 
 -- ---- what is asked has a number in its range, and a refusal of the reader tells no fault of the keeper
 
@@ -127,16 +127,13 @@ in_range bytes head =
     let path = path_of (target_in bytes head) in
     on_range (route_of path) head.method path (body_in bytes head)
 
--- a request that is asked has a number in its range
-pub is_numbered : (bytes : List ℕ) (head : Head) (request : Request) → asked_in bytes head ≡ Asks request → IsNumbered request
-is_numbered bytes head request is =
-    let P : Asked → Type 0 = λ what. AsksInRange what in subst P is (in_range bytes head)
+-- so it may be asked
+range_asked : (asked : Asked) → AsksInRange asked → MayBeAsked asked
+range_asked (Refuse refusal) none = not_503 refusal none
+range_asked (Asks request) is = is
 
--- and a refusal tells no fault of the keeper
-pub tells_no_fault : (bytes : List ℕ) (head : Head) (refusal : Refusal) → asked_in bytes head ≡ Refuse refusal
-    → keeper_faults (Words refusal ∷ []) ≡ 0
-tells_no_fault bytes head refusal is =
-    let P : Asked → Type 0 = λ what. AsksInRange what in subst P is (in_range bytes head)
+pub request_asked : (bytes : List ℕ) (head : Head) → MayBeAsked (asked_in bytes head)
+request_asked bytes head = range_asked (asked_in bytes head) (in_range bytes head)
 
 -- ---- a head that is refused tells no fault of the keeper
 
@@ -185,17 +182,5 @@ bad_no_fault bytes fault (inl (none, may, is)) = subst (λ o. NoKeeperFault o) (
 bad_no_fault bytes fault (inr (inl (never, is))) = subst (λ o. NoKeeperFault o) (sym (ap fault_in is)) refl
 bad_no_fault bytes fault (inr (inr (head, rest, reads, tells))) = subst (λ o. NoKeeperFault o) tells (head_no_fault head)
 
-pub head_tells_no_fault : (bytes : List ℕ) (fault : Refusal) → IsRead bytes (HeadRead.Bad fault) → keeper_faults (Words fault ∷ []) ≡ 0
-head_tells_no_fault bytes fault read = bad_no_fault bytes fault (bad_of_read bytes fault read)
-
--- ---- want of memory
-
--- want of memory for an upload's body leaves the office, and asks for no moment
-pub step_wanting : (office : OfficeState) (what : Asked) → MayWantMemory what → AskStep office what [] (Words NoMemory) office
-step_wanting office (Refuse refusal) is = absurd is
-step_wanting office (Asks request) is = inr (is, refl, refl, refl)
-
-pub step_refused : (office : OfficeState) (what : Asked) (refusal : Refusal) → what ≡ Refuse refusal
-    → AskStep office what [] (Words refusal) office
-step_refused office what refusal is =
-    let S : Asked → Type 0 = λ ask. AskStep office ask [] (Words refusal) office in subst S (sym is) (refl, refl, refl)
+pub refusal_asked : (bytes : List ℕ) (fault : Refusal) → IsRead bytes (HeadRead.Bad fault) → MayBeAsked (Refuse fault)
+refusal_asked bytes fault read = not_503 fault (bad_no_fault bytes fault (bad_of_read bytes fault read))

@@ -12,17 +12,8 @@ use Rattle.register_words.specs.declared.reply.Reply.TheVariants.{Text, Words}
 use Rattle.http_heads.specs.Responses.{response_head}
 use Rattle.http_heads.specs.declared.responses.Content.{Content}
 use Rattle.register_words.specs.declared.reply.Allowed.{Allowed}
-use Rattle.issuer_http.specs.Responses.{IsSent, content_of, methods_in, response_bytes}
-
--- a piece was written, and one after it or a front of it
-pub sent_then : {T E : Type 0} (a b c : Option (List ℕ)) (xs ys : List ℕ) (result : Result T E) → Grows a b xs
-    → IsSent b c ys result → IsSent a c (xs ++ ys) result
-sent_then a b c xs ys (Ok done) first second = Grows-join a b c xs ys first second
-sent_then a b c xs ys (Err fault) first front =
-    let n = front.0 in
-    let within : length xs + n < length (xs ++ ys) = omega (arith, length-append xs ys, front.1) in
-    let P : List ℕ → Type 0 = λ zs. Grows a c zs in
-    (length xs + n, within, subst P (sym (take-append-add xs ys n)) (Grows-join a b c xs (take n ys) first front.2))
+use Rattle.request_loop.specs.Wires.{IsSent}
+use Rattle.issuer_http.specs.Responses.{content_of, methods_in, response_bytes}
 
 -- what is said of an Ok, where the result is no Err
 pub ok_of : {T E : Type 0} (P : Type 0) (result : Result T E) → is_err result ≡ false → OnOk result P → P

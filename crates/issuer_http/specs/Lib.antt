@@ -1,6 +1,5 @@
 pub mod Requests
 pub mod Responses
-pub mod Faults
-pub mod Moments
+pub mod Frames
+pub mod FramesStay
 pub mod Serving
-pub mod ReadBuffers

@@ -1,5 +1,5 @@
 -- Replies as responses of HTTP (RFC 9112). This project's profile.
-use Rattle.std.specs.Prelude.{ℕ, Bool, List, [], ◌∷◌, ◌++◌, length, Option, Some, None, Result, MatchResult}
+use Rattle.std.specs.Prelude.{ℕ, Bool, List, ◌++◌, length, Option, Some, None}
 use Rattle.http_heads.specs.Responses.{response_head}
 use Rattle.http_heads.specs.declared.responses.Content.{Content}
 use Rattle.http_heads.specs.declared.responses.Response.{Response}
@@ -10,8 +10,6 @@ use Rattle.register_words.specs.declared.reply.Refusal.{Refusal}
 use Rattle.register_words.specs.declared.reply.Refusal.TheVariants as refusals
 use Rattle.register_words.specs.declared.reply.Reply.{Reply}
 use Rattle.register_words.specs.declared.reply.Reply.TheVariants as replies
-use Rattle.lei_outside.specs.Told.{Grows, WritesFront}
-use Rattle.issuer_http.specs.Requests.{Want}
 
 -- What the text of a kind is.
 abbrev pub content_of : Kind → Content
@@ -63,18 +61,3 @@ response_to last reply = record {
 -- The bytes of a response: its head, and the text of the reply.
 unfoldable pub response_bytes : Bool → Reply → List ℕ
 response_bytes last reply = response_head (response_to last reply) ++ reply_words reply
-
--- The bytes of the response to what was wanted.
-abbrev pub response_text : Want → Reply → List ℕ
-response_text want reply = response_bytes want.last reply
-
--- The bytes of the responses to what was wanted, in order.
-abbrev pub response_texts : List Want → List Reply → List ℕ
-response_texts [] replies = []
-response_texts (want ∷ wants) [] = []
-response_texts (want ∷ wants) (reply ∷ replies) = response_text want reply ++ response_texts wants replies
-
--- These bytes were written whole; or a front of them, and not all.
-abbrev pub IsSent : {T E : Type 0} → Option (List ℕ) → Option (List ℕ) → List ℕ → Result T E → Type 0
-IsSent before after bytes result =
-    MatchResult result (λ _. Grows before after bytes) (λ _. WritesFront before after bytes)

@@ -16,3 +16,12 @@ pub enum Ended {
     /// Memory ran out.
     NoMemory,
 }
+
+/// How a request ends its connection.
+#[derive(Clone, Copy, Debug, PartialEq, Eq, Drop)]
+pub enum HttpEnd {
+    /// It asks to close.
+    Closed,
+    /// Its head is refused.
+    BadHead,
+}

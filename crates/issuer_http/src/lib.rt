@@ -1,13 +1,11 @@
-//! The register over HTTP: the requests that bytes begin with, the responses to them, and a connection that is served.
+//! The register over HTTP: the requests that bytes begin with, the responses to them, and a connection that is served alone.
 #![tactic(auto)]
 
-mod answering;
 mod ended;
-mod read_buffer;
+mod framing;
 mod requests;
 mod responses;
 mod serving;
-mod walking;
 
 pub use ended::Ended;
 pub use requests::{HttpRead, next_head, next_request};

@@ -3,11 +3,15 @@ ghost use Rattle.std.specs.Prelude.{◌≡◌, ◌++◌, [], length, OnOk, IsErr
 ghost use Rattle.http_heads.specs.Responses.{response_head};
 ghost use Rattle.lei_outside.specs.Count.{Rose};
 ghost use Rattle.register_words.specs.Refusals.{refusal_words};
-ghost use Rattle.issuer_http.specs.Responses.{IsSent, content_of, methods_in, response_bytes};
+ghost use Rattle.lei_outside.specs.Faults.{FailsLast};
+ghost use Rattle.lei_outside.specs.Links.{told_by};
+ghost use Rattle.request_loop.specs.Wires.{IsSent};
+ghost use Rattle.issuer_http.specs.Responses.{content_of, methods_in, response_bytes};
 
 use http_heads::{Content, Response, put_head};
 use lei_office::{Allowed, Kind, Refusal, Reply};
-use lei_outside::{Link, NoMemory, SinkFault, send_all};
+use lei_outside::{Link, NoMemory, SinkFault};
+use request_loop::{Wire, send_piece};
 use std::alloc::Global;
 
 /// A text of more bytes is sent from where it lies, and one of at most so many together with its head.
@@ -31,7 +35,6 @@ impl Scratch {
 }
 
 /// Sends the response to a reply, and says in it whether the connection is closed after it.
-#[tactic(auto, unfolding(crate::specs::Responses::response_bytes))]
 pub fn send_response<L: Link>(
     link: &mut L,
     scratch: &mut Scratch,
@@ -43,6 +46,25 @@ pub fn send_response<L: Link>(
     ensures failed { IsErrOf result SinkFault.Failed → Rose (L.write_faults link.old) (L.write_faults link.new) }
     ensures left { L.left link.new ≡ L.left link.old }
     ensures read_count { L.read_faults link.new ≡ L.read_faults link.old }
+{
+    send_reply(link, scratch, last, reply)
+}
+
+/// The same to any wire.
+#[tactic(auto, unfolding(crate::specs::Responses::response_bytes))]
+pub fn send_reply<L: Wire>(
+    link: &mut L,
+    scratch: &mut Scratch,
+    last: bool,
+    reply: &Reply,
+) -> Result<(), SinkFault>
+    ensures sent { IsSent (L.written link.old) (L.written link.new) (response_bytes last reply.now) result }
+    ensures kept { ¬ (IsErrOf result SinkFault.Failed) → L.write_faults link.new ≡ L.write_faults link.old }
+    ensures failed { IsErrOf result SinkFault.Failed →
+        FailsLast (told_by L.left L.written) L.write_faults link.old link.new }
+    ensures left { L.left link.new ≡ L.left link.old }
+    ensures read_count { L.read_faults link.new ≡ L.read_faults link.old }
+    ensures wire { L.lends_same link.old link.new }
 {
     match reply {
         Reply::Text { code, kind, text } => {
@@ -59,9 +81,9 @@ pub fn send_response<L: Link>(
     }
 }
 
-/// Sends the response to a refusal.
+// Sends the response to a refusal.
 #[tactic(auto, unfolding(crate::specs::Responses::response_bytes))]
-pub fn send_refusal<L: Link>(
+fn send_refusal<L: Wire>(
     link: &mut L,
     scratch: &mut Scratch,
     last: bool,
@@ -69,9 +91,11 @@ pub fn send_refusal<L: Link>(
 ) -> Result<(), SinkFault>
     ensures sent { IsSent (L.written link.old) (L.written link.new) (response_bytes last (Reply.Words refusal)) result }
     ensures kept { ¬ (IsErrOf result SinkFault.Failed) → L.write_faults link.new ≡ L.write_faults link.old }
-    ensures failed { IsErrOf result SinkFault.Failed → Rose (L.write_faults link.old) (L.write_faults link.new) }
+    ensures failed { IsErrOf result SinkFault.Failed →
+        FailsLast (told_by L.left L.written) L.write_faults link.old link.new }
     ensures left { L.left link.new ≡ L.left link.old }
     ensures read_count { L.read_faults link.new ≡ L.read_faults link.old }
+    ensures wire { L.lends_same link.old link.new }
 {
     if write_words(&mut scratch.words, refusal).is_err() {
         return Err(SinkFault::NoMemory);
@@ -87,7 +111,7 @@ pub fn send_refusal<L: Link>(
 }
 
 // Sends the head of a response and its text.
-fn send<L: Link>(
+fn send<L: Wire>(
     link: &mut L,
     head: &mut Vec<u8>,
     response: &Response,
@@ -95,9 +119,11 @@ fn send<L: Link>(
 ) -> Result<(), SinkFault>
     ensures sent { IsSent (L.written link.old) (L.written link.new) (response_head response.now ++ text.now) result }
     ensures kept { ¬ (IsErrOf result SinkFault.Failed) → L.write_faults link.new ≡ L.write_faults link.old }
-    ensures failed { IsErrOf result SinkFault.Failed → Rose (L.write_faults link.old) (L.write_faults link.new) }
+    ensures failed { IsErrOf result SinkFault.Failed →
+        FailsLast (told_by L.left L.written) L.write_faults link.old link.new }
     ensures left { L.left link.new ≡ L.left link.old }
     ensures read_count { L.read_faults link.new ≡ L.read_faults link.old }
+    ensures wire { L.lends_same link.old link.new }
 {
     if text.len() > COPY {
         if write_head(head, response, b"").is_err() {
@@ -108,7 +134,7 @@ fn send<L: Link>(
         if write_head(head, response, text).is_err() {
             return Err(SinkFault::NoMemory);
         }
-        send_one(link, head)
+        send_piece(link, head)
     }
 }
 
@@ -122,25 +148,17 @@ fn write_head(out: &mut Vec<u8>, response: &Response, text: &[u8]) -> Result<(),
     Ok(())
 }
 
-fn send_one<L: Link>(link: &mut L, piece: &[u8]) -> Result<(), SinkFault>
-    ensures sent { IsSent (L.written link.old) (L.written link.new) piece.now result }
-    ensures kept { ¬ (IsErrOf result SinkFault.Failed) → L.write_faults link.new ≡ L.write_faults link.old }
-    ensures failed { IsErrOf result SinkFault.Failed → Rose (L.write_faults link.old) (L.write_faults link.new) }
-    ensures left { L.left link.new ≡ L.left link.old }
-    ensures read_count { L.read_faults link.new ≡ L.read_faults link.old }
-{
-    send_all(link, piece)
-}
-
-fn send_both<L: Link>(link: &mut L, first: &[u8], second: &[u8]) -> Result<(), SinkFault>
+fn send_both<L: Wire>(link: &mut L, first: &[u8], second: &[u8]) -> Result<(), SinkFault>
     ensures sent { IsSent (L.written link.old) (L.written link.new) (first.now ++ second.now) result }
     ensures kept { ¬ (IsErrOf result SinkFault.Failed) → L.write_faults link.new ≡ L.write_faults link.old }
-    ensures failed { IsErrOf result SinkFault.Failed → Rose (L.write_faults link.old) (L.write_faults link.new) }
+    ensures failed { IsErrOf result SinkFault.Failed →
+        FailsLast (told_by L.left L.written) L.write_faults link.old link.new }
     ensures left { L.left link.new ≡ L.left link.old }
     ensures read_count { L.read_faults link.new ≡ L.read_faults link.old }
+    ensures wire { L.lends_same link.old link.new }
 {
-    match send_one(link, first) {
-        Ok(()) => send_one(link, second),
+    match send_piece(link, first) {
+        Ok(()) => send_piece(link, second),
         Err(fault) => Err(fault),
     }
 }

@@ -2,18 +2,19 @@
 ghost use Rattle.std.specs.Prelude.{◌≡◌, ℕ, List, Some};
 ghost use Rattle.http_heads.specs.Routes.{routes};
 ghost use Rattle.lei_outside.specs.Count.{Rose};
-ghost use Rattle.issuer_http.specs.Serving.{Completes, Serves, progress};
+ghost use Rattle.request_loop.specs.Frames.{Fits};
+ghost use Rattle.request_loop.specs.Serving.{progress as progress_of};
+ghost use Rattle.issuer_http.specs.Frames.{http_rules};
+ghost use Rattle.issuer_http.specs.Serving.{Completes, CompletesBy, Serves, ServesBy, ended_of, progress};
 ghost use Rattle.issuer_http.specs.declared.ended.Ended.{Ended};
 
-use crate::Ended;
-use crate::read_buffer::ReadBuffer;
-use crate::requests::RequestReader;
-use crate::responses::Scratch;
-use crate::walking::answer_all;
+use crate::ended::{Ended, HttpEnd};
+use crate::framing::HttpFraming;
 use http_heads::{Place, router};
-use lei_office::Office;
+use lei_office::{Asked, Office, Reply};
 use lei_outside::{Clock, Keeper, Link};
 use matchit::Router;
+use request_loop::{Answers, Ended as SessionEnd, Intake, serve};
 use std::alloc::Global;
 use std::thread::Threads;
 
@@ -76,61 +77,51 @@ pub fn serve_with<R: Threads + Sync, K: Keeper, L: Link, C: Clock>(
         (progress office.old.office (K.faults office.old.keeper) (C.given clock.old) (L.written link.old)) bytes
         (progress office.new.office (K.faults office.new.keeper) (C.given clock.new) (L.written link.new)) }
 {
-    serve(rt, alloc, office, router, link, clock)
+    serve_by(rt, alloc, office, router, link, clock)
 }
 
-// The same, but for what comes of a link that doesn't fail.
-fn serve<R: Threads + Sync, K: Keeper, L: Link, C: Clock>(
+// The same, whoever answers the requests.
+fn serve_by<R, A: Answers<R, Asked = Asked, Reply = Reply>, L: Link, C: Clock>(
     rt: &R,
     alloc: Global,
-    office: &mut Office<K>,
+    who: &mut A,
     router: &Router<Place>,
     link: &mut L,
     clock: &mut C,
 ) -> Ended
-    requires { router.now ≡ routes }
-    ensures serves { Serves
-        (progress office.old.office (K.faults office.old.keeper) (C.given clock.old) (L.written link.old)) (L.left link.old)
-        (progress office.new.office (K.faults office.new.keeper) (C.given clock.new) (L.written link.new)) (L.left link.new)
-        result }
+    requires routes { router.now ≡ routes }
+    requires fits { Fits A.takes A.step http_rules }
+    ensures serves { ServesBy A.step
+        (progress_of who.old (C.given clock.old) (L.written link.old)) (L.left link.old)
+        (progress_of who.new (C.given clock.new) (L.written link.new)) (L.left link.new) result }
     ensures read_fault { result ≡ Ended.ReadFault → Rose (L.read_faults link.old) (L.read_faults link.new) }
     ensures no_read_fault { ¬ (result ≡ Ended.ReadFault) → L.read_faults link.new ≡ L.read_faults link.old }
     ensures write_fault { result ≡ Ended.WriteFault → Rose (L.write_faults link.old) (L.write_faults link.new) }
     ensures no_write_fault { ¬ (result ≡ Ended.WriteFault) → L.write_faults link.new ≡ L.write_faults link.old }
+    ensures complete { (bytes : List ℕ) → L.left link.old ≡ Some bytes → ¬ (result ≡ Ended.NoMemory)
+        → ¬ (Rose (L.read_faults link.old) (L.read_faults link.new))
+        → ¬ (Rose (L.write_faults link.old) (L.write_faults link.new))
+        → CompletesBy A.step result
+        (progress_of who.old (C.given clock.old) (L.written link.old)) bytes
+        (progress_of who.new (C.given clock.new) (L.written link.new)) }
 {
-    let reader = RequestReader { alloc, router };
-    let mut buffer = ReadBuffer::new(alloc);
-    let mut scratch = Scratch::new(alloc);
-    let mut awaited = None;
-    let mut taken = 0;
-    loop {
-        let count = match buffer.read_from(link, MAX_INPUT - taken) {
-            Ok(count) => count,
-            Err(ended) => return ended,
-        };
-        if count == 0 {
-            return Ended::Closed;
-        }
-        taken += count;
-        if taken == MAX_INPUT {
-            return Ended::InputLimit;
-        }
-        let block = buffer.bytes();
-        match answer_all(
-            rt,
-            reader,
-            office,
-            block,
-            &awaited,
-            link,
-            clock,
-            &mut scratch,
-        ) {
-            Ok(walked) => {
-                buffer.use_up(walked.used);
-                awaited = walked.awaited;
-            }
-            Err(ended) => return ended,
-        }
+    let mut framing = HttpFraming::new(alloc, router);
+    let most = MAX_INPUT;
+    let intake = Intake { alloc, most };
+    let end = serve(rt, intake, who, &mut framing, link, clock);
+    ended_of(end)
+}
+
+// How a connection ends whose session ends so.
+fn ended_of(end: SessionEnd<HttpEnd>) -> Ended
+    ensures { result ≡ ended_of end }
+{
+    match end {
+        SessionEnd::AtEnd | SessionEnd::By(HttpEnd::Closed) => Ended::Closed,
+        SessionEnd::By(HttpEnd::BadHead) => Ended::BadHead,
+        SessionEnd::ReadFault => Ended::ReadFault,
+        SessionEnd::WriteFault => Ended::WriteFault,
+        SessionEnd::InputLimit => Ended::InputLimit,
+        SessionEnd::NoMemory => Ended::NoMemory,
     }
 }

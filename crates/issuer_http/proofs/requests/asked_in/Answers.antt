@@ -3,7 +3,7 @@ use Rattle.std.specs.Prelude.{IfOk, OnErr}
 use Rattle.std.specs.Str.{IsUtf8}
 use Rattle.http_heads.specs.Asking.{MayWantMemory, asked_of}
 use Rattle.http_heads.specs.Requests.{target_in}
-use Rattle.issuer_http.proofs.Reading.{found_of, target_text, whole_of}
+use Rattle.http_heads.proofs.Reading.{found_of, target_text, whole_of}
 use Rattle.issuer_http.proofs.requests.asked_in.Goals as goal
 
 pub of-requires-clause-ordered : goal.of-requires-clause-ordered

@@ -1,5 +1,5 @@
-use Rattle.issuer_http.proofs.Ending.{ends_unbegun}
+use Rattle.issuer_http.proofs.Offices.{unbegun}
 use Rattle.issuer_http.proofs.serving.serve_alone.Goals as goal
 
 pub returns-in-Err-clause-serves : goal.returns-in-Err-clause-serves
-returns-in-Err-clause-serves g c = ends_unbegun _ _
+returns-in-Err-clause-serves g c = unbegun _ _

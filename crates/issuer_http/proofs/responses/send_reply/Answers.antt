@@ -1,8 +1,9 @@
 use Rattle.std.proofs.Common.{sym, subst}
 use Rattle.register_words.specs.declared.reply.Reply.{Reply}
-use Rattle.issuer_http.specs.Responses.{IsSent, response_bytes}
+use Rattle.request_loop.specs.Wires.{IsSent}
+use Rattle.issuer_http.specs.Responses.{response_bytes}
 use Rattle.issuer_http.proofs.Sending.{text_sent}
-use Rattle.issuer_http.proofs.responses.send_response.Goals as goal
+use Rattle.issuer_http.proofs.responses.send_reply.Goals as goal
 
 pub returns-in-Text-clause-sent : goal.returns-in-Text-clause-sent
 returns-in-Text-clause-sent g c =
@@ -11,7 +12,7 @@ returns-in-Text-clause-sent g c =
 
 pub returns-in-Words-clause-sent : goal.returns-in-Words-clause-sent
 returns-in-Words-clause-sent g c =
-    let written = g.L.Link.written in
+    let written = g.L.Wire.written in
     let R : Reply → Type 0 = λ r.
     IsSent (written c.args.link.now) (written c.send_refusal.new.link) (response_bytes c.args.last r) c.send_refusal.result in
     subst R (sym c.in-Words.is) c.send_refusal.ensures.sent

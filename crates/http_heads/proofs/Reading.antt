@@ -1,15 +1,17 @@
 -- What is read of bytes, and what stays of it when bytes follow.
-use Rattle.std.proofs.Common.{◌≡◌, ◌⊎◌, ℕ, ◌+◌, ◌≤◌, List, ◌∷◌, ◌++◌, length, Bool, true, false, refl, sym, ap, ◌∙◌, subst, inl, inr, arith, length-append}
+use Rattle.std.proofs.Common.{◌≡◌, ◌⊎◌, ℕ, ◌+◌, ◌≤◌, List, ◌∷◌, ◌++◌, length, take, drop, Bool, true, false, refl, sym, ap, ◌∙◌, subst, inl, inr, arith, length-append, length-drop}
 use Rattle.std.specs.Prelude.{nat_le, nat_lt, if◌then◌else◌}
 use Rattle.std.specs.List.{flat_map}
 use Rattle.std.specs.Str.{IsUtf8}
 use Rattle.std.proofs.lemmas.Bool.{false≢true}
+use Rattle.std.proofs.lemmas.List.{drop-append-le, take-append-le}
 use Rattle.std.proofs.lemmas.Bool.Decides.{nat_tests}
 use Rattle.httparse.specs.Grammar.{LineEnd, RequestHead, crlf, lf, print_blank, print_end, print_field, print_request, print_version}
 use Rattle.http_heads.proofs.MoreBytes as heads
 use Rattle.http_heads.proofs.MoreBytes.{range_more}
 use Rattle.http_heads.specs.Heads.{IsHead, IsHeadRead}
-use Rattle.http_heads.specs.Requests.{IsRead, size_of, target_in}
+use Rattle.http_heads.specs.Asking.{asked_of}
+use Rattle.http_heads.specs.Requests.{IsRead, asked_in, body_in, size_of, target_in}
 use Rattle.http_heads.specs.declared.head.Head.{Head}
 use Rattle.http_heads.specs.declared.head.HeadRead.{HeadRead}
 use Rattle.register_words.specs.declared.reply.Refusal.{Refusal}
@@ -139,6 +141,21 @@ pub target_text : (bytes : List ℕ) (head : Head) → IsHeadRead bytes (HeadRea
 target_text bytes head read =
     let is = (found_of bytes head read).is in
     subst (λ (l : List ℕ). IsUtf8 l) (sym is.target) is.text
+
+-- and so does the body
+body_more : (bytes more : List ℕ) (head : Head) → size_of head ≤ length bytes → body_in (bytes ++ more) head ≡ body_in bytes head
+body_more bytes more head fits =
+    let within : head.body ≤ length (drop head.size bytes) = omega (arith, length-drop head.size bytes, fits) in
+    ap (take head.body) (drop-append-le head.size bytes more (omega (arith, fits)))
+    ∙ take-append-le head.body (drop head.size bytes) more within
+
+-- and what the whole request asks
+pub asked_more : (bytes more : List ℕ) (head : Head) → IsRead bytes (HeadRead.Whole head)
+    → asked_in (bytes ++ more) head ≡ asked_in bytes head
+asked_more bytes more head read =
+    let whole = whole_of bytes head read in
+    ap (λ (target : List ℕ). asked_of head.method target (body_in (bytes ++ more) head)) (target_more bytes more head whole.read)
+    ∙ ap (asked_of head.method (target_in bytes head)) (body_more bytes more head whole.fits)
 
 -- ---- a head has bytes
 

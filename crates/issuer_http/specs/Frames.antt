@@ -1,0 +1,65 @@
+-- The requests of a connection as the frames of its bytes. This project's profile.
+use Rattle.std.specs.Prelude.{◌≡◌, ◌⊎◌, ℕ, Bool, List, [], drop, is_some, if◌then◌else◌, Option, None, Some}
+use Rattle.http_heads.specs.Heads.{IsHeadRead}
+use Rattle.http_heads.specs.Requests.{IsRead, asked_in, size_of}
+use Rattle.http_heads.specs.declared.head.Head.{Head}
+use Rattle.http_heads.specs.declared.head.HeadRead.{HeadRead}
+use Rattle.lei_office.specs.Answering.{ReadsAs}
+use Rattle.register_words.specs.declared.reply.Refusal.{Refusal}
+use Rattle.register_words.specs.declared.reply.Reply.{Reply}
+use Rattle.register_words.specs.declared.request.Asked.{Asked}
+use Rattle.request_loop.specs.Frames.{Rules}
+use Rattle.request_loop.specs.declared.frames.Want.{Want}
+use Rattle.issuer_http.specs.Responses.{response_bytes}
+use Rattle.issuer_http.specs.declared.ended.HttpEnd.{HttpEnd}
+
+-- A request that asks to close is the last of its connection.
+abbrev pub end_of : Bool → Option HttpEnd
+end_of last = if last then Some HttpEnd.Closed else None
+
+-- What the whole request at the front of the bytes wants: what it asks, and whether its connection ends with the answer.
+abbrev pub want_of : List ℕ → Head → Want Asked HttpEnd
+want_of bytes head = record { asked = asked_in bytes head; ends = end_of head.last }
+
+-- A head that is refused wants its refusal, with which the connection ends.
+abbrev pub refusal_want : Refusal → Want Asked HttpEnd
+refusal_want fault = record { asked = Asked.Refuse fault; ends = Some HttpEnd.BadHead }
+
+-- The bytes after the whole request at the front.
+abbrev pub after_request : List ℕ → Head → List ℕ
+after_request bytes head = drop (size_of head) bytes
+
+-- At the front of the bytes stands a whole request, which wants this, and these bytes stand after it; or a head that is
+-- refused, which wants this, and of which no byte is taken.
+abbrev pub IsFrame : List ℕ → Option (Want Asked HttpEnd) → List ℕ → Type 0
+IsFrame bytes None rest = ⊥
+IsFrame bytes (Some want) rest =
+    ((head : Head) × IsRead bytes (HeadRead.Whole head) × (want ≡ want_of bytes head) × (rest ≡ after_request bytes head))
+    ⊎ ((fault : Refusal) × IsRead bytes (HeadRead.Bad fault) × (want ≡ refusal_want fault) × (rest ≡ bytes))
+
+-- There are no bytes, or they begin a request that isn't whole yet.
+abbrev pub NeedsMore : List ℕ → Type 0
+NeedsMore bytes = (bytes ≡ []) ⊎ IsRead bytes HeadRead.More
+
+-- The frames of a connection. Bytes that begin a request want nothing where the input ends with them, and a response tells
+-- whether the connection ends after it.
+abbrev pub http_rules : Rules Asked Reply HttpEnd
+http_rules = record {
+  whole = IsFrame;
+  begun = NeedsMore;
+  ends = λ bytes frame. frame ≡ None;
+  reads_as = ReadsAs;
+  refuses = λ asked reply. ⊥;
+  text = λ want reply. response_bytes (is_some want.ends) reply;
+}
+
+-- ---- inside
+
+-- Where the head of the request at the front of the bytes was read, it says this.
+abbrev pub IsAwaited : List ℕ → Option Head → Type 0
+IsAwaited bytes None = Unit {0}
+IsAwaited bytes (Some head) = IsHeadRead bytes (HeadRead.Whole head)
+
+-- The bytes since the last frame are held, and where the head of the next was read, it says this.
+abbrev pub holds_so : Option Head → List ℕ → List ℕ → Type 0
+holds_so awaited held bytes = (held ≡ bytes) × IsAwaited held awaited
