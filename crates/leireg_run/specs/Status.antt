@@ -1,6 +1,8 @@
 -- Statuses that the program ends with, and their words.
-use Rattle.std.specs.Prelude.{ℕ, List, [], ◌∷◌, codes, get_or, Result, Ok, Err}
+use Rattle.std.specs.Prelude.{ℕ, codes, Option, Some, None, Result, Ok, Err}
 use Rattle.lei_code.specs.Texts.{Text}
+use Rattle.register_words.specs.ExitStatuses.{exit_name, exit_number, exit_of}
+use Rattle.register_words.specs.declared.exit_status.ExitStatus.{ExitStatus}
 use Rattle.lei_outside.specs.declared.faults.SinkFault.{SinkFault}
 use Rattle.lei_outside.specs.declared.faults.SinkFault.TheVariants.{Failed, NoMemory}
 use Rattle.request_loop.specs.declared.frames.Ended.{Ended}
@@ -10,13 +12,13 @@ use Rattle.leireg_run.specs.declared.status.Stop.TheVariants as stop
 
 -- The status of a command that is stopped so.
 abbrev pub stop_status : Stop → ℕ
-stop_status stop.Refused = 2
-stop_status stop.ReadFault = 3
-stop_status stop.WriteFault = 4
-stop_status stop.KeeperFault = 5
-stop_status stop.NoMemory = 6
-stop_status stop.StoreDamaged = 7
-stop_status stop.InputTooLong = 8
+stop_status stop.Refused = exit_number ExitStatus.Refused
+stop_status stop.ReadFault = exit_number ExitStatus.ReadFault
+stop_status stop.WriteFault = exit_number ExitStatus.WriteFault
+stop_status stop.KeeperFault = exit_number ExitStatus.KeeperFault
+stop_status stop.NoMemory = exit_number ExitStatus.NoMemory
+stop_status stop.StoreDamaged = exit_number ExitStatus.StoreDamaged
+stop_status stop.InputTooLong = exit_number ExitStatus.InputTooLong
 
 -- What a fault of the output stops a command as.
 abbrev pub stop_of : SinkFault → Stop
@@ -25,7 +27,7 @@ stop_of NoMemory = stop.NoMemory
 
 -- The status of a command, which is 0 where nothing stopped it.
 abbrev pub end_status : Result (Unit {0}) Stop → ℕ
-end_status (Ok done) = 0
+end_status (Ok done) = exit_number ExitStatus.Ok
 end_status (Err stopped) = stop_status stopped
 
 -- What a run over lines is stopped as, by how serving them ended.
@@ -37,21 +39,11 @@ ended_as Ended.WriteFault = Err stop.WriteFault
 ended_as Ended.InputLimit = Err stop.InputTooLong
 ended_as Ended.NoMemory = Err stop.NoMemory
 
--- The words of the statuses from 0 on.
-abbrev pub status_words : List Text
-status_words =
-    codes "OK"
-    ∷ codes "USAGE"
-    ∷ codes "REFUSED"
-    ∷ codes "READ_FAULT"
-    ∷ codes "WRITE_FAULT"
-    ∷ codes "KEEPER_FAULT"
-    ∷ codes "NO_MEMORY"
-    ∷ codes "STORE_DAMAGED"
-    ∷ codes "INPUT_TOO_LONG"
-    ∷ codes "DOOR_FAULT"
-    ∷ []
+-- The word of a status, if there is one.
+abbrev pub word_of : Option ExitStatus → Text
+word_of (Some status) = exit_name status
+word_of None = codes "UNKNOWN"
 
--- The word of a status.
+-- The word of the status with this number.
 abbrev pub status_text : ℕ → Text
-status_text status = get_or status_words status (codes "UNKNOWN")
+status_text status = word_of (exit_of status)

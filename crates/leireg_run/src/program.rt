@@ -21,12 +21,13 @@ use crate::codes::{check, digits};
 use crate::command::command_of;
 use crate::damage::write_damage;
 use crate::demo::tell_demo;
-use crate::status::{NO_MEMORY, OK, Stop, USAGE};
+use crate::status::Stop;
 use lei_office::{Damage, Limits, Office, OpenFault};
 use lei_outside::{Clock, Keeper, Sink, SinkFault, Source};
 use line_reading::{LineFraming, NoEnd};
 use program_words::{Command, WordsFault};
 use register_demo::Progress;
+use register_words::ExitStatus;
 use request_loop::{Duplex, Ended, Intake, serve};
 use std::alloc::Global;
 use std::thread::Threads;
@@ -82,13 +83,13 @@ pub fn run<R: Threads + Sync, S: Source, T: Source, W: Sink, K: Keeper, C: Clock
 {
     let command = match command_of(alloc, words) {
         Ok(command) => command,
-        Err(WordsFault::Usage) => return (USAGE, keeper),
-        Err(WordsFault::NoMemory) => return (NO_MEMORY, keeper),
+        Err(WordsFault::Usage) => return (ExitStatus::Usage.number(), keeper),
+        Err(WordsFault::NoMemory) => return (ExitStatus::NoMemory.number(), keeper),
     };
     match run_command(
         rt, alloc, &command, input, second, out, keeper, clock, progress,
     ) {
-        (Ok(()), keeper) => (OK, keeper),
+        (Ok(()), keeper) => (ExitStatus::Ok.number(), keeper),
         (Err(stop), keeper) => (stop.status(), keeper),
     }
 }

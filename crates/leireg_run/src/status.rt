@@ -3,27 +3,9 @@ ghost use Rattle.std.specs.Prelude.{◌≡◌};
 ghost use Rattle.leireg_run.specs.Status.{stop_status, status_text};
 
 use lei_outside::{Failed, NoMemory, SinkFault};
+use register_words::ExitStatus;
 
-/// The input was read to its end, and all was written.
-pub const OK: u8 = 0;
-/// The words are no command.
-pub const USAGE: u8 = 1;
-/// A text was refused, and the refusal was written.
-pub const REFUSED: u8 = 2;
-/// The source failed.
-pub const READ_FAULT: u8 = 3;
-/// The sink failed.
-pub const WRITE_FAULT: u8 = 4;
-/// A call of the keeper failed while its store was opened.
-pub const KEEPER_FAULT: u8 = 5;
-/// Memory was wanted.
-pub const NO_MEMORY: u8 = 6;
-/// What the keeper has isn't what a history leaves, and the first difference was written.
-pub const STORE_DAMAGED: u8 = 7;
-/// The input has as many bytes as no input may have.
-pub const INPUT_TOO_LONG: u8 = 8;
-
-/// Why a command ends with another status than `OK`.
+/// Why a command ends with another status than `ExitStatus::Ok`.
 pub enum Stop {
     Refused,
     ReadFault,
@@ -39,13 +21,13 @@ impl Stop {
         ensures { result ≡ stop_status self }
     {
         match self {
-            Stop::Refused => REFUSED,
-            Stop::ReadFault => READ_FAULT,
-            Stop::WriteFault => WRITE_FAULT,
-            Stop::KeeperFault => KEEPER_FAULT,
-            Stop::NoMemory => NO_MEMORY,
-            Stop::StoreDamaged => STORE_DAMAGED,
-            Stop::InputTooLong => INPUT_TOO_LONG,
+            Stop::Refused => ExitStatus::Refused.number(),
+            Stop::ReadFault => ExitStatus::ReadFault.number(),
+            Stop::WriteFault => ExitStatus::WriteFault.number(),
+            Stop::KeeperFault => ExitStatus::KeeperFault.number(),
+            Stop::NoMemory => ExitStatus::NoMemory.number(),
+            Stop::StoreDamaged => ExitStatus::StoreDamaged.number(),
+            Stop::InputTooLong => ExitStatus::InputTooLong.number(),
         }
     }
 }
@@ -87,17 +69,8 @@ impl From<NoMemory> for Stop {
 pub fn status_text(status: u8) -> &'static str
     ensures { result.now ≡ status_text status }
 {
-    match status {
-        0 => "OK",
-        1 => "USAGE",
-        2 => "REFUSED",
-        3 => "READ_FAULT",
-        4 => "WRITE_FAULT",
-        5 => "KEEPER_FAULT",
-        6 => "NO_MEMORY",
-        7 => "STORE_DAMAGED",
-        8 => "INPUT_TOO_LONG",
-        9 => "DOOR_FAULT",
-        _ => "UNKNOWN",
+    match ExitStatus::of(status) {
+        Some(status) => status.name(),
+        None => "UNKNOWN",
     }
 }

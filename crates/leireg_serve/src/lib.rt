@@ -6,5 +6,5 @@ mod serving;
 mod words;
 
 pub use desk::{Desk, DeskEnd, serve_desk};
-pub use serving::{DOOR_FAULT, serve};
+pub use serving::serve;
 pub use words::server_of;

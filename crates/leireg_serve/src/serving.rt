@@ -14,15 +14,12 @@ use crate::words::server_of;
 use http_heads::{Place, router};
 use lei_office::{Limits, Office, OpenFault};
 use lei_outside::{Clock, Door, Gate, Keeper};
-use leireg_run::status::{KEEPER_FAULT, NO_MEMORY, OK, STORE_DAMAGED, USAGE};
 use matchit::Router;
 use program_words::WordsFault;
+use register_words::ExitStatus;
 use std::alloc::Global;
 use std::sync::Wait;
 use std::thread::Threads;
-
-/// The door failed.
-pub const DOOR_FAULT: u8 = 9;
 
 /// Serves the register that a keeper has, where the words ask for it: the lines of the one desk's door, one after the other,
 /// until the door is closed or fails. Says the status that it ends with, and gives the keeper and the desk back. It writes
@@ -56,8 +53,8 @@ pub fn serve<R: Threads + Wait + Sync, K: Keeper, D: Door, C: Clock, G: Gate>(
             let (status, keeper) = serve_over(rt, alloc, keeper, &mut desks[0]);
             (status, keeper, desks)
         }
-        Err(WordsFault::Usage) => (USAGE, keeper, desks),
-        Err(WordsFault::NoMemory) => (NO_MEMORY, keeper, desks),
+        Err(WordsFault::Usage) => (ExitStatus::Usage.number(), keeper, desks),
+        Err(WordsFault::NoMemory) => (ExitStatus::NoMemory.number(), keeper, desks),
     }
 }
 
@@ -82,7 +79,7 @@ fn serve_over<R: Threads + Wait + Sync, K: Keeper, D: Door, C: Clock>(
 {
     match router(alloc) {
         Ok(router) => open_and_serve(rt, alloc, keeper, &router, desk),
-        Err(_) => (NO_MEMORY, keeper),
+        Err(_) => (ExitStatus::NoMemory.number(), keeper),
     }
 }
 
@@ -112,9 +109,9 @@ fn open_and_serve<R: Threads + Wait + Sync, K: Keeper, D: Door, C: Clock>(
             let end = serve_desk(rt, alloc, &mut office, router, desk);
             (status_of(end), office.close())
         }
-        Err(OpenFault::KeeperFault(keeper)) => (KEEPER_FAULT, keeper),
-        Err(OpenFault::StoreDamaged(keeper, _)) => (STORE_DAMAGED, keeper),
-        Err(OpenFault::NoMemory(keeper)) => (NO_MEMORY, keeper),
+        Err(OpenFault::KeeperFault(keeper)) => (ExitStatus::KeeperFault.number(), keeper),
+        Err(OpenFault::StoreDamaged(keeper, _)) => (ExitStatus::StoreDamaged.number(), keeper),
+        Err(OpenFault::NoMemory(keeper)) => (ExitStatus::NoMemory.number(), keeper),
     }
 }
 
@@ -122,7 +119,7 @@ fn status_of(end: DeskEnd) -> u8
     ensures { result ≡ desk_status end }
 {
     match end {
-        DeskEnd::Closed => OK,
-        DeskEnd::Failed => DOOR_FAULT,
+        DeskEnd::Closed => ExitStatus::Ok.number(),
+        DeskEnd::Failed => ExitStatus::DoorFault.number(),
     }
 }

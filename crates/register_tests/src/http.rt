@@ -8,8 +8,8 @@ use lei_office::{Limits, Office};
 use lei_outside::{
     ByteLink, ByteSink, ByteSource, Bytes, List, ListDoor, NoMemory, OpenGate, SureKeeper,
 };
-use leireg_run::status::OK;
 use leireg_serve::{Desk, serve};
+use register_words::ExitStatus;
 use std::alloc::Global;
 use std::sync::Wait;
 use std::test::Fail;
@@ -525,7 +525,7 @@ fn is_done<R: Threads + Wait + Sync>(
         return false;
     };
     let (status, _, desks) = serve(rt, alloc, words, SureKeeper::new(alloc), desks, &OpenGate);
-    status == OK && has_come(&desks, wanted.as_slice())
+    status == ExitStatus::Ok.number() && has_come(&desks, wanted.as_slice())
 }
 
 #[test]

@@ -3,8 +3,8 @@ use lei_outside::{
     ByteSink, ByteSource, Bytes, Failed, List, ListClock, NoMemory, Sink, Source, SureKeeper,
     SureSink, SureSource,
 };
-use leireg_run::status::{INPUT_TOO_LONG, READ_FAULT, WRITE_FAULT};
 use leireg_run::{Untold, no_file, run};
+use register_words::ExitStatus;
 use std::alloc::Global;
 use std::test::Fail;
 use std::thread::Threads;
@@ -75,7 +75,7 @@ fn ends_at_read<R: Threads + Sync>(rt: &R, alloc: Global, words: &[String], call
     let mut sink = SureSink::new(alloc, usize::MAX);
     let (status, _) = status_of(rt, alloc, words, &mut source, &mut sink);
     let read = LINES.len().saturating_sub(source.left().len());
-    status == READ_FAULT
+    status == ExitStatus::ReadFault.number()
         && line_ends(sink.written()) == line_ends(&LINES.as_bytes()[..read])
         && REPLIES.as_bytes().starts_with(sink.written())
 }
@@ -109,7 +109,7 @@ fn ends_at_write<R: Threads + Sync>(rt: &R, alloc: Global, words: &[String], cal
         return false;
     };
     let (status, moments) = status_of(rt, alloc, words, &mut source, &mut sink);
-    status == WRITE_FAULT
+    status == ExitStatus::WriteFault.number()
         && sink.faults() == 1
         && moments == call
         && line_ends(sink.written()) as u64 == call.saturating_sub(1)
@@ -150,6 +150,6 @@ fn ends_at_the_greatest_input(rt: HostRuntime) -> Result<(), Fail> {
     let words = words(rt.alloc())?;
     let mut sink = SureSink::new(rt.alloc(), usize::MAX);
     let (status, _) = status_of(&rt, rt.alloc(), words.as_slice(), &mut Endless, &mut sink);
-    assert!(rt; status == INPUT_TOO_LONG && sink.written().is_empty());
+    assert!(rt; status == ExitStatus::InputTooLong.number() && sink.written().is_empty());
     Ok(())
 }

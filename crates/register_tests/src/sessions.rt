@@ -5,8 +5,8 @@ use keeper_sqlite::SqliteKeeper;
 use lei_outside::{
     Bytes, Keeper, List, ListClock, NoMemory, Sink, SureKeeper, SureSink, SureSource,
 };
-use leireg_run::status::OK;
 use leireg_run::{Untold, no_file, run};
+use register_words::ExitStatus;
 use std::alloc::{AllocError, Global};
 use std::test::Fail;
 use std::thread::Threads;
@@ -60,8 +60,8 @@ fn are_alike<R: Threads + Sync, K: Keeper + Drop>(
 ) -> Result<(bool, SureKeeper), NoMemory> {
     let (status, written, memory) = came(rt, alloc, words, lines, memory)?;
     let (same_status, same, _) = came(rt, alloc, words, lines, file)?;
-    let are_alike = status == OK
-        && same_status == OK
+    let are_alike = status == ExitStatus::Ok.number()
+        && same_status == ExitStatus::Ok.number()
         && written == same
         && !written.as_slice().is_empty();
     Ok((are_alike, memory))

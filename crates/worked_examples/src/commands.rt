@@ -1,8 +1,8 @@
 //! The commands of the register over memory alone.
 use lei_outside::SureKeeper;
 use leireg_commands::{run_command, tell};
-use leireg_run::status::{NO_MEMORY, USAGE};
 use program_words::{WordsFault, wanted};
+use register_words::ExitStatus;
 use std::mem::forget;
 use std::thread::Threads;
 
@@ -17,10 +17,10 @@ pub fn run_words<R: Threads + Sync>(rt: &R, host: &HostRuntime, words: &[String]
                 forget(keeper);
                 status
             }
-            Some(_) => USAGE,
+            Some(_) => ExitStatus::Usage.number(),
         },
-        Err(WordsFault::Usage) => USAGE,
-        Err(WordsFault::NoMemory) => NO_MEMORY,
+        Err(WordsFault::Usage) => ExitStatus::Usage.number(),
+        Err(WordsFault::NoMemory) => ExitStatus::NoMemory.number(),
     };
     tell(host, status, words);
     status
