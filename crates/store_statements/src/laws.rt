@@ -1,0 +1,4 @@
+//! Laws on the texts of statements.
+
+/// Nothing.
+pub fn nothing() {}

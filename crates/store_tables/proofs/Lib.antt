@@ -1,0 +1,5 @@
+pub mod EntryReading
+pub mod QueryLemmas
+pub mod RowLemmas
+pub mod SameLemmas
+pub mod ValueLemmas

@@ -1,0 +1,4 @@
+pub mod Crash
+pub mod Same
+pub mod Stored
+pub mod Told

@@ -1,0 +1,4 @@
+//! Laws on stored tables.
+
+/// Nothing.
+pub fn nothing() {}
