@@ -1,4 +1,6 @@
+pub mod CellReading
 pub mod EntryReading
+pub mod PlaceLemmas
 pub mod QueryLemmas
 pub mod RowLemmas
 pub mod SameLemmas

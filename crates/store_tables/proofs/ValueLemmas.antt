@@ -13,7 +13,7 @@ use Rattle.sqlite_sql.specs.declared.ops.BinaryOp.TheVariants.{Compare}
 use Rattle.sqlite_sql.specs.declared.ops.CompareOp.TheVariants.{Gt, Le, Eq, Ne}
 use Rattle.sqlite_sql.specs.Ops.{binary, from_truth, is_true}
 
-told_truth : (b : Bool) → is_true (from_truth (Some b)) ≡ b
+pub told_truth : (b : Bool) → is_true (from_truth (Some b)) ≡ b
 told_truth true = refl
 told_truth false = refl
 
