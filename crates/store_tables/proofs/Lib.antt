@@ -1,5 +1,7 @@
 pub mod CellReading
 pub mod EntryReading
+pub mod LastReading
+pub mod NumberLemmas
 pub mod PlaceLemmas
 pub mod QueryLemmas
 pub mod RowLemmas
