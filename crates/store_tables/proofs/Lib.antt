@@ -1,5 +1,6 @@
 pub mod CellReading
 pub mod EntryReading
+pub mod EntryWriting
 pub mod LastReading
 pub mod NumberLemmas
 pub mod PlaceLemmas
@@ -7,3 +8,4 @@ pub mod QueryLemmas
 pub mod RowLemmas
 pub mod SameLemmas
 pub mod ValueLemmas
+pub mod WriteLemmas
