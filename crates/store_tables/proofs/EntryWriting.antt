@@ -37,7 +37,7 @@ entry_cast : (e : KeptEntry) → cast_row entry_table (Int (pos e.seq) ∷ Null 
     ∷ Blob e.body ∷ Blob e.answer ∷ []) ≡ stored_entry e
 entry_cast e = rw (cast_int (pos e.seq), cast_null, cast_int (pos e.kind), cast_int (pos e.number), cast_int e.moment, cast_int (pos e.rules))
 
-not_taken : (b : Bool) → not b ≡ true → b ≡ false
+pub not_taken : (b : Bool) → not b ≡ true → b ≡ false
 not_taken true h = cc
 not_taken false h = refl
 

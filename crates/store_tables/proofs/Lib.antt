@@ -1,4 +1,5 @@
 pub mod CellReading
+pub mod CellWriting
 pub mod EntryReading
 pub mod EntryWriting
 pub mod LastReading

@@ -87,7 +87,7 @@ differ_is a b p q below =
     let y : rowid b ≡ Int (id_in (column b 0)) = ap rowid q.0 in
     subst₂ (λ v w. differ v w ≡ true) (sym x) (sym y) (ids_differ _ _ (subst₂ (λ v w. value_cmp v w ≡ Less) x y below))
 
-none_true : (b : Bool) → (b ≡ true → ⊥) → b ≡ false
+pub none_true : (b : Bool) → (b ≡ true → ⊥) → b ≡ false
 none_true true h = absurd (h refl)
 none_true false h = refl
 
