@@ -8,5 +8,6 @@ pub mod PlaceLemmas
 pub mod QueryLemmas
 pub mod RowLemmas
 pub mod SameLemmas
+pub mod StepLemmas
 pub mod ValueLemmas
 pub mod WriteLemmas
