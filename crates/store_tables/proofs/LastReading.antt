@@ -15,6 +15,7 @@ use Rattle.lei_outside.specs.declared.entry.KeptEntry.{KeptEntry}
 use Rattle.store_statements.specs.Commands.{last_query}
 use Rattle.sqlite_value.specs.declared.value.Value.TheVariants as value
 use Rattle.sqlite_sql.specs.Term.{lit}
+use Rattle.store_tables.specs.Calls.{number_row}
 use Rattle.store_tables.specs.Stored.{entry_of}
 use Rattle.store_tables.specs.Told.{StoredRows, tables_of}
 use Rattle.store_tables.proofs.NumberLemmas.{Snoc, front_of, id_is, last_of, map_snoc, snoc}
@@ -41,11 +42,6 @@ falls (r ∷ rows) up =
     each : (xs : List Row) → AllByRecursion (λ s. Above s r) xs → AllByRecursion (λ x. AllByRecursion (Above x) (r ∷ [])) xs
     each [] all = tt
     each (x ∷ xs) all = ((all.0, tt), each xs all.1)
-
--- The row of the last number, or none.
-abbrev pub number_row : Option KeptEntry → List Row
-number_row None = []
-number_row (Some e) = (Int (pos e.seq) ∷ []) ∷ []
 
 abbrev last_in : List Row → List Row
 last_in xs = number_row (slice_get (map entry_of xs) (length (map entry_of xs) - 1))

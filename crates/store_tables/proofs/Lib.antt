@@ -1,3 +1,4 @@
+pub mod CallLemmas
 pub mod CellReading
 pub mod CellWriting
 pub mod EntryReading
@@ -8,6 +9,7 @@ pub mod PlaceLemmas
 pub mod QueryLemmas
 pub mod RowLemmas
 pub mod SameLemmas
+pub mod StateLemmas
 pub mod StepLemmas
 pub mod ValueLemmas
 pub mod WriteLemmas

@@ -24,6 +24,7 @@ use Rattle.lei_outside.specs.declared.entry.KeptEntry.{KeptEntry}
 use Rattle.lei_outside.specs.declared.keeper.KeptCell.{KeptCell}
 use Rattle.lei_outside.proofs.CellLemmas.{itself, tied}
 use Rattle.store_statements.specs.Schemas.{both_schema}
+use Rattle.store_tables.specs.Calls.{Tells, with_entry}
 use Rattle.store_tables.specs.Stored.{cell_fits, cell_of, entry_fits, entry_of, stored_cell, stored_entry}
 use Rattle.store_tables.specs.Told.{StoredRows, placed, rows_in, tables_of, told_by, told_of}
 use Rattle.store_tables.proofs.CellWriting.{Puts, Stay, cell_again, cell_is_cell}
@@ -77,9 +78,6 @@ all_below : (e : KeptEntry) (last : ℕ) (rows : List Row) → last < e.seq → 
 all_below e last [] low each most = tt
 all_below e last (r ∷ rows) low each most =
     (subst (λ v. value_cmp v (rowid (stored_entry e)) ≡ Less) (sym (id_is r each.0)) (below_new _ _ (let top = most.0 in omega (arith, top, low))), all_below e last rows low each.1 most.1)
-
-abbrev pub with_entry : KeptEntry → KeptTables → KeptTables
-with_entry e t = record { entries = t.entries ++ e ∷ []; cells = t.cells }
 
 pub holds_insert : (old new : Database) (t : KeptTables) (e : KeptEntry) → Holds old t → Inserts old new e → entry_fits e ≡ true → e.seq ≡ last_number t + 1 → Holds new (with_entry e t)
 holds_insert old new t e h made fits next =
