@@ -1,6 +1,8 @@
 -- What the statements answer of a store that is ready, and what they make of it inside a transaction.
-use Rattle.std.proofs.Common.{◌≡◌, ◌⊎◌, inl, inr, ◌≤◌, ◌+◌, ℕ, ℤ, Bool, true, false, List, [], ◌∷◌, ◌++◌, map, take, None, Some, Option, Ok, Err, Result, IfOk, IfErr, IsTrue, refl, sym, ap, subst, ◌∙◌, arith}
+use Rattle.std.proofs.Common.{◌≡◌, ◌⊎◌, inl, inr, ◌≤◌, ◌<◌, ◌^◌, ◌+◌, nat_le, nat_lt, ℕ, ℤ, Bool, true, false, List, [], ◌∷◌, ◌++◌, map, take, None, Some, Option, Ok, Err, Result, IfOk, IfErr, IsTrue, refl, sym, ap, subst, ◌∙◌, arith}
 use Rattle.std.specs.List.{AllByRecursion}
+use Rattle.std.proofs.lemmas.Bool.Decides.{nat_tests}
+use Rattle.std.proofs.lemmas.List.Sums.{fold-append}
 use Rattle.sqlite_value.specs.declared.value.Value.TheVariants.{Null}
 use Rattle.sqlite_value.specs.Order.{Row}
 use Rattle.sqlite_trees.specs.Tree.{Trees}
@@ -21,8 +23,9 @@ use Rattle.store_statements.specs.Rows.{cell_row, entry_row}
 use Rattle.store_statements.specs.Schemas.{both_schema}
 use Rattle.store_statements.specs.Texts.{cells_text, entries_text, insert_text, last_text, put_text}
 use Rattle.store_statements.proofs.Meanings.{cells_is, cells_plain, entries_is, entries_plain, last_is, last_plain}
-use Rattle.store_tables.specs.Calls.{IsInside, IsNext, IsReady, Tells, Turns, last_rows, with_entry}
-use Rattle.store_tables.specs.Stored.{cell_fits, entry_fits}
+use Rattle.store_tables.specs.Calls.{IsInside, IsNext, IsReady, Tells, Turns, last_rows, with_cells, with_entry}
+use Rattle.store_tables.specs.Stored.{cell_fits, entry_fits, is_entry_number}
+use Rattle.store_tables.proofs.SameLemmas.{both_of}
 use Rattle.store_tables.specs.Told.{told_by}
 use Rattle.store_tables.proofs.CellReading.{cells_answer}
 use Rattle.store_tables.proofs.CellWriting.{puts}
@@ -83,20 +86,63 @@ tells_holds s t h = told_holds s.now t h.both h.sound h.told
 holds_tells : (s : State) (t : KeptTables) → Holds s.now t → Tells s.now.schema s.now.trees t
 holds_tells s t h = record { both = h.schema; sound = h.sound; told = holds_told s.now t h }
 
-pub turns_insert : (old new : State) (e : KeptEntry) (count : ℕ) → entry_fits e ≡ true → ExecutesInside 0 insert_text (entry_row e) old new (Ok count)
+test_le : (m n : ℕ) → m ≤ n → nat_le m n ≡ true
+test_le m n low = grind (arith, nat_tests)
+
+test_lt : (m n : ℕ) → m < n → nat_lt m n ≡ true
+test_lt m n low = grind (arith, nat_tests)
+
+number_fits : (n : ℕ) → 1 ≤ n → n ≤ 9223372036854775807 → is_entry_number n ≡ true
+number_fits n low high = both_of _ _ (test_le 1 n low) (test_le n 9223372036854775807 high)
+
+-- the numbers of an entry and of a cell are within the ranges of their types
+pub record EntryRanges (e : KeptEntry) : Type 0 where
+  pub seq : e.seq ≤ 9223372036854775807
+  pub kind : e.kind < 2 ^ 8
+  pub number : e.number < 2 ^ 32
+  pub rules : e.rules < 2 ^ 16
+
+entry_within : (e : KeptEntry) → 1 ≤ e.seq → EntryRanges e → entry_fits e ≡ true
+entry_within e low r = both_of _ _ (number_fits e.seq low r.seq) (both_of _ _ (test_lt e.kind (2 ^ 8) r.kind) (both_of _ _ (test_lt e.number (2 ^ 32) r.number) (test_lt e.rules (2 ^ 16) r.rules)))
+
+cell_within : (c : KeptCell) → 1 ≤ c.touched → c.touched ≤ 9223372036854775807 → c.kind < 2 ^ 8 → cell_fits c ≡ true
+cell_within c low high kind = both_of _ _ (number_fits c.touched low high) (test_lt c.kind (2 ^ 8) kind)
+
+pub turns_insert : (old new : State) (e : KeptEntry) (count : ℕ) → EntryRanges e → ExecutesInside 0 insert_text (entry_row e) old new (Ok count)
     → Turns (with_entry e) (IsNext e) old new
-turns_insert old new e count fits h = record {
+turns_insert old new e count ranges h = record {
   inside = ran_inside insert_text (entry_row e) old new count h;
   told = λ t next tells.
   let it = tells_holds old t tells in
+  let fits = entry_within e (omega (arith, next)) ranges in
   holds_tells new (with_entry e t) (holds_insert old.now new.now t e it (inserts old new e count tells.both h.0) fits next);
 }
 
-pub turns_put : (old new : State) (c : KeptCell) (count : ℕ) → cell_fits c ≡ true → ExecutesInside 0 put_text (cell_row c) old new (Ok count)
-    → Turns (with_cell c) (λ _. Unit {0}) old new
-turns_put old new c count fits h = record {
+pub turns_put : (old new : State) (c : KeptCell) (count : ℕ) → c.touched ≤ 9223372036854775807 → c.kind < 2 ^ 8 → ExecutesInside 0 put_text (cell_row c) old new (Ok count)
+    → Turns (with_cell c) (λ _. 1 ≤ c.touched) old new
+turns_put old new c count high kind h = record {
   inside = ran_inside put_text (cell_row c) old new count h;
-  told = λ t next tells.
+  told = λ t low tells.
   let it = tells_holds old t tells in
+  let fits = cell_within c low high kind in
   holds_tells new (with_cell c t) (holds_put old.now new.now t c it (puts old new c count tells.both fits it.told.cells (holds_apart old.now t it) h.0) fits);
 }
+
+pub turns_none : (s : State) (P : KeptTables → Type 0) → IsTrue s.is_open → IsTrue s.in_transaction → Turns (with_cells []) P s s
+turns_none s P live mode = record { inside = record { was_open = live; is_open = live; committed = refl; mode = mode }; told = λ t fits tells. tells }
+
+pub turns_then : (f g : KeptTables → KeptTables) (P Q R : KeptTables → Type 0) (a b c : State) → ((t : KeptTables) → R t → P t × Q (f t)) → Turns f P a b → Turns g Q b c → Turns (λ t. g (f t)) R a c
+turns_then f g P Q R a b c fits one two = record {
+  inside = record { was_open = one.inside.was_open; is_open = two.inside.is_open; committed = two.inside.committed ∙ one.inside.committed; mode = two.inside.mode };
+  told = λ t r tells. let it = fits t r in two.told (f t) it.1 (one.told t it.0 tells);
+}
+
+-- the cells so far with one more
+pub one_more : (front : List KeptCell) (c : KeptCell) (t : KeptTables) → with_cell c (with_cells front t) ≡ with_cells (front ++ c ∷ []) t
+one_more front c t = ap (λ cells. record { entries = t.entries; cells = cells }) (sym (fold-append put_cell t.cells front (c ∷ [])))
+
+pub cells_more : (front : List KeptCell) (c : KeptCell) (P : KeptTables → Type 0) (a b d : State) → ((t : KeptTables) → P t → 1 ≤ c.touched)
+    → Turns (with_cells front) P a b → Turns (with_cell c) (λ _. 1 ≤ c.touched) b d → Turns (with_cells (front ++ c ∷ [])) P a d
+cells_more front c P a b d low one two =
+    let both = turns_then (with_cells front) (with_cell c) P (λ _. 1 ≤ c.touched) P a b d (λ t p. (p, low t p)) one two in
+    record { inside = both.inside; told = λ t p tells. subst (Tells d.now.schema d.now.trees) (one_more front c t) (both.told t p tells) }

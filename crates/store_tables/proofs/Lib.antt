@@ -1,6 +1,7 @@
 pub mod CallLemmas
 pub mod CellReading
 pub mod CellWriting
+pub mod CrashLemmas
 pub mod EntryReading
 pub mod EntryWriting
 pub mod LastReading

@@ -11,6 +11,7 @@ use Rattle.sqlite.specs.State.{State, HasCleanDisk}
 use Rattle.lei_outside.specs.Keeping.{KeptTables, last_number, put_cells, with_batch}
 use Rattle.lei_outside.specs.declared.entry.KeptEntry.{KeptEntry}
 use Rattle.lei_outside.specs.declared.keeper.Batch.{Batch}
+use Rattle.lei_outside.specs.declared.keeper.KeptCell.{KeptCell}
 use Rattle.store_statements.specs.Schemas.{both_schema}
 use Rattle.store_tables.specs.Crash.{IsFound}
 use Rattle.store_tables.specs.Told.{told_by}
@@ -54,6 +55,10 @@ pub record Turns (change : KeptTables → KeptTables) (Fits : KeptTables → Typ
 -- The tables with an entry behind the others.
 abbrev pub with_entry : KeptEntry → KeptTables → KeptTables
 with_entry e t = record { entries = t.entries ++ e ∷ []; cells = t.cells }
+
+-- The tables with these cells in their places.
+abbrev pub with_cells : List KeptCell → KeptTables → KeptTables
+with_cells list t = record { entries = t.entries; cells = put_cells t.cells list }
 
 -- An entry has the number behind the last.
 abbrev pub IsNext : KeptEntry → KeptTables → Type 0
