@@ -63,3 +63,28 @@ insert_plain = (refl, refl)
 pub put_plain : IsPlain (understood both_schema put_text)
 unfolding understood everything
 put_plain = (refl, refl)
+
+pub make_entries_is : (command_of (understood no_schema entry_table_text) ≡ CreateTable) × (statement_of entry_table_text (understood no_schema entry_table_text) ≡ entry_table_text)
+unfolding understood everything
+make_entries_is = (refl, refl)
+
+pub make_cells_is : (command_of (understood entry_schema cell_table_text) ≡ CreateTable) × (statement_of cell_table_text (understood entry_schema cell_table_text) ≡ cell_table_text)
+unfolding understood everything
+make_cells_is = (refl, refl)
+
+pub make_entries_plain : IsPlain (understood no_schema entry_table_text)
+unfolding understood everything
+make_entries_plain = (refl, refl)
+
+pub make_cells_plain : IsPlain (understood entry_schema cell_table_text)
+unfolding understood everything
+make_cells_plain = (refl, refl)
+
+-- where the table of entries is there, nothing is done
+pub keep_entries_is : command_of (understood entry_schema entry_table_text) ≡ Nothing
+unfolding understood everything
+keep_entries_is = refl
+
+pub keep_entries_plain : IsPlain (understood entry_schema entry_table_text)
+unfolding understood everything
+keep_entries_plain = (refl, refl)

@@ -32,8 +32,8 @@ entry_table = record {
   name = codes "entry";
   tree = 0;
   columns = column_of (codes "seq") Integer false ∷ column_of (codes "kind") Integer true ∷ column_of (codes "office") Text true
-    ∷ column_of (codes "number") Integer true ∷ column_of (codes "moment") Integer true ∷ column_of (codes "rules") Integer true
-    ∷ column_of (codes "body") Blob true ∷ column_of (codes "answer") Blob true ∷ [];
+      ∷ column_of (codes "number") Integer true ∷ column_of (codes "moment") Integer true ∷ column_of (codes "rules") Integer true
+      ∷ column_of (codes "body") Blob true ∷ column_of (codes "answer") Blob true ∷ [];
   key = Some 0;
   primary = 0 ∷ [];
   uniques = [];
@@ -51,7 +51,7 @@ cell_table = record {
   name = codes "cell";
   tree = 1;
   columns = column_of (codes "kind") Integer true ∷ column_of (codes "name") Text true ∷ column_of (codes "touched") Integer true
-    ∷ column_of (codes "row") Blob false ∷ [];
+      ∷ column_of (codes "row") Blob false ∷ [];
   key = None;
   primary = 1 ∷ 2 ∷ [];
   uniques = (1 ∷ 2 ∷ []) ∷ (3 ∷ 1 ∷ 2 ∷ []) ∷ [];

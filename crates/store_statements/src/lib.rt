@@ -1,4 +1,6 @@
-//! The statements of the stored tables, and what each of their texts means.
+//! The statements of the stored tables, what each of their texts means, and which tables a store has.
 #![tactic(auto)]
 
-pub mod laws;
+mod stage;
+
+pub use stage::{Stage, stage_of};

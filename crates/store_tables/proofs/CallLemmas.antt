@@ -1,29 +1,23 @@
 -- What the statements answer of a store that is ready, and what they make of it inside a transaction.
-use Rattle.std.proofs.Common.{◌≡◌, ◌⊎◌, inl, inr, ◌≤◌, ◌<◌, ◌^◌, ◌+◌, nat_le, nat_lt, ℕ, ℤ, Bool, true, false, List, [], ◌∷◌, ◌++◌, map, take, None, Some, Option, Ok, Err, Result, IfOk, IfErr, IsTrue, refl, sym, ap, subst, ◌∙◌, arith}
-use Rattle.std.specs.List.{AllByRecursion}
+use Rattle.std.proofs.Common.{◌≡◌, inl, inr, ◌≤◌, ◌<◌, ◌^◌, nat_le, nat_lt, ℕ, true, false, List, [], ◌∷◌, ◌++◌, map, Some, Ok, Err, Result, IfOk, IfErr, OnOk, IsTrue, refl, sym, ap, subst, ◌∙◌, arith}
 use Rattle.std.proofs.lemmas.Bool.Decides.{nat_tests}
 use Rattle.std.proofs.lemmas.List.Sums.{fold-append}
 use Rattle.sqlite_value.specs.declared.value.Value.TheVariants.{Null}
 use Rattle.sqlite_value.specs.Order.{Row}
-use Rattle.sqlite_trees.specs.Tree.{Trees}
 use Rattle.sqlite_schema.specs.declared.schema.Schema.{Schema}
-use Rattle.sqlite_schema.specs.declared.command.Command.TheVariants.{Select}
-use Rattle.sqlite_sql.specs.Query.{IsAnswer, Query}
-use Rattle.sqlite_sql.specs.Program.{overlay}
 use Rattle.sqlite.specs.declared.error.Error.{Error}
-use Rattle.sqlite.specs.Effect.{Database, IsDatabase, Reads}
+use Rattle.sqlite.specs.Effect.{Database}
 use Rattle.sqlite.specs.Listing.{understood}
-use Rattle.sqlite.specs.State.{State, ExecutesInside, ExecutesInsideIn, HasCleanDisk, IsUnchanged, KeepsCommit, Shown}
+use Rattle.sqlite.specs.State.{State, CommitsShowing, FailsToQuery, Survives, ExecutesInside, HasCleanDisk, IsUnchanged, KeepsCommit, Shown}
 use Rattle.sqlite.proofs.Callers.{IsPlain, reads_as}
-use Rattle.lei_outside.specs.Keeping.{KeptTables, cells_between, entries_between, last_number, put_cell, put_cells, with_batch}
+use Rattle.lei_outside.specs.Keeping.{KeptTables, cells_between, entries_between, put_cell}
 use Rattle.lei_outside.specs.declared.entry.KeptEntry.{KeptEntry}
 use Rattle.lei_outside.specs.declared.keeper.KeptCell.{KeptCell}
-use Rattle.lei_outside.specs.declared.keeper.Batch.{Batch}
 use Rattle.store_statements.specs.Rows.{cell_row, entry_row}
 use Rattle.store_statements.specs.Schemas.{both_schema}
 use Rattle.store_statements.specs.Texts.{cells_text, entries_text, insert_text, last_text, put_text}
 use Rattle.store_statements.proofs.Meanings.{cells_is, cells_plain, entries_is, entries_plain, last_is, last_plain}
-use Rattle.store_tables.specs.Calls.{IsInside, IsNext, IsReady, Tells, Turns, last_rows, with_cells, with_entry}
+use Rattle.store_tables.specs.Calls.{IsInside, IsNext, IsReady, IsSteady, Tells, Turns, last_rows, with_cell, with_cells, with_entry}
 use Rattle.store_tables.specs.Stored.{cell_fits, entry_fits, is_entry_number}
 use Rattle.store_tables.proofs.SameLemmas.{both_of}
 use Rattle.store_tables.specs.Told.{told_by}
@@ -32,8 +26,8 @@ use Rattle.store_tables.proofs.CellWriting.{puts}
 use Rattle.store_tables.proofs.EntryReading.{entries_answer, range}
 use Rattle.store_tables.proofs.EntryWriting.{inserts}
 use Rattle.store_tables.proofs.LastReading.{last_answer}
-use Rattle.store_tables.proofs.StateLemmas.{shown_unchanged}
-use Rattle.store_tables.proofs.StepLemmas.{Holds, holds_apart, holds_insert, holds_put, holds_told, told_holds, with_cell}
+use Rattle.store_tables.proofs.StateLemmas.{query_steady, shown_unchanged}
+use Rattle.store_tables.proofs.StepLemmas.{Holds, holds_apart, holds_insert, holds_put, holds_told, told_holds}
 
 -- ---- reading
 
@@ -113,9 +107,9 @@ pub turns_insert : (old new : State) (e : KeptEntry) (count : ℕ) → EntryRang
 turns_insert old new e count ranges h = record {
   inside = ran_inside insert_text (entry_row e) old new count h;
   told = λ t next tells.
-  let it = tells_holds old t tells in
-  let fits = entry_within e (omega (arith, next)) ranges in
-  holds_tells new (with_entry e t) (holds_insert old.now new.now t e it (inserts old new e count tells.both h.0) fits next);
+      let it = tells_holds old t tells in
+      let fits = entry_within e (omega (arith, next)) ranges in
+      holds_tells new (with_entry e t) (holds_insert old.now new.now t e it (inserts old new e count tells.both h.0) fits next);
 }
 
 pub turns_put : (old new : State) (c : KeptCell) (count : ℕ) → c.touched ≤ 9223372036854775807 → c.kind < 2 ^ 8 → ExecutesInside 0 put_text (cell_row c) old new (Ok count)
@@ -123,9 +117,9 @@ pub turns_put : (old new : State) (c : KeptCell) (count : ℕ) → c.touched ≤
 turns_put old new c count high kind h = record {
   inside = ran_inside put_text (cell_row c) old new count h;
   told = λ t low tells.
-  let it = tells_holds old t tells in
-  let fits = cell_within c low high kind in
-  holds_tells new (with_cell c t) (holds_put old.now new.now t c it (puts old new c count tells.both fits it.told.cells (holds_apart old.now t it) h.0) fits);
+      let it = tells_holds old t tells in
+      let fits = cell_within c low high kind in
+      holds_tells new (with_cell c t) (holds_put old.now new.now t c it (puts old new c count tells.both fits it.told.cells (holds_apart old.now t it) h.0) fits);
 }
 
 pub turns_none : (s : State) (P : KeptTables → Type 0) → IsTrue s.is_open → IsTrue s.in_transaction → Turns (with_cells []) P s s
@@ -146,3 +140,27 @@ pub cells_more : (front : List KeptCell) (c : KeptCell) (P : KeptTables → Type
 cells_more front c P a b d low one two =
     let both = turns_then (with_cells front) (with_cell c) P (λ _. 1 ≤ c.touched) P a b d (λ t p. (p, low t p)) one two in
     record { inside = both.inside; told = λ t p tells. subst (Tells d.now.schema d.now.trees) (one_more front c t) (both.told t p tells) }
+
+-- ---- the clauses of the functions that run the statements
+
+pub if_ok : {X E : Type 0} (r : Result X E) (P Q : X → Type 0) → ((x : X) → P x → Q x) → IfOk r P → IfOk r Q
+if_ok (Ok x) P Q then h = then x h
+if_ok (Err e) P Q then h = tt
+
+pub ready_steady : {X : Type 0} (sql : List ℕ) (params : Row) (old new : State) (show : X → List Row) (r : Result X Error) → (HasCleanDisk old → IsReady old)
+    → IsPlain (understood both_schema sql) → (old.in_transaction ≡ false → new.in_transaction ≡ false) → (HasCleanDisk new → IfOk r (λ rows. Shown sql params old new (show rows)))
+    → (HasCleanDisk new → IfErr r (FailsToQuery sql params old new)) → Survives old new (CommitsShowing sql params old) → IsSteady old new
+ready_steady sql params old new show r ready plain mode ok err survives =
+    query_steady sql params old new show r (λ clean. (ready (earlier clean)).settled) (λ clean. plain_under _ sql (ready (earlier clean)).both plain) mode ok err survives
+  where
+    earlier : HasCleanDisk new → HasCleanDisk old
+    earlier clean = omega (arith, survives.clean, clean)
+
+pub adds_entry : (old new : State) (e : KeptEntry) (r : Result ℕ Error) → EntryRanges e → ExecutesInside 0 insert_text (entry_row e) old new r → OnOk r (Turns (with_entry e) (IsNext e) old new)
+adds_entry old new e (Ok count) ranges h = turns_insert old new e count ranges h
+adds_entry old new e (Err error) ranges h = tt
+
+pub puts_cell : (old new : State) (c : KeptCell) (r : Result ℕ Error) → c.touched ≤ 9223372036854775807 → c.kind < 2 ^ 8 → ExecutesInside 0 put_text (cell_row c) old new r
+    → OnOk r (Turns (with_cell c) (λ _. 1 ≤ c.touched) old new)
+puts_cell old new c (Ok count) high kind h = turns_put old new c count high kind h
+puts_cell old new c (Err error) high kind h = tt

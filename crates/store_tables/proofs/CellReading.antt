@@ -1,5 +1,5 @@
 -- What the query on cells answers.
-use Rattle.std.proofs.Common.{◌≡◌, ◌&&◌, ℕ, pos, Bool, true, false, cond, List, [], ◌∷◌, map, filter, Ordering, Less, Equal, Greater, refl, sym, ap, ap₂, subst, subst₂, ◌∙◌, IsPermutation}
+use Rattle.std.proofs.Common.{◌≡◌, ℕ, pos, Bool, true, false, cond, List, [], ◌∷◌, map, filter, Less, Equal, refl, sym, ap, ap₂, subst, ◌∙◌}
 use Rattle.std.specs.List.{AllByRecursion}
 use Rattle.std.specs.Ordering.{nat_cmp, ordering_then}
 use Rattle.std.specs.Cmp.Lexicographic.{slice_cmp}
@@ -9,17 +9,17 @@ use Rattle.sqlite_value.specs.declared.value.Value.TheVariants.{Int, Text}
 use Rattle.sqlite_value.specs.Order.{Row, column, value_cmp}
 use Rattle.sqlite_value.proofs.OrderLemmas.{then-Equal, value_cmp-Int, value_cmp-Text}
 use Rattle.sqlite_trees.specs.Tree.{Trees, IsAscending}
-use Rattle.sqlite_trees.proofs.ListLemmas.{IsPermutation-filter, all-filter, ascending-filter, ascending-map, map-map}
+use Rattle.sqlite_trees.proofs.ListLemmas.{IsPermutation-filter, all-filter, ascending-filter, ascending-map}
 use Rattle.sqlite_rules.specs.Edit.{id_in}
 use Rattle.sqlite_sql.specs.Query.{IsAnswer, Output, output_cmp}
 use Rattle.sqlite_sql.specs.Program.{overlay}
-use Rattle.lei_outside.specs.Keeping.{Cells, cell_at}
+use Rattle.lei_outside.specs.Keeping.{cell_at}
 use Rattle.store_statements.specs.Commands.{cells_query, no_limit, within}
 use Rattle.store_statements.specs.Rows.{cell_row}
 use Rattle.store_tables.specs.Stored.{cell_of, stored_cell}
 use Rattle.store_tables.specs.Told.{placed}
 use Rattle.store_tables.proofs.EntryReading.{between, cell_number, in_range, range}
-use Rattle.store_tables.proofs.PlaceLemmas.{Apart, before, in_order, place, pos_cmp}
+use Rattle.store_tables.proofs.PlaceLemmas.{Apart, before, in_order, pos_cmp}
 use Rattle.store_tables.proofs.QueryLemmas.{answer_is, passes, shown}
 use Rattle.store_tables.proofs.RowLemmas.{AreCells, IsCell}
 

@@ -1,6 +1,6 @@
 -- What the putting of a cell makes of a store.
-use Rattle.std.proofs.Common.{◌≡◌, ◌⊎◌, inl, inr, ℕ, ℤ, pos, Bool, true, false, not, ◌&&◌, ◌||◌, List, [], ◌∷◌, ◌++◌, cond, filter, map, length, Option, None, Some, Result, Ok, Err, Ordering, Less, Equal, Greater, is_eq, arith, refl, sym, ap, subst, ◌∙◌, true≢false, IsPermutation}
-use Rattle.std.specs.List.{AllByRecursion, list_any}
+use Rattle.std.proofs.Common.{◌≡◌, ◌⊎◌, inl, inr, ℕ, ℤ, pos, Bool, true, false, not, ◌&&◌, ◌||◌, List, [], ◌∷◌, ◌++◌, cond, filter, map, Option, None, Some, Ok, Less, is_eq, arith, refl, sym, ap, subst, ◌∙◌, true≢false, IsPermutation}
+use Rattle.std.specs.List.{AllByRecursion}
 use Rattle.std.specs.FinMap.{find}
 use Rattle.std.specs.Cmp.Lexicographic.{slice_cmp}
 use Rattle.std.specs.Ordering.{nat_cmp}
@@ -10,25 +10,22 @@ use Rattle.sqlite_value.specs.declared.value.Value.TheVariants.{Null, Int, Text,
 use Rattle.sqlite_value.specs.declared.keys.Collation.TheVariants.{Binary}
 use Rattle.sqlite_value.specs.Order.{Row, column, value_cmp}
 use Rattle.sqlite_value.specs.Keys.{plain}
-use Rattle.sqlite_value.proofs.OrderLemmas.{value_cmp-Int, value_cmp_total}
+use Rattle.sqlite_value.proofs.OrderLemmas.{value_cmp_total}
 use Rattle.sqlite_trees.specs.Tree.{Trees, IsTable, has_rowid, put_row, rowid, without_rowid}
 use Rattle.sqlite_trees.proofs.ListLemmas.{all-filter, all_weaker, ascending-filter, filter_same, filter_none}
-use Rattle.sqlite_sql.specs.declared.ops.BinaryOp.TheVariants.{Compare}
-use Rattle.sqlite_sql.specs.declared.ops.CompareOp.TheVariants.{Eq}
 use Rattle.sqlite_sql.specs.Ops.{binary}
 use Rattle.sqlite_sql.specs.Query.{IsAnswer}
 use Rattle.sqlite_sql.specs.Program.{overlay}
 use Rattle.sqlite_schema.specs.Rules.{agree, equal}
-use Rattle.sqlite_schema.specs.declared.schema.Schema.{Schema}
 use Rattle.sqlite_schema.specs.declared.command.Source.TheVariants.{Values}
 use Rattle.sqlite_schema.specs.declared.command.Conflict.TheVariants.{Abort}
 use Rattle.sqlite_schema.specs.declared.command.Command.TheVariants.{InsertOr}
 use Rattle.sqlite_rules.specs.Cast.{cast, cast_row}
 use Rattle.sqlite_schema.specs.declared.schema.Kind.TheVariants.{Integer}
-use Rattle.std.specs.Cmp.{IsTotalOrder, tied_itself}
+use Rattle.std.specs.Cmp.{tied_itself}
 use Rattle.std.specs.Ordering.{ordering_reverse}
 use Rattle.std.proofs.lemmas.Cmp.{eq_by_cmp_equiv, nat_list_cmp_total}
-use Rattle.sqlite_rules.specs.Edit.{Applies, at_least, are_fresh, edit_of, edited, id_in, is_taken, next_rowid, put_all, with_rowid, without_all}
+use Rattle.sqlite_rules.specs.Edit.{Applies, at_least, are_fresh, edit_of, id_in, is_taken, next_rowid, put_all, with_rowid, without_all}
 use Rattle.sqlite_rules.specs.declared.error.Rowids.TheVariants.{Chosen, Given}
 use Rattle.sqlite_rules.specs.Keys.{AreConflicts, conflicts}
 use Rattle.sqlite_rules.specs.Lists.{Has}
@@ -160,11 +157,11 @@ stay_without rows r id c are apart has is same =
     record {
       are = record { rise = ascending-filter _ (λ x. not (has_rowid id x)) rows are.rise; each = all-filter IsCell (λ x. not (has_rowid id x)) rows are.each };
       apart = all_from (λ s. same_place (place_of c) (place s) ≡ false) (without_rowid id rows) (λ s h.
-      let it = has_filtered (λ x. not (has_rowid id x)) rows s h in
-      elim (apart_pair rows r s apart has it.0) [
-        | inl one ↦ absurd (true≢false (sym (subst (λ x. has_rowid id x ≡ true) one (has_its_id r id is)) ∙ not_taken _ it.1))
-        | inr other ↦ subst (λ p. same_place p (place s) ≡ false) same other
-      ]);
+          let it = has_filtered (λ x. not (has_rowid id x)) rows s h in
+          elim (apart_pair rows r s apart has it.0) [
+            | inl one ↦ absurd (true≢false (sym (subst (λ x. has_rowid id x ≡ true) one (has_its_id r id is)) ∙ not_taken _ it.1))
+            | inr other ↦ subst (λ p. same_place p (place s) ≡ false) same other
+          ]);
       found = λ q other. find_rest q id rows (λ x h e. subst (λ y. same_place q (place y) ≡ false) (sym (only x h e)) (subst (λ p. same_place q p ≡ false) (sym same) other));
     }
 
@@ -204,11 +201,11 @@ stay_all : (rows : List Row) (found : List Row) (id : ℤ) (c : KeptCell) → ce
 stay_all rows found id c fits are conflict none = record {
   are = are;
   apart = all_from (λ s. same_place (place_of c) (place s) ≡ false) rows (λ s h.
-  let new = cell_is_cell id c fits in
-  let is = all_has IsCell rows s are.each h in
-  let differs : agree plain by_place s by_place (stored_cell id c) ≡ false = none_true _ (λ same.
-  subst (λ xs. Has xs (rowid s ∷ [])) none (conflict.complete s h (conflict_is (stored_cell id c) s ∙ same))) in
-  apart_symm (place_of c) (place s) ∙ (sym (agree_is s (stored_cell id c) is new) ∙ differs));
+      let new = cell_is_cell id c fits in
+      let is = all_has IsCell rows s are.each h in
+      let differs : agree plain by_place s by_place (stored_cell id c) ≡ false = none_true _ (λ same.
+      subst (λ xs. Has xs (rowid s ∷ [])) none (conflict.complete s h (conflict_is (stored_cell id c) s ∙ same))) in
+      apart_symm (place_of c) (place s) ∙ (sym (agree_is s (stored_cell id c) is new) ∙ differs));
   found = λ q other. refl;
 }
 
@@ -218,9 +215,9 @@ same_cell c0 c same = λ i. record { kind = (kinds i); name = (names i); touched
   where
     kinds : c0.kind ≡ c.kind
     kinds = ap head_of same
+
     names : c0.name ≡ c.name
     names = ap tail_of same
-
 
 module _ (limit : Option ℕ) (keys : Keys) (c : KeptCell) (fits : cell_fits c ≡ true) (db : Trees) (are : AreCells (db 1)) (apart : Apart (db 1)) where
   abbrev task : Task

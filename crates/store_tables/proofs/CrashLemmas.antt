@@ -1,5 +1,5 @@
 -- What a crash may leave: one sound schema fits trees, so what an open would find is what the trees tell.
-use Rattle.std.proofs.Common.{◌≡◌, ◌⊎◌, inl, inr, Option, None, Some, IsTrue, refl, sym, ap, ap₂, subst, ◌∙◌}
+use Rattle.std.proofs.Common.{◌≡◌, Option, Some, sym, ap, subst, ◌∙◌}
 use Rattle.sqlite_trees.specs.Tree.{Trees}
 use Rattle.sqlite_trees.specs.Objects.{catalog_tree}
 use Rattle.sqlite_schema.specs.declared.schema.Schema.{Schema}
@@ -13,7 +13,7 @@ use Rattle.store_tables.specs.Calls.{IsKept, IsNext, Tells}
 use Rattle.store_tables.specs.Crash.{IsFound}
 use Rattle.store_tables.specs.Told.{told_by}
 
-one_schema : (s t : Schema) (trees : Trees) → IsSound s trees → IsSound t trees → s ≡ t
+pub one_schema : (s t : Schema) (trees : Trees) → IsSound s trees → IsSound t trees → s ≡ t
 one_schema s t trees p q = lists_once (trees catalog_tree) s t p.lists q.lists
 
 told_once : (s t : Schema) (trees : Trees) (left : Option KeptTables) (tables : KeptTables) → IsSound s trees → left ≡ told_by s trees → Tells t trees tables → left ≡ Some tables

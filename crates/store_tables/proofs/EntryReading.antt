@@ -1,34 +1,24 @@
 -- What the query on entries answers.
-use Rattle.std.proofs.Common.{◌≡◌, ◌≤◌, ◌&&◌, ℕ, ℤ, pos, Bool, true, false, cond, min, List, [], ◌∷◌, map, filter, nat_lt, nat_le, None, Some, Ordering, Less, refl, sym, ap, ap₂, subst, ◌∙◌, arith, IsPermutation}
-use Rattle.std.specs.List.{AllByRecursion, list_all}
-use Rattle.std.specs.Ordering.{ordering_then}
+use Rattle.std.proofs.Common.{◌≡◌, ◌≤◌, ◌&&◌, ℕ, pos, Bool, true, false, cond, min, List, [], ◌∷◌, map, filter, nat_lt, nat_le, Less, refl, sym, ap₂, subst, ◌∙◌, arith}
+use Rattle.std.specs.List.{AllByRecursion}
 use Rattle.std.proofs.lemmas.Bool.Decides.{nat_tests}
 use Rattle.std.proofs.lemmas.List.Sorted.{IsPermutation-refl, IsPermutation-trans}
-use Rattle.sqlite_value.specs.declared.value.Value.{Value}
-use Rattle.sqlite_value.specs.declared.value.Value.TheVariants.{Null, Int, Text, Blob}
-use Rattle.sqlite_value.specs.Order.{Row, column, value_cmp}
+use Rattle.sqlite_value.specs.declared.value.Value.TheVariants.{Int}
+use Rattle.sqlite_value.specs.Order.{Row, value_cmp}
 use Rattle.sqlite_value.proofs.OrderLemmas.{then-Equal}
-use Rattle.sqlite_trees.specs.Tree.{Trees, IsAscending, IsTable, rowid}
+use Rattle.sqlite_trees.specs.Tree.{Trees, rowid}
 use Rattle.sqlite_trees.proofs.ListLemmas.{ascending-filter, ascending-map, ascending_weaker}
 use Rattle.sqlite_value.specs.declared.keys.Collation.TheVariants.{Binary}
 use Rattle.sqlite_sql.specs.declared.ops.BinaryOp.TheVariants.{Compare}
 use Rattle.sqlite_sql.specs.declared.ops.CompareOp.TheVariants.{Gt, Le}
 use Rattle.sqlite_sql.specs.Ops.{binary, is_true}
-use Rattle.sqlite_sql.specs.Term.{eval_all}
 use Rattle.sqlite_sql.specs.Query.{IsAnswer, Output, output_cmp}
 use Rattle.sqlite_sql.specs.Program.{overlay}
-use Rattle.sqlite.specs.Effect.{Reads}
-use Rattle.sqlite.specs.State.{State, Shown}
-use Rattle.sqlite.proofs.Callers.{reads_as}
-use Rattle.lei_outside.specs.Keeping.{entries_between}
 use Rattle.lei_outside.specs.declared.entry.KeptEntry.{KeptEntry}
-use Rattle.store_statements.specs.Commands.{entries_query, no_limit, up, within}
+use Rattle.store_statements.specs.Commands.{entries_query, no_limit, within}
 use Rattle.store_statements.specs.Rows.{entry_row}
-use Rattle.store_statements.specs.Schemas.{both_schema}
-use Rattle.store_statements.specs.Texts.{entries_text}
-use Rattle.store_statements.proofs.Meanings.{entries_is, entries_plain}
 use Rattle.lei_outside.specs.declared.keeper.KeptCell.{KeptCell}
-use Rattle.store_tables.specs.Stored.{cell_fits, entry_fits, entry_of, is_entry_number, stored_entry}
+use Rattle.store_tables.specs.Stored.{cell_fits, entry_fits, entry_of, is_entry_number}
 use Rattle.store_tables.proofs.QueryLemmas.{answer_is, passes, shown}
 use Rattle.store_tables.proofs.RowLemmas.{AreEntries, IsEntry}
 use Rattle.store_tables.proofs.SameLemmas.{left_of, right_of}

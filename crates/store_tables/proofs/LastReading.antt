@@ -1,24 +1,18 @@
 -- What the query on the last number answers.
-use Rattle.std.proofs.Common.{◌≡◌, ◌⊎◌, inl, inr, ◌-◌, ℕ, pos, Bool, true, List, [], ◌∷◌, ◌++◌, length, map, filter, take, reverse, slice_get, Option, None, Some, Ordering, Less, refl, sym, ap, subst, ◌∙◌, IsPermutation}
+use Rattle.std.proofs.Common.{◌≡◌, inl, inr, ◌-◌, Bool, true, List, [], ◌∷◌, ◌++◌, length, map, filter, take, reverse, slice_get, Less, refl, sym, ap, subst, ◌∙◌, IsPermutation}
 use Rattle.std.proofs.lemmas.List.{reverse-append}
 use Rattle.std.specs.List.{AllByRecursion}
 use Rattle.std.proofs.lemmas.List.Sorted.{IsPermutation-map, IsPermutation-reverse, IsPermutation-sym, IsPermutation-trans}
-use Rattle.sqlite_value.specs.declared.value.Value.TheVariants.{Int}
 use Rattle.sqlite_value.specs.Order.{Row, value_cmp}
 use Rattle.sqlite_value.proofs.OrderLemmas.{then-Equal}
 use Rattle.sqlite_trees.specs.Tree.{Trees, IsAscending, IsTable, rowid}
 use Rattle.sqlite_trees.proofs.ListLemmas.{all-permutation, ascending-append, ascending-map, ascending_weaker, filter_all, all_of}
 use Rattle.sqlite_sql.specs.Query.{IsAnswer, Output, output_cmp}
 use Rattle.sqlite_sql.specs.Program.{overlay}
-use Rattle.lei_outside.specs.Keeping.{last_number}
-use Rattle.lei_outside.specs.declared.entry.KeptEntry.{KeptEntry}
 use Rattle.store_statements.specs.Commands.{last_query}
-use Rattle.sqlite_value.specs.declared.value.Value.TheVariants as value
-use Rattle.sqlite_sql.specs.Term.{lit}
 use Rattle.store_tables.specs.Calls.{number_row}
 use Rattle.store_tables.specs.Stored.{entry_of}
-use Rattle.store_tables.specs.Told.{StoredRows, tables_of}
-use Rattle.store_tables.proofs.NumberLemmas.{Snoc, front_of, id_is, last_of, map_snoc, snoc}
+use Rattle.store_tables.proofs.NumberLemmas.{front_of, id_is, last_of, map_snoc, snoc}
 use Rattle.store_tables.proofs.QueryLemmas.{answer_is, passes, shown}
 use Rattle.store_tables.proofs.RowLemmas.{AreEntries, IsEntry}
 

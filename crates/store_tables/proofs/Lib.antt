@@ -5,6 +5,7 @@ pub mod CrashLemmas
 pub mod EntryReading
 pub mod EntryWriting
 pub mod LastReading
+pub mod MakeLemmas
 pub mod NumberLemmas
 pub mod PlaceLemmas
 pub mod QueryLemmas
@@ -12,5 +13,6 @@ pub mod RowLemmas
 pub mod SameLemmas
 pub mod StateLemmas
 pub mod StepLemmas
+pub mod TransactionLemmas
 pub mod ValueLemmas
 pub mod WriteLemmas

@@ -1,6 +1,6 @@
 -- The numbers of entries: they rise with the ids of the rows, and the last is the greatest.
-use Rattle.std.proofs.Common.{◌≡◌, ◌⊎◌, inl, inr, ◌≤◌, ◌<◌, ◌+◌, ◌-◌, ℕ, zero, suc, pos, List, [], ◌∷◌, ◌++◌, length, map, reverse, slice_get, Option, None, Some, Ordering, Less, refl, sym, ap, subst, subst₂, ◌∙◌, arith, length-append}
-use Rattle.std.specs.FinMap.{find, from_entries, get, get-from_entries}
+use Rattle.std.proofs.Common.{◌≡◌, ◌⊎◌, inl, inr, ◌≤◌, ◌<◌, ◌-◌, ℕ, pos, List, [], ◌∷◌, ◌++◌, length, map, slice_get, Option, None, Some, Less, refl, sym, ap, subst, subst₂, ◌∙◌, arith, length-append}
+use Rattle.std.specs.FinMap.{find, get-from_entries}
 use Rattle.std.specs.List.{AllByRecursion}
 use Rattle.std.specs.Cmp.Lexicographic.{slice_cmp}
 use Rattle.std.specs.Ordering.{eq_by_cmp, int_cmp, nat_cmp}
@@ -12,11 +12,14 @@ use Rattle.sqlite_value.specs.Order.{Row, value_cmp}
 use Rattle.sqlite_value.proofs.OrderLemmas.{value_cmp-Int}
 use Rattle.sqlite_trees.specs.Tree.{IsAscending, IsTable, rowid}
 use Rattle.sqlite_trees.proofs.ListLemmas.{all-append}
-use Rattle.lei_outside.specs.Keeping.{AreKept, AreTouched, CellContent, CellPlace, IsEntryNumber, KeptTables, RiseFrom, last_number}
+use Rattle.lei_outside.specs.Keeping.{AreKept, CellContent, CellPlace, IsEntryNumber, KeptTables, RiseFrom, last_number}
 use Rattle.store_tables.specs.Stored.{cell_of, entry_of}
-use Rattle.store_tables.specs.Told.{StoredRows, placed, tables_of}
+use Rattle.std.proofs.Common.{option_and_then}
+use Rattle.sqlite_trees.specs.Tree.{Trees}
+use Rattle.sqlite_schema.specs.declared.schema.Schema.{Schema}
+use Rattle.store_tables.specs.Told.{StoredRows, placed, rows_in, tables_of, told_by, told_of}
 use Rattle.store_tables.proofs.EntryReading.{cell_number, entry_number}
-use Rattle.store_tables.proofs.RowLemmas.{AreCells, AreEntries, AreTold, IsCell, IsEntry}
+use Rattle.store_tables.proofs.RowLemmas.{AreEntries, AreTold, IsCell, IsEntry, told_of_is}
 
 pub seq : Row → ℕ
 seq r = (entry_of r).seq
@@ -128,3 +131,10 @@ all_at_most rows are = elim (snoc rows.entries) [
     low [] last is top each below = tt
     low (r ∷ xs) last is top each below =
         (let less = numbers_rise r last each.0 is below.0 in omega (arith, less, top), low xs last is top each.1 below.1)
+
+pub told_are_kept : (schema : Schema) (trees : Trees) (t : KeptTables) → told_by schema trees ≡ Some t → AreKept t
+told_are_kept schema trees t told = go (rows_in schema trees) told
+  where
+    go : (o : Option StoredRows) → option_and_then told_of o ≡ Some t → AreKept t
+    go None e = absurd (cc)
+    go (Some rows) e = let it = told_of_is rows t e in subst AreKept (sym it.1) (told_kept rows it.0)

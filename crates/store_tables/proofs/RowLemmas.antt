@@ -1,5 +1,5 @@
 -- What tests of rows say, as facts on each row.
-use Rattle.std.proofs.Common.{◌≡◌, ◌⊎◌, inl, inr, Bool, true, false, ◌&&◌, cond, List, [], ◌∷◌, map, Option, None, Some, Ordering, Less, Equal, Greater, is_lt, ℕ, length, refl, sym, ap, ap₂, subst, ◌∙◌, arith}
+use Rattle.std.proofs.Common.{◌≡◌, ◌⊎◌, inl, inr, Bool, true, false, cond, List, [], ◌∷◌, None, Some, Ordering, Less, Equal, Greater, is_lt, ℕ, length, refl, sym, ap, ◌∙◌, arith}
 use Rattle.std.specs.List.{AllByRecursion, list_all}
 use Rattle.sqlite_value.specs.Order.{Row, column, value_cmp}
 use Rattle.sqlite_rules.specs.Edit.{id_in}
@@ -9,7 +9,7 @@ use Rattle.lei_outside.specs.Keeping.{KeptTables}
 use Rattle.store_statements.specs.Schemas.{both_schema, entry_schema, no_schema}
 use Rattle.store_tables.specs.Same.{same_schema}
 use Rattle.store_tables.specs.Stored.{cell_fits, cell_of, entry_fits, entry_of, is_cell, is_entry, stored_cell, stored_entry}
-use Rattle.store_tables.specs.Told.{StoredRows, are_told, rise, rows_in, tables_of, told_by, told_of}
+use Rattle.store_tables.specs.Told.{StoredRows, are_told, rise, rows_in, tables_of, told_of}
 use Rattle.store_tables.proofs.SameLemmas.{both_of, left_of, right_of, row_is, row_itself, schema_is, schema_itself}
 
 -- ---- rows of entries and cells

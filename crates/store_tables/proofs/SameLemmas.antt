@@ -1,5 +1,5 @@
 -- What the tests say.
-use Rattle.std.proofs.Common.{◌≡◌, Bool, true, false, ◌&&◌, cond, refl, ap, ap₂, subst, arith}
+use Rattle.std.proofs.Common.{◌≡◌, Bool, true, false, ◌&&◌, refl, ap, ap₂, subst, arith}
 use Rattle.std.proofs.lemmas.Bool.Decides.{nat_tests}
 use base.Stored.{Gv, gnil, gnum, gcons}
 use Rattle.sqlite_value.specs.Order.{Row}

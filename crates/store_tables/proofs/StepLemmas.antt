@@ -1,22 +1,19 @@
 -- A store with both tables that tells them, and what an insertion and a putting make of what it tells.
-use Rattle.std.proofs.Common.{◌≡◌, ◌⊎◌, inl, inr, ◌≤◌, ◌<◌, ◌+◌, ℕ, ℤ, pos, Bool, true, false, not, cond, ◌&&◌, ◌||◌, List, [], ◌∷◌, ◌++◌, map, Option, None, Some, Ordering, Less, Equal, Greater, is_eq, refl, sym, ap, ap₂, subst, ◌∙◌, arith, true≢false, option_and_then}
-use Rattle.std.specs.List.{AllByRecursion, list_all, list_any}
-use Rattle.std.specs.FinMap.{find, from_entries, get, get-from_entries, get-insert, insert, nat_cmp-IsAntisymmetric, same_map, slice_cmp-IsAntisymmetric}
+use Rattle.std.proofs.Common.{◌≡◌, ◌≤◌, ◌<◌, ◌+◌, ℕ, ℤ, pos, Bool, true, false, not, cond, ◌&&◌, ◌||◌, List, [], ◌∷◌, ◌++◌, map, Option, Some, Ordering, Less, Equal, Greater, is_eq, refl, sym, ap, subst, ◌∙◌, arith, true≢false, option_and_then}
+use Rattle.std.specs.List.{AllByRecursion}
+use Rattle.std.specs.FinMap.{find, from_entries, get, get-from_entries, get-insert, nat_cmp-IsAntisymmetric, same_map, slice_cmp-IsAntisymmetric}
 use Rattle.std.specs.Cmp.Lexicographic.{slice_cmp}
-use Rattle.std.specs.Ordering.{eq_by_cmp, int_cmp, match_ordering, nat_cmp}
+use Rattle.std.specs.Ordering.{match_ordering, nat_cmp}
 use Rattle.std.proofs.lemmas.Bool.Decides.{nat_tests}
 use Rattle.std.proofs.lemmas.Cmp.{nat_list_cmp_total}
 use Rattle.sqlite_value.specs.declared.value.Value.TheVariants.{Int}
 use Rattle.sqlite_value.specs.Order.{Row, value_cmp}
-use Rattle.sqlite_value.specs.Keys.{plain}
 use Rattle.sqlite_value.proofs.OrderLemmas.{value_cmp-Int}
-use Rattle.sqlite_trees.specs.Tree.{IsTable, put_row, rowid}
+use Rattle.sqlite_trees.specs.Tree.{put_row, rowid}
 use Rattle.sqlite_trees.proofs.TreeLemmas.{IsTable-put_row, all-put_row}
 use Rattle.sqlite_schema.specs.declared.schema.Constraint.TheVariants.{Unique}
-use Rattle.sqlite_schema.specs.declared.schema.Schema.{Schema}
-use Rattle.sqlite_schema.specs.Rules.{Keeps, clashes}
+use Rattle.sqlite_schema.specs.Rules.{Keeps}
 use Rattle.sqlite_rules.specs.Edit.{is_taken}
-use Rattle.sqlite_rules.specs.Lists.{Has}
 use Rattle.sqlite_rules.proofs.ListLemmas.{all_has}
 use Rattle.sqlite.specs.Effect.{Database, IsDatabase}
 use Rattle.lei_outside.specs.Keeping.{CellContent, CellPlace, KeptTables, content_of, last_number, place_of, put_cell}
@@ -24,15 +21,15 @@ use Rattle.lei_outside.specs.declared.entry.KeptEntry.{KeptEntry}
 use Rattle.lei_outside.specs.declared.keeper.KeptCell.{KeptCell}
 use Rattle.lei_outside.proofs.CellLemmas.{itself, tied}
 use Rattle.store_statements.specs.Schemas.{both_schema}
-use Rattle.store_tables.specs.Calls.{Tells, with_entry}
-use Rattle.store_tables.specs.Stored.{cell_fits, cell_of, entry_fits, entry_of, stored_cell, stored_entry}
-use Rattle.store_tables.specs.Told.{StoredRows, placed, rows_in, tables_of, told_by, told_of}
+use Rattle.store_tables.specs.Calls.{with_cell, with_entry}
+use Rattle.store_tables.specs.Stored.{cell_fits, entry_fits, entry_of, stored_cell, stored_entry}
+use Rattle.store_tables.specs.Told.{StoredRows, placed, tables_of, told_by, told_of}
 use Rattle.store_tables.proofs.CellWriting.{Puts, Stay, cell_again, cell_is_cell}
-use Rattle.store_tables.proofs.EntryWriting.{Inserts, not_taken}
+use Rattle.store_tables.proofs.EntryWriting.{Inserts}
 use Rattle.store_tables.proofs.NumberLemmas.{all_at_most, id_is, map_snoc}
-use Rattle.store_tables.proofs.PlaceLemmas.{Apart, apart_rows, by_place, place, same_place}
+use Rattle.store_tables.proofs.PlaceLemmas.{Apart, apart_rows, place, same_place}
 use Rattle.store_tables.proofs.RowLemmas.{AreCells, AreEntries, AreTold, IsCell, IsEntry, rows_in_both, told_of_back, told_of_is}
-use Rattle.store_tables.proofs.SameLemmas.{both_of, left_of, right_of}
+use Rattle.store_tables.proofs.SameLemmas.{left_of}
 
 abbrev pub rows_of : Database → StoredRows
 rows_of db = record { entries = db.trees 0; cells = db.trees 1 }
@@ -98,9 +95,6 @@ holds_insert old new t e h made fits next =
     }
 
 -- ---- a cell
-
-abbrev pub with_cell : KeptCell → KeptTables → KeptTables
-with_cell c t = record { entries = t.entries; cells = put_cell t.cells c }
 
 swap : {X : Type 0} (a b : Bool) (x y z : X) → (a ≡ true → b ≡ true → ⊥) → cond a x (cond b y z) ≡ cond b y (cond a x z)
 swap true true x y z apart = absurd (apart refl refl)

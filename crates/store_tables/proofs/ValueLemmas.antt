@@ -1,16 +1,12 @@
 -- What comparisons of SQL say of numbers and texts.
-use Rattle.std.proofs.Common.{◌≡◌, ◌≤◌, ◌<◌, ◌&&◌, ℕ, ℤ, pos, Bool, true, false, not, min, List, [], ◌∷◌, nat_lt, nat_le, Some, Ordering, Less, Equal, Greater, is_gt, is_le, is_eq, refl, sym, ap, subst, ◌∙◌, arith}
-use Rattle.std.specs.Ordering.{int_cmp, nat_cmp}
-use Rattle.std.specs.Cmp.Lexicographic.{slice_cmp}
-use Rattle.std.specs.FinMap.{nat_cmp-IsAntisymmetric, slice_cmp-IsAntisymmetric}
+use Rattle.std.proofs.Common.{◌≡◌, ◌≤◌, ℕ, pos, Bool, true, false, min, nat_lt, nat_le, Some, is_gt, is_le, refl, ap, ◌∙◌, arith}
+use Rattle.std.specs.Ordering.{int_cmp}
 use Rattle.std.proofs.lemmas.Bool.Decides.{nat_tests}
-use Rattle.sqlite_value.specs.declared.value.Value.{Value}
-use Rattle.sqlite_value.specs.declared.value.Value.TheVariants.{Null, Int, Text}
+use Rattle.sqlite_value.specs.declared.value.Value.TheVariants.{Int}
 use Rattle.sqlite_value.specs.declared.keys.Collation.TheVariants.{Binary}
-use Rattle.sqlite_value.specs.Order.{value_cmp}
-use Rattle.sqlite_value.proofs.OrderLemmas.{value_cmp-Int, value_cmp-Text}
+use Rattle.sqlite_value.proofs.OrderLemmas.{value_cmp-Int}
 use Rattle.sqlite_sql.specs.declared.ops.BinaryOp.TheVariants.{Compare}
-use Rattle.sqlite_sql.specs.declared.ops.CompareOp.TheVariants.{Gt, Le, Eq, Ne}
+use Rattle.sqlite_sql.specs.declared.ops.CompareOp.TheVariants.{Gt, Le}
 use Rattle.sqlite_sql.specs.Ops.{binary, from_truth, is_true}
 
 pub told_truth : (b : Bool) → is_true (from_truth (Some b)) ≡ b

@@ -1,18 +1,18 @@
 -- What the calls of a keeper do to a connection.
-use Rattle.std.specs.Prelude.{◌≡◌, ◌≤◌, ◌⊎◌, ◌+◌, ◌-◌, List, ◌∷◌, ◌++◌, [], length, slice_get, ℕ, pos, false, Option, Some, None, IsTrue}
+use Rattle.std.specs.Prelude.{◌≡◌, ◌≤◌, ◌⊎◌, ◌+◌, ◌-◌, List, ◌∷◌, ◌++◌, [], length, slice_get, pos, false, Option, Some, None, IsTrue}
 use Rattle.sqlite_value.specs.declared.value.Value.TheVariants.{Int}
 use Rattle.sqlite_value.specs.Order.{Row}
 use Rattle.sqlite_trees.specs.Tree.{Trees}
 use Rattle.sqlite_trees.specs.View.{doubt}
 use Rattle.sqlite_schema.specs.declared.schema.Schema.{Schema}
 use Rattle.sqlite_catalog.specs.Listing.{IsSound}
-use Rattle.sqlite.specs.Effect.{Database, IsDatabase}
+use Rattle.sqlite.specs.Effect.{IsDatabase}
 use Rattle.sqlite.specs.State.{State, HasCleanDisk}
-use Rattle.lei_outside.specs.Keeping.{KeptTables, last_number, put_cells, with_batch}
+use Rattle.lei_outside.specs.Keeping.{KeptTables, last_number, put_cell, put_cells, with_batch}
 use Rattle.lei_outside.specs.declared.entry.KeptEntry.{KeptEntry}
 use Rattle.lei_outside.specs.declared.keeper.Batch.{Batch}
 use Rattle.lei_outside.specs.declared.keeper.KeptCell.{KeptCell}
-use Rattle.store_statements.specs.Schemas.{both_schema}
+use Rattle.store_statements.specs.Schemas.{both_schema, entry_schema, no_schema}
 use Rattle.store_tables.specs.Crash.{IsFound}
 use Rattle.store_tables.specs.Told.{told_by}
 
@@ -56,6 +56,10 @@ pub record Turns (change : KeptTables → KeptTables) (Fits : KeptTables → Typ
 abbrev pub with_entry : KeptEntry → KeptTables → KeptTables
 with_entry e t = record { entries = t.entries ++ e ∷ []; cells = t.cells }
 
+-- The tables with a cell in its place.
+abbrev pub with_cell : KeptCell → KeptTables → KeptTables
+with_cell c t = record { entries = t.entries; cells = put_cell t.cells c }
+
 -- The tables with these cells in their places.
 abbrev pub with_cells : List KeptCell → KeptTables → KeptTables
 with_cells list t = record { entries = t.entries; cells = put_cells t.cells list }
@@ -77,3 +81,25 @@ number_row (Some e) = (Int (pos e.seq) ∷ []) ∷ []
 -- That of the last entry.
 abbrev pub last_rows : KeptTables → List Row
 last_rows t = number_row (slice_get t.entries (length t.entries - 1))
+
+-- ---- the making of the tables
+
+-- No table was made, or the table of entries alone.
+abbrev pub IsBegun : Schema → Type 0
+IsBegun schema = (schema ≡ no_schema) ⊎ (schema ≡ entry_schema)
+
+-- Inside a transaction tables are made, which changes nothing of what is told.
+pub record Makes (after : Schema) (old new : State) : Type 0 where
+  pub inside : IsInside old new
+  pub schema : new.now.schema ≡ after
+  pub told : told_by new.now.schema new.now.trees ≡ told_by old.now.schema old.now.trees
+
+-- What a transaction that makes tables commits.
+abbrev pub IsMade : State → Trees → Type 0
+IsMade s trees =
+    IsTrue s.is_open × ((schema : Schema) × IsSound schema trees × (told_by schema trees ≡ told_by s.now.schema s.now.trees))
+
+-- A transaction was taken back.
+pub record IsUndone (old new : State) : Type 0 where
+  pub was_open : IsTrue new.is_open → IsTrue old.is_open
+  pub now : IsTrue new.is_open → new.now ≡ old.committed

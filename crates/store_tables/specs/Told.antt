@@ -1,5 +1,5 @@
 -- What a store tells of the two tables.
-use Rattle.std.specs.Prelude.{ℕ, ◌&&◌, Bool, true, false, not, if◌then◌else◌, List, [], ◌∷◌, map, Option, None, Some, option_and_then}
+use Rattle.std.specs.Prelude.{◌&&◌, Bool, true, not, if◌then◌else◌, List, [], ◌∷◌, map, Option, None, Some, option_and_then}
 use Rattle.std.specs.FinMap.{from_entries}
 use Rattle.std.specs.List.{list_all}
 use Rattle.std.specs.Ordering.{is_lt}

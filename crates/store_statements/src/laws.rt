@@ -1,4 +1,0 @@
-//! Laws on the texts of statements.
-
-/// Nothing.
-pub fn nothing() {}
