@@ -4,7 +4,7 @@ ghost use Rattle.lei_outside.specs.Count.{Rose};
 ghost use Rattle.lei_outside.specs.Keeping.{AreKept, CommitLeaves, Commits, IsBatch, IsNextOf, LeavesNoMore, Stays, cells_between, entries_between, last_number};
 ghost use Rattle.keeper_sqlite.specs.Keepers.{leaves_from, tables_in};
 
-use crate::faults::counted;
+use crate::faults::{Cause, counted};
 use crate::store::Store;
 use lei_outside::{Batch, KeepFault, Keeper, KeptCell, KeptEntry, List};
 use sqlite::{Alter, Connection, File, FileStore};
@@ -70,6 +70,14 @@ impl<S: Alter> SqliteKeeper<S> {
         match store {
             Some(store) => Some(store.into_connection()),
             None => None,
+        }
+    }
+
+    /// Why the last call that failed did so. Before the first one it says nothing.
+    pub fn cause(&self) -> Cause {
+        match &self.store {
+            Some(store) => store.cause(),
+            None => Cause::Unopened,
         }
     }
 

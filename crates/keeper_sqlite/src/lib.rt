@@ -10,4 +10,5 @@ mod rows;
 mod store;
 mod writing;
 
+pub use faults::Cause;
 pub use keeper::SqliteKeeper;

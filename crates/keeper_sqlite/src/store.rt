@@ -3,6 +3,7 @@ ghost use Rattle.std.specs.Prelude.{◌≡◌, IfSome, IfOk, OnOk};
 ghost use Rattle.lei_outside.specs.Keeping.{AreKept, CommitLeaves, Commits, IsBatch, IsNextOf, LeavesNoMore, Stays, cells_between, entries_between, last_number};
 ghost use Rattle.keeper_sqlite.specs.Keepers.{leaves_of, tables_of};
 
+use crate::faults::Cause;
 use crate::over;
 use lei_outside::{Batch, KeepFault, KeptCell, KeptEntry, List};
 use sqlite::{Alter, Connection};
@@ -16,6 +17,8 @@ pub struct Store<S: Alter> {
     conn: Connection<S>,
     // What the connection was when it was adopted, for contracts alone.
     adopted: Snapshot<Connection<S>>,
+    // Why the last call that failed did so.
+    cause: Cause,
 }
 
 impl<S: Alter> Model for Store<S> {
@@ -40,6 +43,7 @@ impl<S: Alter> Store<S> {
             alloc,
             adopted: Snapshot::of(&conn),
             conn,
+            cause: Cause::Row,
         }
     }
 
@@ -51,6 +55,11 @@ impl<S: Alter> Store<S> {
         conn
     }
 
+    // Why the last call that failed did so.
+    pub fn cause(&self) -> Cause {
+        self.cause
+    }
+
     // The greatest number of an entry, 0 where there is none.
     pub fn last(&mut self) -> Result<u64, KeepFault>
         ensures answer { IfSome (tables_of S.Store self.new) (λ told. IfOk result (λ number. number ≡ last_number told)) }
@@ -58,7 +67,7 @@ impl<S: Alter> Store<S> {
         ensures same { Stays (tables_of S.Store self.old) (tables_of S.Store self.new) }
         ensures crash { LeavesNoMore (leaves_of S.Store self.old) (leaves_of S.Store self.new) }
     {
-        over::last(&mut self.conn)
+        over::last(&mut self.conn, &mut self.cause)
     }
 
     pub fn entries(&mut self, after: u64, upto: u64) -> Result<List<KeptEntry>, KeepFault>
@@ -66,7 +75,7 @@ impl<S: Alter> Store<S> {
         ensures same { Stays (tables_of S.Store self.old) (tables_of S.Store self.new) }
         ensures crash { LeavesNoMore (leaves_of S.Store self.old) (leaves_of S.Store self.new) }
     {
-        over::entries(&mut self.conn, self.alloc, after, upto)
+        over::entries(&mut self.conn, self.alloc, after, upto, &mut self.cause)
     }
 
     pub fn cells(&mut self, after: u64, upto: u64) -> Result<List<KeptCell>, KeepFault>
@@ -74,7 +83,7 @@ impl<S: Alter> Store<S> {
         ensures same { Stays (tables_of S.Store self.old) (tables_of S.Store self.new) }
         ensures crash { LeavesNoMore (leaves_of S.Store self.old) (leaves_of S.Store self.new) }
     {
-        over::cells(&mut self.conn, self.alloc, after, upto)
+        over::cells(&mut self.conn, self.alloc, after, upto, &mut self.cause)
     }
 
     // Keeps a batch by one transaction. Whatever is refused, all of it is taken back.
@@ -84,6 +93,6 @@ impl<S: Alter> Store<S> {
         ensures tables { Commits batch.now result (tables_of S.Store self.old) (tables_of S.Store self.new) }
         ensures crash { CommitLeaves batch.now result (tables_of S.Store self.old) (tables_of S.Store self.new) (leaves_of S.Store self.old) (leaves_of S.Store self.new) }
     {
-        over::commit(&mut self.conn, batch)
+        over::commit(&mut self.conn, batch, &mut self.cause)
     }
 }
