@@ -1,1 +1,5 @@
 pub mod RowLemmas
+pub mod StoreLemmas
+pub mod TransactionLemmas
+pub mod KeepLemmas
+pub mod SinceLemmas

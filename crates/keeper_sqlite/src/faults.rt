@@ -4,6 +4,46 @@ ghost use Rattle.lei_outside.specs.Count.{Rose};
 
 use lei_outside::KeepFault;
 use sqlite::{Error, ErrorCode};
+use std::fmt;
+
+/// Why a call of a keeper failed.
+#[derive(Clone, Copy, Debug, PartialEq, Eq)]
+pub enum Cause {
+    /// The file couldn't be opened: it isn't there and can't be made, may not be read and written, or another program has it.
+    Unopened,
+    /// The database has other tables than those of a keeper.
+    Tables,
+    /// A row isn't that of an entry or a cell.
+    Row,
+    /// The database reports this.
+    Database(ErrorCode),
+}
+
+impl Cause {
+    // Notes an error of the database, and says what it is to a caller.
+    pub fn note(&mut self, error: Error) -> KeepFault
+        ensures { (result ≡ KeepFault.NoMemory) ↔ (error ≡ Error.SqliteFailure ErrorCode.OutOfMemory) }
+    {
+        *self = match &error {
+            Error::SqliteFailure(code) => Cause::Database(*code),
+            _ => Cause::Row,
+        };
+        fault_of(error)
+    }
+}
+
+impl fmt::Display for Cause {
+    fn fmt<W: fmt::Write>(&self, f: &mut fmt::Formatter<W>) -> fmt::Result {
+        match self {
+            Cause::Unopened => f.write_str(
+                "its file can't be opened, or another program has it open",
+            ),
+            Cause::Tables => f.write_str("it has other tables than those of this program"),
+            Cause::Row => f.write_str("it has a row that this program doesn't write"),
+            Cause::Database(code) => write!(f, "{code}"),
+        }
+    }
+}
 
 // Want of memory, where that is what went wrong. Every other error is a failure of the keeper.
 pub fn fault_of(error: Error) -> KeepFault

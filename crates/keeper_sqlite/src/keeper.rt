@@ -1,17 +1,22 @@
 //! A keeper over a database of SQLite.
-ghost use Rattle.std.specs.Prelude.{◌≡◌, ◌≤◌, IsErrOf};
+ghost use Rattle.std.specs.Prelude.{◌≡◌, ◌≤◌, Option, None, Some, IfSome, IfOk, OnOk, IsErrOf, option_map};
 ghost use Rattle.lei_outside.specs.Count.{Rose};
-ghost use Rattle.lei_outside.specs.Keeping.{IsBatch};
+ghost use Rattle.lei_outside.specs.Keeping.{AreKept, CommitLeaves, Commits, IsBatch, IsNextOf, LeavesNoMore, Stays, cells_between, entries_between, last_number};
+ghost use Rattle.keeper_sqlite.specs.Keepers.{leaves_from, tables_in};
 
-use crate::faults::counted;
+use crate::faults::{Cause, counted};
 use crate::store::Store;
 use lei_outside::{Batch, KeepFault, Keeper, KeptCell, KeptEntry, List};
 use sqlite::{Alter, Connection, File, FileStore};
+use std::alloc::Global;
 use std::marker::Model;
 
-/// A keeper over a database of SQLite, by its two tables `entry` and `cell`. It tells nothing of them. A call fails where
-/// the database couldn't be opened, where it fails or refuses a statement, and where a value is stored that doesn't fit
-/// its field, as a kind above 255 or a negative number. Contracts see the number of calls that have failed.
+/// A keeper over a database of SQLite, by its two tables `entry` and `cell`. It tells the rows of both, field by field,
+/// between its calls, while the database is open and its disk is clean, if the connection told them when the keeper
+/// adopted it: it had no table yet, or the tables of this keeper and nothing else, with rows of entries and cells alone. A
+/// call fails where the database couldn't be opened, where it has any other schema, where it fails or refuses a statement,
+/// and where a value is stored that doesn't fit its field, as a kind above 255 or a negative number. Contracts see the
+/// connection, what it was when it was adopted, and the number of calls that have failed.
 #[derive(Drop)]
 pub struct SqliteKeeper<S: Alter> {
     // None where the file couldn't be opened.
@@ -20,77 +25,153 @@ pub struct SqliteKeeper<S: Alter> {
 }
 
 impl<S: Alter> Model for SqliteKeeper<S> {
-    ghost use Rattle.std.specs.Prelude.{ℕ};
+    ghost use Rattle.keeper_sqlite.specs.Keepers.{KeeperState, keeper_code};
 
-    ghost Value = { ℕ };
+    ghost Value = { KeeperState S };
 
-    ghost view = { λ k. k.faults };
+    ghost coded = { keeper_code S.code };
+
+    ghost view = { λ k. record { store = k.store; faults = k.faults } };
 }
 
 impl SqliteKeeper<FileStore<File>> {
     /// A keeper over the file at this path, which is made where there is none. Beside it stands a second file, with
     /// `-wal` behind its name, and the two are kept together. No other program may have the file open meanwhile. Where it
-    /// can't be opened, each call fails.
+    /// can't be opened, each call fails. Nothing is known of what a real file holds, so that the keeper need not tell it.
     pub fn on_file(rt: &HostRuntime, path: &str) -> SqliteKeeper<FileStore<File>>
-        ensures { result ≡ 0 }
+        ensures { result.faults ≡ 0 }
     {
-        let store = match Connection::open(rt, path) {
-            Ok(conn) => Some(Store::new(rt.alloc(), conn)),
-            Err(_) => None,
-        };
-        SqliteKeeper { store, faults: 0 }
+        match Connection::open(rt, path) {
+            Ok(conn) => SqliteKeeper::over(rt.alloc(), conn),
+            Err(_) => SqliteKeeper {
+                store: None,
+                faults: 0,
+            },
+        }
     }
 }
 
 impl<S: Alter> SqliteKeeper<S> {
+    /// A keeper over a connection, which it adopts as it is. Tables that aren't there are made at the first call.
+    pub fn over(alloc: Global, connection: Connection<S>) -> SqliteKeeper<S>
+        ensures { result ≡ record { store = Some (record { conn = connection; adopted = connection }); faults = 0 } }
+    {
+        SqliteKeeper {
+            store: Some(Store::new(alloc, connection)),
+            faults: 0,
+        }
+    }
+
+    /// The connection again, or none where the file couldn't be opened.
+    pub fn into_connection(self) -> Option<Connection<S>>
+        ensures { result ≡ option_map (λ s. s.conn) self.store }
+    {
+        let SqliteKeeper { store, .. } = self;
+        match store {
+            Some(store) => Some(store.into_connection()),
+            None => None,
+        }
+    }
+
+    /// Why the last call that failed did so. Before the first one it says nothing.
+    pub fn cause(&self) -> Cause {
+        match &self.store {
+            Some(store) => store.cause(),
+            None => Cause::Unopened,
+        }
+    }
+
     /// How many calls have failed. It stands still at `u64::MAX`.
     pub fn faults(&self) -> u64
-        ensures { result ≡ self.now }
+        ensures { result ≡ self.now.faults }
     {
         self.faults
     }
 }
 
+// The calls on a store that may be absent, where each fails.
+fn last_of<S: Alter>(store: &mut Option<Store<S>>) -> Result<u64, KeepFault>
+    ensures answer { IfSome (tables_in S.Store store.new) (λ told. IfOk result (λ number. number ≡ last_number told)) }
+    ensures kept { OnOk result (IfSome (tables_in S.Store store.new) AreKept) }
+    ensures same { Stays (tables_in S.Store store.old) (tables_in S.Store store.new) }
+    ensures crash { LeavesNoMore (leaves_from S.Store store.old) (leaves_from S.Store store.new) }
+{
+    match store {
+        Some(store) => store.last(),
+        None => Err(KeepFault::Failed),
+    }
+}
+
+fn entries_of<S: Alter>(
+    store: &mut Option<Store<S>>,
+    after: u64,
+    upto: u64,
+) -> Result<List<KeptEntry>, KeepFault>
+    ensures answer { IfSome (tables_in S.Store store.new) (λ told. IfOk result (λ list. list ≡ entries_between after upto told)) }
+    ensures same { Stays (tables_in S.Store store.old) (tables_in S.Store store.new) }
+    ensures crash { LeavesNoMore (leaves_from S.Store store.old) (leaves_from S.Store store.new) }
+{
+    match store {
+        Some(store) => store.entries(after, upto),
+        None => Err(KeepFault::Failed),
+    }
+}
+
+fn cells_of<S: Alter>(
+    store: &mut Option<Store<S>>,
+    after: u64,
+    upto: u64,
+) -> Result<List<KeptCell>, KeepFault>
+    ensures answer { IfSome (tables_in S.Store store.new) (λ told. IfOk result (λ list. list ≡ cells_between after upto told)) }
+    ensures same { Stays (tables_in S.Store store.old) (tables_in S.Store store.new) }
+    ensures crash { LeavesNoMore (leaves_from S.Store store.old) (leaves_from S.Store store.new) }
+{
+    match store {
+        Some(store) => store.cells(after, upto),
+        None => Err(KeepFault::Failed),
+    }
+}
+
+fn commit_in<S: Alter>(store: &mut Option<Store<S>>, batch: &Batch) -> Result<(), KeepFault>
+    requires batch { IsBatch batch.now }
+    requires next { IsNextOf (tables_in S.Store store.old) batch.now }
+    ensures tables { Commits batch.now result (tables_in S.Store store.old) (tables_in S.Store store.new) }
+    ensures crash { CommitLeaves batch.now result (tables_in S.Store store.old) (tables_in S.Store store.new) (leaves_from S.Store store.old) (leaves_from S.Store store.new) }
+{
+    match store {
+        Some(store) => store.commit(batch),
+        None => Err(KeepFault::Failed),
+    }
+}
+
 impl<S: Alter> Keeper for SqliteKeeper<S> {
-    ghost use Rattle.std.specs.Prelude.{None, ⊤};
+    ghost use Rattle.keeper_sqlite.specs.Keepers.{leaves_from, may_stay, tables_in};
 
-    ghost tables = { λ _. None };
+    ghost tables = { λ k. tables_in S.Store k.store };
 
-    ghost faults = { λ k. k };
+    ghost faults = { λ k. k.faults };
 
-    ghost leaves = { λ _ _. ⊤ };
+    ghost leaves = { λ k. leaves_from S.Store k.store };
 
-    ghost may_stay = { λ _. tt };
+    ghost may_stay = { λ k. may_stay (record { view = S.Store.view; faults = S.Store.faults; recovers = S.Store.recovers; is_shielded = S.Store.is_shielded; is_step = S.Store.is_step; blamed = S.Store.blamed; names = S.Store.names }) k.store };
 
     fn last(&mut self) -> Result<u64, KeepFault> {
-        let answer = match &mut self.store {
-            Some(store) => store.last(),
-            None => Err(KeepFault::Failed),
-        };
+        let answer = last_of(&mut self.store);
         counted(&mut self.faults, answer)
     }
 
     fn entries(&mut self, after: u64, upto: u64) -> Result<List<KeptEntry>, KeepFault> {
-        let answer = match &mut self.store {
-            Some(store) => store.entries(after, upto),
-            None => Err(KeepFault::Failed),
-        };
+        let answer = entries_of(&mut self.store, after, upto);
         counted(&mut self.faults, answer)
     }
 
     fn cells(&mut self, after: u64, upto: u64) -> Result<List<KeptCell>, KeepFault> {
-        let answer = match &mut self.store {
-            Some(store) => store.cells(after, upto),
-            None => Err(KeepFault::Failed),
-        };
+        let answer = cells_of(&mut self.store, after, upto);
         counted(&mut self.faults, answer)
     }
 
     fn commit(&mut self, batch: &Batch) -> Result<(), KeepFault> {
-        let answer = match &mut self.store {
-            Some(store) => store.commit(batch),
-            None => Err(KeepFault::Failed),
-        };
+        let answer = commit_in(&mut self.store, batch);
         counted(&mut self.faults, answer)
     }
 }

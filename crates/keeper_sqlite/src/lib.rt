@@ -1,12 +1,14 @@
-//! What the register keeps, in a file of SQLite.
+//! What the register keeps, in a store of SQLite.
 #![tactic(auto)]
 
 mod faults;
 mod keeper;
 mod making;
+mod over;
 mod reading;
 mod rows;
 mod store;
 mod writing;
 
+pub use faults::Cause;
 pub use keeper::SqliteKeeper;

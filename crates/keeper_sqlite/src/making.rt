@@ -1,10 +1,13 @@
 // The tables, where they aren't there yet.
-ghost use Rattle.std.specs.Prelude.{[]};
+ghost use Rattle.std.specs.Prelude.{◌≡◌, false, IsTrue, OnOk, OnErr};
+ghost use Rattle.sqlite.specs.Effect.{IsDatabase};
 ghost use Rattle.sqlite.specs.Held.{state};
-ghost use Rattle.sqlite.specs.State.{Executes, HasCleanDisk};
-ghost use Rattle.keeper_sqlite.specs.Statements.{cell_table_text, entry_table_text};
+ghost use Rattle.sqlite.specs.State.{HasCleanDisk, KeepsCommit, Survives};
+ghost use Rattle.store_statements.specs.Schemas.{both_schema, entry_schema};
+ghost use Rattle.store_tables.specs.Calls.{IsBegun, IsInside, IsMade, IsUndone, Makes};
+ghost use Rattle.keeper_sqlite.specs.Transactions.{HasMade};
 
-use sqlite::{Alter, Connection, Error};
+use sqlite::{Alter, Connection, Error, Transaction};
 
 // An entry a row, by its number.
 const MAKE_ENTRIES: &'static str = "CREATE TABLE IF NOT EXISTS entry (
@@ -30,24 +33,62 @@ const MAKE_CELLS: &'static str = "CREATE TABLE IF NOT EXISTS cell (
 ) STRICT";
 
 // Makes the table of entries.
-pub fn make_entries<S: Alter>(conn: &mut Connection<S>) -> Result<usize, Error>
-    ensures { HasCleanDisk (state S.Store conn.new)
-        → Executes entry_table_text [] (state S.Store conn.old) (state S.Store conn.new) result }
+fn make_entries<S: Alter>(tx: &mut Transaction<'_, S>) -> Result<usize, Error>
+    ensures same_reference { tx.new.conn.ghost_name ≡ tx.old.conn.ghost_name }
+    ensures inside { HasCleanDisk (state S.Store tx.new.conn.now) → IsTrue (state S.Store tx.old.conn.now).in_transaction
+        → OnOk result (IsInside (state S.Store tx.old.conn.now) (state S.Store tx.new.conn.now)) }
+    ensures makes { HasCleanDisk (state S.Store tx.new.conn.now) → IsTrue (state S.Store tx.old.conn.now).in_transaction
+        → IsBegun (state S.Store tx.old.conn.now).now.schema → OnOk result (Makes entry_schema (state S.Store tx.old.conn.now) (state S.Store tx.new.conn.now)) }
+    ensures keeps { HasCleanDisk (state S.Store tx.new.conn.now) → IsTrue (state S.Store tx.old.conn.now).in_transaction
+        → KeepsCommit (state S.Store tx.old.conn.now) (state S.Store tx.new.conn.now) }
+    ensures survives { Survives (state S.Store tx.old.conn.now) (state S.Store tx.new.conn.now) (λ _. ⊥) }
 {
-    conn.execute(MAKE_ENTRIES, &[])
+    tx.execute(MAKE_ENTRIES, &[])
 }
 
 // Makes the table of cells.
-pub fn make_cells<S: Alter>(conn: &mut Connection<S>) -> Result<usize, Error>
-    ensures { HasCleanDisk (state S.Store conn.new)
-        → Executes cell_table_text [] (state S.Store conn.old) (state S.Store conn.new) result }
+fn make_cells<S: Alter>(tx: &mut Transaction<'_, S>) -> Result<usize, Error>
+    ensures same_reference { tx.new.conn.ghost_name ≡ tx.old.conn.ghost_name }
+    ensures inside { HasCleanDisk (state S.Store tx.new.conn.now) → IsTrue (state S.Store tx.old.conn.now).in_transaction
+        → OnOk result (IsInside (state S.Store tx.old.conn.now) (state S.Store tx.new.conn.now)) }
+    ensures makes { HasCleanDisk (state S.Store tx.new.conn.now) → IsTrue (state S.Store tx.old.conn.now).in_transaction
+        → (state S.Store tx.old.conn.now).now.schema ≡ entry_schema
+        → OnOk result (Makes both_schema (state S.Store tx.old.conn.now) (state S.Store tx.new.conn.now) × IsDatabase (state S.Store tx.new.conn.now).now) }
+    ensures keeps { HasCleanDisk (state S.Store tx.new.conn.now) → IsTrue (state S.Store tx.old.conn.now).in_transaction
+        → KeepsCommit (state S.Store tx.old.conn.now) (state S.Store tx.new.conn.now) }
+    ensures survives { Survives (state S.Store tx.old.conn.now) (state S.Store tx.new.conn.now) (λ _. ⊥) }
 {
-    conn.execute(MAKE_CELLS, &[])
+    tx.execute(MAKE_CELLS, &[])
 }
 
-// Makes both, as far as they aren't there.
-pub fn make_tables<S: Alter>(conn: &mut Connection<S>) -> Result<(), Error> {
-    make_entries(conn)?;
-    make_cells(conn)?;
+// Makes what isn't there of both.
+fn make_both<S: Alter>(tx: &mut Transaction<'_, S>) -> Result<(), Error>
+    ensures same_reference { tx.new.conn.ghost_name ≡ tx.old.conn.ghost_name }
+    ensures inside { HasCleanDisk (state S.Store tx.new.conn.now) → IsTrue (state S.Store tx.old.conn.now).in_transaction
+        → OnOk result (IsInside (state S.Store tx.old.conn.now) (state S.Store tx.new.conn.now)) }
+    ensures makes { HasCleanDisk (state S.Store tx.new.conn.now) → IsTrue (state S.Store tx.old.conn.now).in_transaction
+        → IsBegun (state S.Store tx.old.conn.now).now.schema
+        → OnOk result (Makes both_schema (state S.Store tx.old.conn.now) (state S.Store tx.new.conn.now) × IsDatabase (state S.Store tx.new.conn.now).now) }
+    ensures keeps { HasCleanDisk (state S.Store tx.new.conn.now) → IsTrue (state S.Store tx.old.conn.now).in_transaction
+        → KeepsCommit (state S.Store tx.old.conn.now) (state S.Store tx.new.conn.now) }
+    ensures survives { Survives (state S.Store tx.old.conn.now) (state S.Store tx.new.conn.now) (λ _. ⊥) }
+{
+    make_entries(tx)?;
+    make_cells(tx)?;
+    Ok(())
+}
+
+// Makes what isn't there of both, by one transaction.
+pub fn make_tables<S: Alter>(conn: &mut Connection<S>) -> Result<(), Error>
+    requires { conn.old.in_transaction ≡ false }
+    ensures mode { conn.new.in_transaction ≡ false }
+    ensures made { HasCleanDisk (state S.Store conn.new) → IsBegun (state S.Store conn.old).now.schema
+        → OnOk result (HasMade (state S.Store conn.old) (state S.Store conn.new)) }
+    ensures undone { HasCleanDisk (state S.Store conn.new) → OnErr result (IsUndone (state S.Store conn.old) (state S.Store conn.new)) }
+    ensures survives { IsBegun (state S.Store conn.old).now.schema → Survives (state S.Store conn.old) (state S.Store conn.new) (IsMade (state S.Store conn.old)) }
+{
+    let mut tx = conn.transaction();
+    make_both(&mut tx)?;
+    tx.commit()?;
     Ok(())
 }

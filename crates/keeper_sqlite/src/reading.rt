@@ -1,11 +1,14 @@
 // What is read of the tables.
-ghost use Rattle.std.specs.Prelude.{◌≡◌, pos, min, [], ◌∷◌, IfOk};
+ghost use Rattle.std.specs.Prelude.{◌≡◌, false, pos, min, map, Some, IfOk};
 ghost use Rattle.sqlite_value.specs.declared.value.Value.TheVariants.{Int};
 ghost use Rattle.sqlite_value.specs.Value.{owned};
 ghost use Rattle.sqlite.specs.Values.{bound_value};
 ghost use Rattle.sqlite.specs.Held.{state};
-ghost use Rattle.sqlite.specs.State.{HasCleanDisk, Shown};
-ghost use Rattle.keeper_sqlite.specs.Statements.{cells_text, entries_text, last_text};
+ghost use Rattle.sqlite.specs.State.{HasCleanDisk};
+ghost use Rattle.lei_outside.specs.Keeping.{KeptTables, cells_between, entries_between};
+ghost use Rattle.store_statements.specs.Rows.{cell_row, entry_row};
+ghost use Rattle.store_tables.specs.Calls.{IsReady, IsSteady, last_rows};
+ghost use Rattle.store_tables.specs.Told.{told_by};
 
 use sqlite::types::ValueRef;
 use sqlite::{Alter, Connection, Error, Row};
@@ -22,38 +25,42 @@ const CELLS: &'static str = "SELECT kind, name, touched, row
 FROM cell WHERE touched > ?1 AND touched <= ?2 ORDER BY kind, name";
 
 // The row of the greatest number of an entry, or none where there is no entry.
-pub fn last_rows<S: Alter>(conn: &mut Connection<S>) -> Result<Vec<Row>, Error>
-    ensures { HasCleanDisk (state S.Store conn.new)
-        → IfOk result (λ rows. Shown last_text [] (state S.Store conn.old) (state S.Store conn.new) rows.items) }
+pub fn read_last<S: Alter>(conn: &mut Connection<S>) -> Result<Vec<Row>, Error>
+    requires ready { HasCleanDisk (state S.Store conn.old) → IsReady (state S.Store conn.old) }
+    ensures steady { IsSteady (state S.Store conn.old) (state S.Store conn.new) }
+    ensures answer { HasCleanDisk (state S.Store conn.new) → IfOk result (λ rows.
+        (t : KeptTables) → told_by (state S.Store conn.new).now.schema (state S.Store conn.new).now.trees ≡ Some t → rows.items ≡ last_rows t) }
 {
     conn.query_all(LAST, &[])
 }
 
 // The rows of the entries whose number is greater than `after` and at most `upto`, in their order.
-pub fn entry_rows<S: Alter>(
+pub fn read_entries<S: Alter>(
     conn: &mut Connection<S>,
     after: u64,
     upto: u64,
 ) -> Result<Vec<Row>, Error>
-    ensures { HasCleanDisk (state S.Store conn.new)
-        → IfOk result (λ rows. Shown entries_text
-        (Int (pos (min after 9223372036854775807)) ∷ Int (pos (min upto 9223372036854775807)) ∷ [])
-        (state S.Store conn.old) (state S.Store conn.new) rows.items) }
+    requires ready { HasCleanDisk (state S.Store conn.old) → IsReady (state S.Store conn.old) }
+    ensures steady { IsSteady (state S.Store conn.old) (state S.Store conn.new) }
+    ensures answer { HasCleanDisk (state S.Store conn.new) → IfOk result (λ rows.
+        (t : KeptTables) → told_by (state S.Store conn.new).now.schema (state S.Store conn.new).now.trees ≡ Some t
+        → rows.items ≡ map entry_row (entries_between after upto t)) }
 {
     conn.query_all(ENTRIES, &[number(after), number(upto)])
 }
 
 // The rows of the cells that an entry touched last whose number is greater than `after` and at most `upto`, in the order
 // of kinds and names.
-pub fn cell_rows<S: Alter>(
+pub fn read_cells<S: Alter>(
     conn: &mut Connection<S>,
     after: u64,
     upto: u64,
 ) -> Result<Vec<Row>, Error>
-    ensures { HasCleanDisk (state S.Store conn.new)
-        → IfOk result (λ rows. Shown cells_text
-        (Int (pos (min after 9223372036854775807)) ∷ Int (pos (min upto 9223372036854775807)) ∷ [])
-        (state S.Store conn.old) (state S.Store conn.new) rows.items) }
+    requires ready { HasCleanDisk (state S.Store conn.old) → IsReady (state S.Store conn.old) }
+    ensures steady { IsSteady (state S.Store conn.old) (state S.Store conn.new) }
+    ensures answer { HasCleanDisk (state S.Store conn.new) → IfOk result (λ rows.
+        (t : KeptTables) → told_by (state S.Store conn.new).now.schema (state S.Store conn.new).now.trees ≡ Some t
+        → rows.items ≡ map cell_row (cells_between after upto t)) }
 {
     conn.query_all(CELLS, &[number(after), number(upto)])
 }

@@ -1,10 +1,10 @@
 // Entries and cells as rows of the tables, and back.
-ghost use Rattle.std.specs.Prelude.{◌≡◌, ◌≢◌, ◌<◌, ◌≤◌, ℕ, ℤ, pos, List, [], ◌∷◌, length, map, Any, IfOk, IsErrOf};
+ghost use Rattle.std.specs.Prelude.{◌≡◌, ◌≢◌, ◌<◌, ◌≤◌, ◌^◌, ℕ, ℤ, pos, List, [], ◌∷◌, length, map, Any, IfOk, IsErrOf};
 ghost use Rattle.sqlite_value.specs.declared.value.Value.TheVariants.{Null, Int, Text, Blob};
 ghost use Rattle.sqlite_value.specs.Order.{column};
 ghost use Rattle.sqlite_value.specs.Value.{owned};
 ghost use Rattle.sqlite.specs.Values.{bound, bound_value, or_null};
-ghost use Rattle.keeper_sqlite.specs.Rows.{IsCellRow, IsEntryRow, cell_row, entry_row};
+ghost use Rattle.store_statements.specs.Rows.{IsCellRow, IsEntryRow, cell_row, entry_row};
 
 use crate::faults::fault_of;
 use lei_outside::{Bytes, KeepFault, KeptCell, KeptEntry, List, Shared};
@@ -15,15 +15,18 @@ use std::alloc::Global;
 // The values of an entry, for a statement.
 pub fn entry_values<'a>(entry: &'a KeptEntry) -> [ValueRef<'a>; 8]
     requires { entry.now.seq ≤ 9223372036854775807 }
-    ensures { bound result ≡ entry_row entry.now }
+    ensures row { bound result ≡ entry_row entry.now }
+    ensures kind { entry.now.kind < 2 ^ 8 }
+    ensures number { entry.now.number < 2 ^ 32 }
+    ensures rules { entry.now.rules < 2 ^ 16 }
 {
     [
         ValueRef::Int(entry.seq as i64),
-        ValueRef::Int(i64::from(entry.kind)),
+        ValueRef::Int(of_byte(entry.kind)),
         ValueRef::Text(entry.office.as_slice()),
-        ValueRef::Int(i64::from(entry.number)),
+        ValueRef::Int(of_word(entry.number)),
         ValueRef::Int(entry.moment),
-        ValueRef::Int(i64::from(entry.rules)),
+        ValueRef::Int(of_short(entry.rules)),
         ValueRef::Blob(entry.body.as_slice()),
         ValueRef::Blob(entry.answer.as_slice()),
     ]
@@ -32,14 +35,37 @@ pub fn entry_values<'a>(entry: &'a KeptEntry) -> [ValueRef<'a>; 8]
 // The values of a cell, for a statement.
 pub fn cell_values<'a>(cell: &'a KeptCell) -> [ValueRef<'a>; 4]
     requires { cell.now.touched ≤ 9223372036854775807 }
-    ensures { bound result ≡ cell_row cell.now }
+    ensures row { bound result ≡ cell_row cell.now }
+    ensures kind { cell.now.kind < 2 ^ 8 }
 {
     [
-        ValueRef::Int(i64::from(cell.kind)),
+        ValueRef::Int(of_byte(cell.kind)),
         ValueRef::Text(cell.name.as_slice()),
         ValueRef::Int(cell.touched as i64),
         row_value(&cell.row),
     ]
+}
+
+// A number as one of 64 bits, with the range of its type.
+fn of_byte(number: u8) -> i64
+    ensures value { result ≡ pos number }
+    ensures range { number < 2 ^ 8 }
+{
+    i64::from(number)
+}
+
+fn of_short(number: u16) -> i64
+    ensures value { result ≡ pos number }
+    ensures range { number < 2 ^ 16 }
+{
+    i64::from(number)
+}
+
+fn of_word(number: u32) -> i64
+    ensures value { result ≡ pos number }
+    ensures range { number < 2 ^ 32 }
+{
+    i64::from(number)
 }
 
 fn row_value<'a>(row: &'a Option<Shared>) -> ValueRef<'a>

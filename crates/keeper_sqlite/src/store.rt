@@ -1,68 +1,98 @@
-// The database, once it was opened, with what each call of the keeper does to it.
-ghost use Rattle.lei_outside.specs.Keeping.{IsBatch};
+// A connection that a keeper adopted, with what each call of the keeper does to it.
+ghost use Rattle.std.specs.Prelude.{◌≡◌, IfSome, IfOk, OnOk};
+ghost use Rattle.lei_outside.specs.Keeping.{AreKept, CommitLeaves, Commits, IsBatch, IsNextOf, LeavesNoMore, Stays, cells_between, entries_between, last_number};
+ghost use Rattle.keeper_sqlite.specs.Keepers.{leaves_of, tables_of};
 
-use crate::faults::fault_of;
-use crate::making::make_tables;
-use crate::reading::{cell_rows, entry_rows, last_rows};
-use crate::rows::{cells_of, entries_of, number_of};
-use crate::writing::write;
+use crate::faults::Cause;
+use crate::over;
 use lei_outside::{Batch, KeepFault, KeptCell, KeptEntry, List};
 use sqlite::{Alter, Connection};
 use std::alloc::Global;
+use std::marker::Model;
+use std::snapshot::Snapshot;
 
 #[derive(Drop)]
 pub struct Store<S: Alter> {
     alloc: Global,
     conn: Connection<S>,
-    // Whether the tables are known to be there.
-    made: bool,
+    // What the connection was when it was adopted, for contracts alone.
+    adopted: Snapshot<Connection<S>>,
+    // Why the last call that failed did so.
+    cause: Cause,
+}
+
+impl<S: Alter> Model for Store<S> {
+    ghost use Rattle.sqlite.specs.Held.{state};
+    ghost use Rattle.keeper_sqlite.specs.Keepers.{KeepsOn, StoreState, store_code};
+
+    ghost Value = { StoreState S };
+
+    ghost coded = { store_code S.code };
+
+    ghost view = { λ s. record { conn = s.conn; adopted = s.adopted.value } };
+
+    ghost invariant = { λ s. KeepsOn (state S.Store s.adopted.value) (state S.Store s.conn) };
 }
 
 impl<S: Alter> Store<S> {
-    pub fn new(alloc: Global, conn: Connection<S>) -> Self {
+    // Adopts a connection.
+    pub fn new(alloc: Global, conn: Connection<S>) -> Self
+        ensures { result ≡ record { conn = conn; adopted = conn } }
+    {
         Store {
             alloc,
+            adopted: Snapshot::of(&conn),
             conn,
-            made: false,
+            cause: Cause::Row,
         }
     }
 
-    // Makes the tables before the first call that needs them.
-    fn make(&mut self) -> Result<(), KeepFault> {
-        if !self.made {
-            make_tables(&mut self.conn).map_err(fault_of)?;
-            self.made = true;
-        }
-        Ok(())
+    // The connection again.
+    pub fn into_connection(self) -> Connection<S>
+        ensures { result ≡ self.conn }
+    {
+        let Store { conn, .. } = self;
+        conn
+    }
+
+    // Why the last call that failed did so.
+    pub fn cause(&self) -> Cause {
+        self.cause
     }
 
     // The greatest number of an entry, 0 where there is none.
-    pub fn last(&mut self) -> Result<u64, KeepFault> {
-        self.make()?;
-        let rows = last_rows(&mut self.conn).map_err(fault_of)?;
-        match rows.first() {
-            Some(row) => number_of(row),
-            None => Ok(0),
-        }
+    pub fn last(&mut self) -> Result<u64, KeepFault>
+        ensures answer { IfSome (tables_of S.Store self.new) (λ told. IfOk result (λ number. number ≡ last_number told)) }
+        ensures kept { OnOk result (IfSome (tables_of S.Store self.new) AreKept) }
+        ensures same { Stays (tables_of S.Store self.old) (tables_of S.Store self.new) }
+        ensures crash { LeavesNoMore (leaves_of S.Store self.old) (leaves_of S.Store self.new) }
+    {
+        over::last(&mut self.conn, &mut self.cause)
     }
 
-    pub fn entries(&mut self, after: u64, upto: u64) -> Result<List<KeptEntry>, KeepFault> {
-        self.make()?;
-        let rows = entry_rows(&mut self.conn, after, upto).map_err(fault_of)?;
-        entries_of(self.alloc, rows.as_slice())
+    pub fn entries(&mut self, after: u64, upto: u64) -> Result<List<KeptEntry>, KeepFault>
+        ensures answer { IfSome (tables_of S.Store self.new) (λ told. IfOk result (λ list. list ≡ entries_between after upto told)) }
+        ensures same { Stays (tables_of S.Store self.old) (tables_of S.Store self.new) }
+        ensures crash { LeavesNoMore (leaves_of S.Store self.old) (leaves_of S.Store self.new) }
+    {
+        over::entries(&mut self.conn, self.alloc, after, upto, &mut self.cause)
     }
 
-    pub fn cells(&mut self, after: u64, upto: u64) -> Result<List<KeptCell>, KeepFault> {
-        self.make()?;
-        let rows = cell_rows(&mut self.conn, after, upto).map_err(fault_of)?;
-        cells_of(self.alloc, rows.as_slice())
+    pub fn cells(&mut self, after: u64, upto: u64) -> Result<List<KeptCell>, KeepFault>
+        ensures answer { IfSome (tables_of S.Store self.new) (λ told. IfOk result (λ list. list ≡ cells_between after upto told)) }
+        ensures same { Stays (tables_of S.Store self.old) (tables_of S.Store self.new) }
+        ensures crash { LeavesNoMore (leaves_of S.Store self.old) (leaves_of S.Store self.new) }
+    {
+        over::cells(&mut self.conn, self.alloc, after, upto, &mut self.cause)
     }
 
     // Keeps a batch by one transaction. Whatever is refused, all of it is taken back.
     pub fn commit(&mut self, batch: &Batch) -> Result<(), KeepFault>
-        requires { IsBatch batch.now }
+        requires batch { IsBatch batch.now }
+        requires next { IsNextOf (tables_of S.Store self.old) batch.now }
+        ensures tables { Commits batch.now result (tables_of S.Store self.old) (tables_of S.Store self.new) }
+        ensures crash { CommitLeaves batch.now result (tables_of S.Store self.old) (tables_of S.Store self.new) (leaves_of S.Store self.old) (leaves_of S.Store self.new) }
     {
-        self.make()?;
-        write(&mut self.conn, batch).map_err(fault_of)
+        over::commit(&mut self.conn, batch, &mut self.cause)
     }
 }

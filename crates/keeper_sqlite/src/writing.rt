@@ -1,14 +1,15 @@
 // What is written into the tables, inside a transaction.
-ghost use Rattle.std.specs.Prelude.{◌≤◌, IsTrue};
+ghost use Rattle.std.specs.Prelude.{◌≡◌, ◌≤◌, false, IsTrue, OnOk, OnErr};
+ghost use Rattle.std.specs.List.{AllByRecursion};
 ghost use Rattle.sqlite.specs.Held.{state};
-ghost use Rattle.sqlite.specs.State.{ExecutesInside, HasCleanDisk};
-ghost use Rattle.lei_outside.specs.Keeping.{IsBatch};
-ghost use Rattle.keeper_sqlite.specs.Rows.{cell_row, entry_row};
-ghost use Rattle.keeper_sqlite.specs.Statements.{insert_text, put_text};
+ghost use Rattle.sqlite.specs.State.{HasCleanDisk, KeepsCommit, Survives};
+ghost use Rattle.lei_outside.specs.Keeping.{IsBatch, with_batch};
+ghost use Rattle.store_tables.specs.Calls.{IsKept, IsNext, IsUndone, Turns, with_cell, with_cells, with_entry};
+ghost use Rattle.keeper_sqlite.specs.Transactions.{HasKept};
 
 use crate::rows::{cell_values, entry_values};
 use lei_outside::{Batch, KeptCell, KeptEntry};
-use sqlite::{Alter, Connection, Error, ErrorCode, Transaction};
+use sqlite::{Alter, Connection, Error, Transaction};
 
 const INSERT: &'static str =
     "INSERT INTO entry (seq, kind, office, number, moment, rules, body, answer)
@@ -23,8 +24,12 @@ pub fn insert_entry<S: Alter>(
     entry: &KeptEntry,
 ) -> Result<usize, Error>
     requires { entry.now.seq ≤ 9223372036854775807 }
-    ensures { HasCleanDisk (state S.Store tx.new.conn.now) → IsTrue (state S.Store tx.old.conn.now).in_transaction
-        → ExecutesInside 0 insert_text (entry_row entry.now) (state S.Store tx.old.conn.now) (state S.Store tx.new.conn.now) result }
+    ensures same_reference { tx.new.conn.ghost_name ≡ tx.old.conn.ghost_name }
+    ensures adds { HasCleanDisk (state S.Store tx.new.conn.now) → IsTrue (state S.Store tx.old.conn.now).in_transaction
+        → OnOk result (Turns (with_entry entry.now) (IsNext entry.now) (state S.Store tx.old.conn.now) (state S.Store tx.new.conn.now)) }
+    ensures keeps { HasCleanDisk (state S.Store tx.new.conn.now) → IsTrue (state S.Store tx.old.conn.now).in_transaction
+        → KeepsCommit (state S.Store tx.old.conn.now) (state S.Store tx.new.conn.now) }
+    ensures survives { Survives (state S.Store tx.old.conn.now) (state S.Store tx.new.conn.now) (λ _. ⊥) }
 {
     tx.execute(INSERT, &entry_values(entry))
 }
@@ -32,23 +37,58 @@ pub fn insert_entry<S: Alter>(
 // Puts a cell in its place, where another one may stand.
 pub fn put_cell<S: Alter>(tx: &mut Transaction<'_, S>, cell: &KeptCell) -> Result<usize, Error>
     requires { cell.now.touched ≤ 9223372036854775807 }
-    ensures { HasCleanDisk (state S.Store tx.new.conn.now) → IsTrue (state S.Store tx.old.conn.now).in_transaction
-        → ExecutesInside 0 put_text (cell_row cell.now) (state S.Store tx.old.conn.now) (state S.Store tx.new.conn.now) result }
+    ensures same_reference { tx.new.conn.ghost_name ≡ tx.old.conn.ghost_name }
+    ensures puts { HasCleanDisk (state S.Store tx.new.conn.now) → IsTrue (state S.Store tx.old.conn.now).in_transaction
+        → OnOk result (Turns (with_cell cell.now) (λ _. 1 ≤ cell.now.touched) (state S.Store tx.old.conn.now) (state S.Store tx.new.conn.now)) }
+    ensures keeps { HasCleanDisk (state S.Store tx.new.conn.now) → IsTrue (state S.Store tx.old.conn.now).in_transaction
+        → KeepsCommit (state S.Store tx.old.conn.now) (state S.Store tx.new.conn.now) }
+    ensures survives { Survives (state S.Store tx.old.conn.now) (state S.Store tx.new.conn.now) (λ _. ⊥) }
 {
     tx.execute(PUT, &cell_values(cell))
 }
 
+// Puts cells in their places, from the first to the last.
+fn put_cells<S: Alter>(tx: &mut Transaction<'_, S>, cells: &[KeptCell]) -> Result<(), Error>
+    requires { AllByRecursion (λ cell. cell.touched ≤ 9223372036854775807) cells.now }
+    ensures same_reference { tx.new.conn.ghost_name ≡ tx.old.conn.ghost_name }
+    ensures puts { HasCleanDisk (state S.Store tx.new.conn.now) → IsTrue (state S.Store tx.old.conn.now).in_transaction → IsTrue (state S.Store tx.old.conn.now).is_open
+        → OnOk result (Turns (with_cells cells.now) (λ _. AllByRecursion (λ cell. 1 ≤ cell.touched) cells.now) (state S.Store tx.old.conn.now) (state S.Store tx.new.conn.now)) }
+    ensures keeps { HasCleanDisk (state S.Store tx.new.conn.now) → IsTrue (state S.Store tx.old.conn.now).in_transaction → IsTrue (state S.Store tx.old.conn.now).is_open
+        → KeepsCommit (state S.Store tx.old.conn.now) (state S.Store tx.new.conn.now) }
+    ensures survives { Survives (state S.Store tx.old.conn.now) (state S.Store tx.new.conn.now) (λ _. ⊥) }
+{
+    for cell in cells {
+        put_cell(tx, cell)?;
+    }
+    Ok(())
+}
+
+// Puts the entry of a batch behind the others, and its cells in their places.
+fn put_batch<S: Alter>(tx: &mut Transaction<'_, S>, batch: &Batch) -> Result<(), Error>
+    requires { IsBatch batch.now }
+    ensures same_reference { tx.new.conn.ghost_name ≡ tx.old.conn.ghost_name }
+    ensures puts { HasCleanDisk (state S.Store tx.new.conn.now) → IsTrue (state S.Store tx.old.conn.now).in_transaction
+        → OnOk result (Turns (with_batch batch.now) (IsNext batch.now.entry) (state S.Store tx.old.conn.now) (state S.Store tx.new.conn.now)) }
+    ensures keeps { HasCleanDisk (state S.Store tx.new.conn.now) → IsTrue (state S.Store tx.old.conn.now).in_transaction
+        → KeepsCommit (state S.Store tx.old.conn.now) (state S.Store tx.new.conn.now) }
+    ensures survives { Survives (state S.Store tx.old.conn.now) (state S.Store tx.new.conn.now) (λ _. ⊥) }
+{
+    insert_entry(tx, &batch.entry)?;
+    put_cells(tx, batch.cells.as_slice())?;
+    Ok(())
+}
+
 // Keeps a batch whole, by one transaction. Where it isn't committed it is taken back as it is let go.
 pub fn write<S: Alter>(conn: &mut Connection<S>, batch: &Batch) -> Result<(), Error>
-    requires { IsBatch batch.now }
+    requires batch { IsBatch batch.now }
+    requires mode { conn.old.in_transaction ≡ false }
+    ensures mode { conn.new.in_transaction ≡ false }
+    ensures kept { HasCleanDisk (state S.Store conn.new) → OnOk result (HasKept batch.now (state S.Store conn.old) (state S.Store conn.new)) }
+    ensures undone { HasCleanDisk (state S.Store conn.new) → OnErr result (IsUndone (state S.Store conn.old) (state S.Store conn.new)) }
+    ensures survives { Survives (state S.Store conn.old) (state S.Store conn.new) (IsKept batch.now (state S.Store conn.old)) }
 {
-    if !conn.is_autocommit() {
-        return Err(Error::SqliteFailure(ErrorCode::TransactionState));
-    }
     let mut tx = conn.transaction();
-    insert_entry(&mut tx, &batch.entry)?;
-    for cell in batch.cells.as_slice() {
-        put_cell(&mut tx, cell)?;
-    }
-    tx.commit()
+    put_batch(&mut tx, batch)?;
+    tx.commit()?;
+    Ok(())
 }

@@ -1,6 +1,7 @@
 //! The program of the register.
 #![tactic(auto)]
 
+mod reported;
 mod serving;
 mod store;
 

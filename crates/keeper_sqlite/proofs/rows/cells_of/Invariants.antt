@@ -1,5 +1,5 @@
 use Rattle.std.proofs.Common.{◌≡◌, map, take}
-use Rattle.keeper_sqlite.specs.Rows.{cell_row}
+use Rattle.store_statements.specs.Rows.{cell_row}
 use Rattle.keeper_sqlite.proofs.rows.cells_of.Given as goal
 
 -- the rows so far are those of the list

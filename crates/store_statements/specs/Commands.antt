@@ -1,0 +1,102 @@
+-- What the statements mean over a store with both tables.
+use Rattle.std.specs.Prelude.{ℕ, true, false, List, [], ◌∷◌, pos, negsuc, Some, None}
+use Rattle.sqlite_value.specs.declared.value.Value.TheVariants.{Null, Int}
+use Rattle.sqlite_value.specs.declared.keys.Collation.TheVariants.{Binary}
+use Rattle.sqlite_value.specs.declared.keys.Key.{Key}
+use Rattle.sqlite_sql.specs.declared.ops.BinaryOp.TheVariants.{Compare}
+use Rattle.sqlite_sql.specs.declared.ops.CompareOp.TheVariants.{Gt, Le, Eq}
+use Rattle.sqlite_sql.specs.Term.{Term, lit, col, op2}
+use Rattle.sqlite_sql.specs.Query.{Query, inner, end}
+use Rattle.sqlite_schema.specs.declared.program.Program.{Program}
+use Rattle.sqlite_schema.specs.declared.command.Upsert.{Upsert}
+
+-- Ascending or descending, by the order of values.
+abbrev pub up : Key
+up = record { collation = Binary; descending = false }
+
+abbrev pub down : Key
+down = record { collation = Binary; descending = true }
+
+-- The value at this place of a row is greater than the first parameter and at most the second.
+abbrev pub within : ℕ → List Term
+within place = op2 (Compare Gt Binary) (col 1 place) (col 0 0) ∷ op2 (Compare Le Binary) (col 1 place) (col 0 1) ∷ []
+
+-- No limit and no offset.
+abbrev pub no_limit : Term
+no_limit = lit (Int (negsuc 0))
+
+abbrev pub no_offset : Term
+no_offset = lit (Int (pos 0))
+
+-- The rows of the entries within the range, by number.
+abbrev pub entries_query : Query
+entries_query = record {
+  from = inner 0 end;
+  filter = within 0;
+  group = None;
+  project = col 1 0 ∷ col 1 2 ∷ col 1 3 ∷ col 1 4 ∷ col 1 5 ∷ col 1 6 ∷ col 1 7 ∷ col 1 8 ∷ [];
+  distinct = false;
+  collations = [];
+  order = (col 1 0, up) ∷ [];
+  limit = no_limit;
+  offset = no_offset;
+}
+
+-- The rows of the cells within the range, by kind and name.
+abbrev pub cells_query : Query
+cells_query = record {
+  from = inner 1 end;
+  filter = within 3;
+  group = None;
+  project = col 1 1 ∷ col 1 2 ∷ col 1 3 ∷ col 1 4 ∷ [];
+  distinct = false;
+  collations = [];
+  order = (col 1 1, up) ∷ (col 1 2, up) ∷ [];
+  limit = no_limit;
+  offset = no_offset;
+}
+
+-- The number of the last entry.
+abbrev pub last_query : Query
+last_query = record {
+  from = inner 0 end;
+  filter = [];
+  group = None;
+  project = col 1 0 ∷ [];
+  distinct = false;
+  collations = [];
+  order = (col 1 0, down) ∷ [];
+  limit = lit (Int (pos 1));
+  offset = no_offset;
+}
+
+-- A query that computes no table of its own.
+abbrev pub alone : Query → Program
+alone query = record { lets = []; body = query }
+
+-- The row of the entry whose values are the parameters.
+abbrev pub insert_terms : List Term
+insert_terms = col 0 0 ∷ lit Null ∷ col 0 1 ∷ col 0 2 ∷ col 0 3 ∷ col 0 4 ∷ col 0 5 ∷ col 0 6 ∷ col 0 7 ∷ []
+
+-- The row of the cell whose values are the parameters.
+abbrev pub put_terms : List Term
+put_terms = lit Null ∷ col 0 0 ∷ col 0 1 ∷ col 0 2 ∷ col 0 3 ∷ []
+
+-- The row with the id of the fifth parameter, with the entry and the row of the cell that was to be put. The last five parameters
+-- are the id and the columns of that cell.
+abbrev pub put_query : Query
+put_query = record {
+  from = inner 1 end;
+  filter = op2 (Compare Eq Binary) (col 1 0) (col 0 4) ∷ [];
+  group = None;
+  project = col 1 0 ∷ col 1 0 ∷ col 1 1 ∷ col 1 2 ∷ col 0 8 ∷ col 0 9 ∷ [];
+  distinct = false;
+  collations = [];
+  order = [];
+  limit = no_limit;
+  offset = no_offset;
+}
+
+-- Where a cell of the kind and the name stands, it gets the entry and the row.
+abbrev pub put_clause : Upsert
+put_clause = record { target = Some (1 ∷ 2 ∷ []); update = Some (alone put_query) }

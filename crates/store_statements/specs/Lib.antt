@@ -1,0 +1,4 @@
+pub mod Commands
+pub mod Rows
+pub mod Schemas
+pub mod Texts

@@ -1,0 +1,87 @@
+-- The schemas that a store of the register may have: no table, the table of entries alone, or both tables.
+use Rattle.std.specs.Prelude.{ℕ, Bool, true, false, List, [], ◌∷◌, pos, codes, Some, None}
+use Rattle.sqlite_value.specs.declared.keys.Collation.TheVariants.{Binary}
+use Rattle.sqlite_value.specs.declared.value.Value.TheVariants.{Null, Int}
+use Rattle.sqlite_value.specs.Keys.{plain}
+use Rattle.sqlite_sql.specs.declared.ops.BinaryOp.TheVariants.{Compare}
+use Rattle.sqlite_sql.specs.declared.ops.CompareOp.TheVariants.{Ge}
+use Rattle.sqlite_sql.specs.Term.{Term, lit, col, op2}
+use Rattle.sqlite_schema.specs.declared.schema.Kind.{Kind}
+use Rattle.sqlite_schema.specs.declared.schema.Kind.TheVariants.{Integer, Text, Blob}
+use Rattle.sqlite_schema.specs.declared.schema.Column.{Column}
+use Rattle.sqlite_schema.specs.declared.schema.Stamps.{Stamps}
+use Rattle.sqlite_schema.specs.declared.schema.Table.{Table}
+use Rattle.sqlite_schema.specs.declared.schema.Index.{Index}
+use Rattle.sqlite_schema.specs.declared.schema.Schema.{Schema}
+
+-- A column of a STRICT table that has no default, and whether it refuses NULL.
+abbrev pub column_of : List ℕ → Kind → Bool → Column
+column_of name kind not_null =
+    record { name = name; kind = kind; is_strict = true; not_null = not_null; default = Null; collation = Binary }
+
+-- The value at this place of a row is at least 1.
+abbrev pub at_least_one : ℕ → Term
+at_least_one place = op2 (Compare Ge Binary) (col 1 place) (lit (Int (pos 1)))
+
+abbrev pub no_stamps : Stamps
+no_stamps = record { places = []; terms = []; formats = [] }
+
+-- The table of entries, whose rows have the number of the entry as their id.
+abbrev pub entry_table : Table
+entry_table = record {
+  name = codes "entry";
+  tree = 0;
+  columns = column_of (codes "seq") Integer false ∷ column_of (codes "kind") Integer true ∷ column_of (codes "office") Text true
+      ∷ column_of (codes "number") Integer true ∷ column_of (codes "moment") Integer true ∷ column_of (codes "rules") Integer true
+      ∷ column_of (codes "body") Blob true ∷ column_of (codes "answer") Blob true ∷ [];
+  key = Some 0;
+  primary = 0 ∷ [];
+  uniques = [];
+  orders = [];
+  checks = at_least_one 0 ∷ [];
+  references = [];
+  computed = [];
+  stamps = no_stamps;
+  is_counted = false;
+}
+
+-- The table of cells. No two have one kind and name, and so no two have one entry, kind and name.
+abbrev pub cell_table : Table
+cell_table = record {
+  name = codes "cell";
+  tree = 1;
+  columns = column_of (codes "kind") Integer true ∷ column_of (codes "name") Text true ∷ column_of (codes "touched") Integer true
+      ∷ column_of (codes "row") Blob false ∷ [];
+  key = None;
+  primary = 1 ∷ 2 ∷ [];
+  uniques = (1 ∷ 2 ∷ []) ∷ (3 ∷ 1 ∷ 2 ∷ []) ∷ [];
+  orders = plain ∷ plain ∷ [];
+  checks = at_least_one 3 ∷ [];
+  references = [];
+  computed = [];
+  stamps = no_stamps;
+  is_counted = false;
+}
+
+-- An index that SQLite makes of a key of the table of cells.
+abbrev pub index_of : List ℕ → ℕ → List ℕ → Index
+index_of name tree places =
+    record { name = name; tree = tree; table = 1; columns = places; order = plain; is_unique = true }
+
+abbrev pub by_name : Index
+by_name = index_of (codes "sqlite_autoindex_cell_1") 2 (1 ∷ 2 ∷ [])
+
+abbrev pub by_entry : Index
+by_entry = index_of (codes "sqlite_autoindex_cell_2") 3 (3 ∷ 1 ∷ 2 ∷ [])
+
+-- The schema of a store in which nothing was made.
+abbrev pub no_schema : Schema
+no_schema = record { tables = []; indexes = []; views = [] }
+
+-- That of a store in which the table of cells isn't made yet.
+abbrev pub entry_schema : Schema
+entry_schema = record { tables = entry_table ∷ []; indexes = []; views = [] }
+
+-- That of a store with both tables.
+abbrev pub both_schema : Schema
+both_schema = record { tables = entry_table ∷ cell_table ∷ []; indexes = by_name ∷ by_entry ∷ []; views = [] }

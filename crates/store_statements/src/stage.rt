@@ -1,0 +1,234 @@
+// Which tables a store has.
+ghost use Rattle.std.specs.Prelude.{◌≡◌, ◌∷◌, [], pos, Bool, true, false, IsTrue, Some, codes};
+ghost use Rattle.sqlite_value.specs.declared.value.Value.TheVariants.{Int};
+ghost use Rattle.sqlite_value.specs.declared.keys.Collation.TheVariants.{Binary};
+ghost use Rattle.sqlite_sql.specs.declared.ops.BinaryOp.TheVariants.{Compare};
+ghost use Rattle.sqlite_sql.specs.declared.ops.CompareOp.TheVariants.{Ge};
+ghost use Rattle.sqlite_value.specs.Keys.{plain};
+ghost use Rattle.store_statements.specs.Schemas.{at_least_one, both_schema, by_entry, by_name, cell_table, column_of, entry_schema, entry_table, index_of, no_schema, no_stamps};
+
+use sqlite_items::Items;
+use sqlite_schema::code::{Op, Terms};
+use sqlite_schema::schema::{Column, Index, Kind, Schema, Stamps, Table};
+use sqlite_sql::ops::{BinaryOp, CompareOp};
+use sqlite_value::keys::{Collation, Order};
+use sqlite_value::value::Value;
+
+/// What was made of a store.
+#[derive(Clone, Copy, Debug, PartialEq, Eq)]
+pub enum Stage {
+    /// No table.
+    Nothing,
+    /// The table of entries.
+    Entries,
+    /// Both tables.
+    Both,
+    /// Anything else, as a table of another shape, a further table, or an index.
+    Other,
+}
+
+// A column of this name and type, which has no default and takes NULL or doesn't.
+fn is_column(column: &Column, name: &[u8], kind: Kind, not_null: bool) -> bool
+    ensures { IsTrue result → column.now ≡ column_of name.now kind not_null }
+{
+    if column.name.as_slice() != name || column.kind != kind {
+        return false;
+    }
+    if !column.is_strict || column.not_null != not_null {
+        return false;
+    }
+    matches!(column.default, Value::Null) && column.collation == Collation::Binary
+}
+
+// The value at this place of a row.
+fn is_place(op: &Op, place: usize) -> bool
+    ensures { IsTrue result → op.now ≡ Op.Column 1 place }
+{
+    match op {
+        Op::Column(1, at) => *at == place,
+        _ => false,
+    }
+}
+
+fn is_one(op: &Op) -> bool
+    ensures { IsTrue result → op.now ≡ Op.Literal (Int (pos 1)) }
+{
+    matches!(op, Op::Literal(Value::Int(1)))
+}
+
+// The first of two operands is at least the second.
+fn is_at_least(op: &Op) -> bool
+    ensures { IsTrue result → op.now ≡ Op.Binary (Compare Ge Binary) 0 1 }
+{
+    match op {
+        Op::Binary(BinaryOp::Compare(CompareOp::Ge, Collation::Binary), 0, 1) => true,
+        _ => false,
+    }
+}
+
+fn are_check_nodes(nodes: &[Op], place: usize) -> bool
+    ensures { IsTrue result → nodes.now ≡ Op.Column 1 place ∷ Op.Literal (Int (pos 1)) ∷ Op.Binary (Compare Ge Binary) 0 1 ∷ [] }
+{
+    let [value, one, test] = nodes else {
+        return false;
+    };
+    is_place(value, place) && is_one(one) && is_at_least(test)
+}
+
+// The one check is that the value at this place of a row is at least 1.
+fn is_check(checks: &Terms, place: usize) -> bool
+    ensures { IsTrue result → checks.now ≡ at_least_one place ∷ [] }
+{
+    are_check_nodes(checks.nodes.as_slice(), place) && checks.roots.as_slice() == [2].as_slice()
+}
+
+// No default reads the time.
+fn is_unstamped(stamps: &Stamps) -> bool
+    ensures { IsTrue result → stamps.now ≡ no_stamps }
+{
+    if !stamps.places.is_empty() || !stamps.formats.is_empty() {
+        return false;
+    }
+    stamps.terms.roots.is_empty()
+}
+
+// The columns of the table of entries.
+fn are_entry_columns(columns: &[Column]) -> bool
+    ensures { IsTrue result → columns.now ≡ entry_table.columns }
+{
+    let [seq, kind, office, number, moment, rules, body, answer] = columns else {
+        return false;
+    };
+    if !is_column(seq, b"seq", Kind::Integer, false)
+        || !is_column(kind, b"kind", Kind::Integer, true)
+    {
+        return false;
+    }
+    if !is_column(office, b"office", Kind::Text, true)
+        || !is_column(number, b"number", Kind::Integer, true)
+    {
+        return false;
+    }
+    if !is_column(moment, b"moment", Kind::Integer, true)
+        || !is_column(rules, b"rules", Kind::Integer, true)
+    {
+        return false;
+    }
+    is_column(body, b"body", Kind::Blob, true) && is_column(answer, b"answer", Kind::Blob, true)
+}
+
+// The columns of the table of cells.
+fn are_cell_columns(columns: &[Column]) -> bool
+    ensures { IsTrue result → columns.now ≡ cell_table.columns }
+{
+    let [kind, name, touched, row] = columns else {
+        return false;
+    };
+    if !is_column(kind, b"kind", Kind::Integer, true)
+        || !is_column(name, b"name", Kind::Text, true)
+    {
+        return false;
+    }
+    is_column(touched, b"touched", Kind::Integer, true) && is_column(row, b"row", Kind::Blob, false)
+}
+
+fn is_entry_table(table: &Table) -> bool
+    ensures { IsTrue result → table.now ≡ entry_table }
+{
+    if table.name.as_slice() != b"entry".as_slice() || table.tree != 0 || table.key != Some(0) {
+        return false;
+    }
+    if table.primary.as_slice() != [0].as_slice() || !is_check(&table.checks, 0) {
+        return false;
+    }
+    if !are_entry_columns(table.columns.as_slice()) || !is_unstamped(&table.stamps) {
+        return false;
+    }
+    if !table.uniques.is_empty() || !table.orders.is_empty() || !table.references.is_empty() {
+        return false;
+    }
+    table.computed.is_empty() && !table.is_counted
+}
+
+// The keys of the table of cells: kind and name, and entry, kind and name.
+fn are_cell_keys(keys: &[Items<usize>]) -> bool
+    ensures { IsTrue result → keys.now ≡ cell_table.uniques }
+{
+    let [first, second] = keys else {
+        return false;
+    };
+    first.as_slice() == [1, 2].as_slice() && second.as_slice() == [3, 1, 2].as_slice()
+}
+
+fn are_plain(orders: &[Order]) -> bool
+    ensures { IsTrue result → orders.now ≡ cell_table.orders }
+{
+    let [first, second] = orders else {
+        return false;
+    };
+    first.digits == 0 && second.digits == 0
+}
+
+fn is_cell_table(table: &Table) -> bool
+    ensures { IsTrue result → table.now ≡ cell_table }
+{
+    if table.name.as_slice() != b"cell".as_slice() || table.tree != 1 || table.key.is_some() {
+        return false;
+    }
+    if table.primary.as_slice() != [1, 2].as_slice() || !is_check(&table.checks, 3) {
+        return false;
+    }
+    if !are_cell_columns(table.columns.as_slice()) || !is_unstamped(&table.stamps) {
+        return false;
+    }
+    if !are_cell_keys(table.uniques.as_slice()) || !are_plain(table.orders.as_slice()) {
+        return false;
+    }
+    if !table.references.is_empty() || !table.computed.is_empty() {
+        return false;
+    }
+    !table.is_counted
+}
+
+// An index of the table of cells, by its name, its tree and its places.
+fn is_index(index: &Index, name: &[u8], tree: u32, places: &[usize]) -> bool
+    ensures { IsTrue result → index.now ≡ index_of name.now tree places.now }
+{
+    if index.name.as_slice() != name || index.tree != tree || index.table != 1 {
+        return false;
+    }
+    index.columns.as_slice() == places && index.order.digits == 0 && index.is_unique
+}
+
+fn are_indexes(indexes: &[Index]) -> bool
+    ensures { IsTrue result → indexes.now ≡ both_schema.indexes }
+{
+    let [first, second] = indexes else {
+        return false;
+    };
+    is_index(first, b"sqlite_autoindex_cell_1", 2, [1, 2].as_slice())
+        && is_index(second, b"sqlite_autoindex_cell_2", 3, [3, 1, 2].as_slice())
+}
+
+/// Which tables a store with this schema has. It looks at nothing but the schema, and takes no memory.
+pub fn stage_of(schema: &Schema) -> Stage
+    ensures nothing { result ≡ Stage.Nothing → schema.now ≡ no_schema }
+    ensures entries { result ≡ Stage.Entries → schema.now ≡ entry_schema }
+    ensures both { result ≡ Stage.Both → schema.now ≡ both_schema }
+{
+    if !schema.views.is_empty() {
+        return Stage::Other;
+    }
+    match schema.tables.as_slice() {
+        [] if schema.indexes.is_empty() => Stage::Nothing,
+        [entry] if schema.indexes.is_empty() && is_entry_table(entry) => Stage::Entries,
+        [entry, cell] if is_entry_table(entry) && is_cell_table(cell) => {
+            if are_indexes(schema.indexes.as_slice()) {
+                Stage::Both
+            } else {
+                Stage::Other
+            }
+        }
+        _ => Stage::Other,
+    }
+}

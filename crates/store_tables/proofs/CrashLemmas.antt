@@ -1,0 +1,34 @@
+-- What a crash may leave: one sound schema fits trees, so what an open would find is what the trees tell.
+use Rattle.std.proofs.Common.{◌≡◌, Option, Some, sym, ap, subst, ◌∙◌}
+use Rattle.sqlite_trees.specs.Tree.{Trees}
+use Rattle.sqlite_trees.specs.Objects.{catalog_tree}
+use Rattle.sqlite_schema.specs.declared.schema.Schema.{Schema}
+use Rattle.sqlite_catalog.specs.Listing.{IsSound}
+use Rattle.sqlite_catalog.proofs.ReadLemmas.{lists_once}
+use Rattle.sqlite.specs.Effect.{Database}
+use Rattle.sqlite.specs.State.{State}
+use Rattle.lei_outside.specs.Keeping.{KeptTables, with_batch}
+use Rattle.lei_outside.specs.declared.keeper.Batch.{Batch}
+use Rattle.store_tables.specs.Calls.{IsKept, IsNext, Tells}
+use Rattle.store_tables.specs.Crash.{IsFound}
+use Rattle.store_tables.specs.Told.{told_by}
+
+pub one_schema : (s t : Schema) (trees : Trees) → IsSound s trees → IsSound t trees → s ≡ t
+one_schema s t trees p q = lists_once (trees catalog_tree) s t p.lists q.lists
+
+told_once : (s t : Schema) (trees : Trees) (left : Option KeptTables) (tables : KeptTables) → IsSound s trees → left ≡ told_by s trees → Tells t trees tables → left ≡ Some tables
+told_once s t trees left tables sound is tells = is ∙ (ap (λ x. told_by x trees) (one_schema s t trees sound tells.sound) ∙ tells.told)
+
+-- where a crash leaves the last commit and nothing else
+pub found_settled : (s : State) (t : KeptTables) → ((db : Trees) → s.may_leave db → db ≡ s.committed.trees) → s.now ≡ s.committed → Tells s.now.schema s.now.trees t
+    → (left : Option KeptTables) → IsFound s left → left ≡ Some t
+found_settled s t settled same tells left found =
+    let trees : found.0 ≡ s.now.trees = settled found.0 found.2 ∙ ap (λ (d : Database). d.trees) (sym same) in
+    told_once found.1 s.now.schema s.now.trees left t (subst (IsSound found.1) trees found.3) (found.4 ∙ ap (told_by found.1) trees) tells
+
+-- trees that a transaction of a batch commits tell the tables with the batch
+pub kept_tells : (batch : Batch) (s : State) (trees : Trees) (schema : Schema) (left : Option KeptTables) (t : KeptTables) → IsKept batch s trees → IsSound schema trees → left ≡ told_by schema trees
+    → IsNext batch.entry t → Tells s.now.schema s.now.trees t → left ≡ Some (with_batch batch t)
+kept_tells batch s trees schema left t kept sound is next tells =
+    let it = kept.1 t next tells in
+    told_once schema it.0 trees left (with_batch batch t) sound is it.1

@@ -1,0 +1,5 @@
+pub mod Calls
+pub mod Crash
+pub mod Same
+pub mod Stored
+pub mod Told
