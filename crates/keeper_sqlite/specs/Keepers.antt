@@ -21,9 +21,11 @@ pub record KeeperState (S : Type 0) : Type 0 where
   pub store : Option (StoreState S)
   pub faults : ℕ
 
+-- What is seen of a store, as a code.
 abbrev pub store_code : {S : Type 0} → Coded S → Coded (StoreState S)
 store_code {S} s = code_by (Held S × Held S) (coded× (held_code s) (held_code s)) (λ x. (x.conn, x.adopted)) (λ p. record { conn = p.0; adopted = p.1 }) (λ _. refl)
 
+-- What is seen of a keeper, as a code.
 abbrev pub keeper_code : {S : Type 0} → Coded S → Coded (KeeperState S)
 keeper_code {S} s =
     code_by (Option (StoreState S) × ℕ) (coded× (coded_option (store_code s)) coded_ℕ) (λ x. (x.store, x.faults)) (λ p. record { store = p.0; faults = p.1 }) (λ _. refl)

@@ -14,6 +14,7 @@ use Rattle.sqlite_schema.specs.declared.command.Upsert.{Upsert}
 abbrev pub up : Key
 up = record { collation = Binary; descending = false }
 
+-- An order that falls, byte by byte.
 abbrev pub down : Key
 down = record { collation = Binary; descending = true }
 
@@ -25,6 +26,7 @@ within place = op2 (Compare Gt Binary) (col 1 place) (col 0 0) ∷ op2 (Compare 
 abbrev pub no_limit : Term
 no_limit = lit (Int (negsuc 0))
 
+-- No row is left out at the front.
 abbrev pub no_offset : Term
 no_offset = lit (Int (pos 0))
 

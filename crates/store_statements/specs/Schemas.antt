@@ -23,6 +23,7 @@ column_of name kind not_null =
 abbrev pub at_least_one : ℕ → Term
 at_least_one place = op2 (Compare Ge Binary) (col 1 place) (lit (Int (pos 1)))
 
+-- No value is computed as a row is written.
 abbrev pub no_stamps : Stamps
 no_stamps = record { places = []; terms = []; formats = [] }
 
@@ -68,9 +69,11 @@ abbrev pub index_of : List ℕ → ℕ → List ℕ → Index
 index_of name tree places =
     record { name = name; tree = tree; table = 1; columns = places; order = plain; is_unique = true }
 
+-- The index of cells by kind and name.
 abbrev pub by_name : Index
 by_name = index_of (codes "sqlite_autoindex_cell_1") 2 (1 ∷ 2 ∷ [])
 
+-- The index of cells by the entry that touched them last, kind and name.
 abbrev pub by_entry : Index
 by_entry = index_of (codes "sqlite_autoindex_cell_2") 3 (3 ∷ 1 ∷ 2 ∷ [])
 

@@ -63,6 +63,7 @@ is_entry_number number = nat_le 1 number && nat_le number 9223372036854775807
 abbrev pub entry_fits : KeptEntry → Bool
 entry_fits e = is_entry_number e.seq && (nat_lt e.kind (2 ^ 8) && (nat_lt e.number (2 ^ 32) && nat_lt e.rules (2 ^ 16)))
 
+-- The numbers of a cell fit their fields.
 abbrev pub cell_fits : KeptCell → Bool
 cell_fits c = is_entry_number c.touched && nat_lt c.kind (2 ^ 8)
 
