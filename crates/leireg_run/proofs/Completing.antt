@@ -160,10 +160,10 @@ only_damage stops.StoreDamaged is = refl
 only_damage stops.InputTooLong is = cc
 
 -- nothing stopped what the words mean
-pub completes_meant : (may : Option KeptTables → Type 0) (command what : Invocation) (meant : Option Invocation) (before after : Outside) (second second_after : Option (List ℕ)) (status : ℕ) → status ≡ 0
-    → Some command ≡ meant → meant ≡ Some what
-    → Does may command before after second second_after status → Completes may what before after second second_after 0
-completes_meant may command what meant before after second second_after status ok is means does =
+pub completes_meant : (may : Option KeptTables → Type 0) (command what : Invocation) (meant : Option Invocation) (before after : Outside) (second second_after : Option (List ℕ)) (status number : ℕ) → status ≡ 0
+    → number ≡ 0 → Some command ≡ meant → meant ≡ Some what
+    → Does may command before after second second_after status → Completes may what before after second second_after number
+completes_meant may command what meant before after second second_after status number ok zero is means does =
     let same : command ≡ what = ap (λ o. unwrap_or o command) (is ∙ means) in
     let D : Invocation → Type 0 = λ m. Does may m before after second second_after 0 in
     let N : ℕ → Type 0 = λ n. Does may command before after second second_after n in
@@ -171,7 +171,8 @@ completes_meant may command what meant before after second second_after status o
     let n4 : 0 ≢ 4 = λ is. absurd (omega (arith, is)) in
     let n6 : 0 ≢ 6 = λ is. absurd (omega (arith, is)) in
     let n7 : 0 ≡ 7 → TellsDamage {E = Unit {0}} before after (Ok (tt {0})) = λ is. absurd (omega (arith, is)) in
-    completes may what before after second second_after 0 n3 n4 n6 n7 (subst D same (subst N ok does))
+    subst (λ n. Completes may what before after second second_after n) (sym zero)
+    (completes may what before after second second_after 0 n3 n4 n6 n7 (subst D same (subst N ok does)))
 
 -- what the words mean was stopped, and nothing failed
 pub completes_stopped : (may : Option KeptTables → Type 0) (command what : Invocation) (meant : Option Invocation) (before after : Outside) (second second_after : Option (List ℕ)) (ended : Result (Unit {0}) Stop) (stop : Stop) (status : ℕ)

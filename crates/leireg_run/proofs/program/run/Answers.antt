@@ -6,8 +6,8 @@ use Rattle.leireg_run.proofs.Applied.{rose_of, one_rose}
 use Rattle.leireg_run.proofs.program.run.Goals as goal
 
 pub returns-in-Ok-default-clause-complete : goal.returns-in-Ok-default-clause-complete
-returns-in-Ok-default-clause-complete g c = λ what means _ _ _ _. completes_meant (MayTell g.K.Keeper.tables) _ what _ _ _ _ _ _
-    (ap end_status c.in-Ok-default.is-0) (sym c.in-Ok.ensures.meant) means c.run_command.ensures.does
+returns-in-Ok-default-clause-complete g c = λ what means _ _ _ _. completes_meant (MayTell g.K.Keeper.tables) _ what _ _ _ _ _ _ _
+    (ap end_status c.in-Ok-default.is-0) c.number-in-Ok-default.ensures (sym c.in-Ok.ensures.meant) means c.run_command.ensures.does
 
 pub returns-in-Err-default-clause-complete : goal.returns-in-Err-default-clause-complete
 returns-in-Err-default-clause-complete g c = λ what means n6 input_still second_still out_still.
