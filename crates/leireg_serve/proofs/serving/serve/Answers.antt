@@ -41,11 +41,12 @@ returns-in-Ok-clause-serves g c what means old is =
 pub returns-in-Err-NoMemory-clause-serves : goal.returns-in-Err-NoMemory-clause-serves
 returns-in-Err-NoMemory-clause-serves g c what means old is =
     let asked = c.requires.one what means in
+    let six : c.number-in-Err-NoMemory.result ≡ 6 = c.number-in-Err-NoMemory.ensures in
     let IsIn : Desk g.row.D.Denot g.row.C.Denot → Type 0 = λ desk. g.D.Door.out desk.door ≡ false in (
       old,
       is,
       sole_has IsIn c.args.desks.items asked.0 old asked.1 is asked.2,
-      inr (inr (inr (inl (refl, stays_same (g.K.Keeper.tables c.args.keeper), refl)))),
-      λ nine. absurd (omega (arith, nine)),
+      inr (inr (inr (inl (six, stays_same (g.K.Keeper.tables c.args.keeper), refl)))),
+      λ nine. absurd (omega (arith, nine, six)),
       λ _. refl,
     )
