@@ -26,8 +26,6 @@ mod sessions;
 #[cfg(test)]
 mod sockets;
 #[cfg(test)]
-mod sqlite_keeper;
-#[cfg(test)]
 mod stores;
 #[cfg(test)]
 mod turns;
