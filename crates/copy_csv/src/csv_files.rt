@@ -73,8 +73,8 @@ pub fn csv_copy_text(alloc: Global, sheet: Sheet, rows: &[RowTexts]) -> Result<B
     Ok(Bytes::from(out))
 }
 
-// The length of all lines of the rows. A copy of 100,000 rows has some 30 MB, and growing to them would take memory anew
-// at each doubling.
+// The length of all lines of the rows. A copy of 100,000 rows has some 30 MB, and growing to them would take memory
+// anew at each doubling.
 fn lines_room(rows: &[RowTexts]) -> usize {
     let mut room = 0_usize;
     for texts in rows {
@@ -89,7 +89,8 @@ pub fn csv_delta_text(
     sheet: Sheet,
     changes: &[TextChange<'_>],
 ) -> Result<Bytes, NoMemory>
-    ensures { IfOk result (λ bytes. bytes ≡ line (codes "Delta.Action" ∷ names sheet) ++ flat_map text_change_line changes.now) }
+    ensures { IfOk result (λ bytes. bytes ≡
+        line (codes "Delta.Action" ∷ names sheet) ++ flat_map text_change_line changes.now) }
 {
     let mut out = delta_head(alloc, sheet)?;
     for change in changes {

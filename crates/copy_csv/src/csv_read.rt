@@ -115,7 +115,8 @@ impl<'a> Reader<'a> {
         Ok(self.skip(byte))
     }
 
-    // About how many bytes the texts of the next line take: of those up to LF, each field has two quotes and what follows.
+    // About how many bytes the texts of the next line take: of those up to LF, each field has two quotes and what
+    // follows.
     fn line_room(&self, count: usize) -> usize {
         match memchr(b'\n', self.rest()) {
             Some(len) => (len + 1).saturating_sub(count.saturating_mul(3)),

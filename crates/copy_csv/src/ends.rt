@@ -6,8 +6,8 @@ use lei_outside::NoMemory;
 use std::alloc::Global;
 use std::marker::Model;
 
-/// Where texts end that lie one behind the other, from 0 on. An end takes 16 bits where it and all before it fit in these,
-/// as those of most rows do. Contracts see the list of the ends.
+/// Where texts end that lie one behind the other, from 0 on. An end takes 16 bits where it and all before it fit in
+/// these, as those of most rows do. Contracts see the list of the ends.
 #[derive(Debug, Drop)]
 pub struct Ends {
     near: Vec<u16>,

@@ -11,7 +11,8 @@ use std::alloc::Global;
 use std::marker::Model;
 use std::str;
 
-/// Texts that lie in one piece of memory, one behind the other. Contracts see the list of them, each by its UTF-8 bytes.
+/// Texts that lie in one piece of memory, one behind the other. Contracts see the list of them, each by its UTF-8
+/// bytes.
 #[derive(Debug, Drop)]
 pub struct Texts {
     bytes: Vec<u8>,
@@ -50,8 +51,8 @@ impl Texts {
         })
     }
 
-    /// The texts in the parts of these bytes, which move. The condition is that each part is UTF-8 and that they are all of
-    /// the bytes.
+    /// The texts in the parts of these bytes, which move. The condition is that each part is UTF-8 and that they are
+    /// all of the bytes.
     pub fn of(bytes: Vec<u8>, ends: Ends) -> Self
         requires { IsCut bytes.items ends }
         ensures { result ≡ cut bytes.items ends }

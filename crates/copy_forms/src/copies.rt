@@ -20,8 +20,8 @@ use copy_csv::{
 use lei_outside::{Bytes, List, NoMemory};
 use std::alloc::Global;
 
-/// Reads a copy: Ok exactly where the bytes are the text of some head and some rows of the sheet whose keys rise, and of
-/// UTF-8. `NotRead` says that they are none.
+/// Reads a copy: Ok exactly where the bytes are the text of some head and some rows of the sheet whose keys rise, and
+/// of UTF-8. `NotRead` says that they are none.
 pub fn read_copy(
     alloc: Global,
     bytes: &[u8],
@@ -69,8 +69,8 @@ fn read_copy_in_json(alloc: Global, bytes: &[u8], sheet: Sheet) -> Result<CopyRe
     }
 }
 
-/// Reads a delta: Ok exactly where the bytes are the text of some head and some changes of the sheet whose keys rise, each
-/// of UTF-8, and of a key that is dropped the key alone. `NotRead` says that they are none.
+/// Reads a delta: Ok exactly where the bytes are the text of some head and some changes of the sheet whose keys rise,
+/// each of UTF-8, and of a key that is dropped the key alone. `NotRead` says that they are none.
 pub fn read_delta(
     alloc: Global,
     bytes: &[u8],
@@ -160,7 +160,8 @@ pub fn delta_text(
     head: &Head,
     changes: &[TextChange<'_>],
 ) -> Result<Bytes, NoMemory>
-    ensures { IfOk result (λ bytes. (sheet_changes : Items Change) → map rendered_in changes.now ≡ map rendered_change sheet_changes
+    ensures { IfOk result (λ bytes. (sheet_changes : Items Change)
+        → map rendered_in changes.now ≡ map rendered_change sheet_changes
         → All (IsChangeOf sheet) sheet_changes → bytes ≡ delta sheet form head.now sheet_changes) }
 {
     match form {
@@ -170,14 +171,16 @@ pub fn delta_text(
 }
 
 fn delta_in_csv(alloc: Global, sheet: Sheet, changes: &[TextChange<'_>]) -> Result<Bytes, NoMemory>
-    ensures { IfOk result (λ bytes. (sheet_changes : Items Change) → map rendered_in changes.now ≡ map rendered_change sheet_changes
+    ensures { IfOk result (λ bytes. (sheet_changes : Items Change)
+        → map rendered_in changes.now ≡ map rendered_change sheet_changes
         → All (IsChangeOf sheet) sheet_changes → bytes ≡ csv_delta sheet sheet_changes) }
 {
     csv_delta_text(alloc, sheet, changes)
 }
 
 fn delta_in_json(alloc: Global, head: &Head, changes: &[TextChange<'_>]) -> Result<Bytes, NoMemory>
-    ensures { IfOk result (λ bytes. (sheet_changes : Items Change) → map rendered_in changes.now ≡ map rendered_change sheet_changes
+    ensures { IfOk result (λ bytes. (sheet_changes : Items Change)
+        → map rendered_in changes.now ≡ map rendered_change sheet_changes
         → bytes ≡ json_delta head.now sheet_changes) }
 {
     json_delta_text(alloc, head, changes)

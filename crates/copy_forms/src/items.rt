@@ -67,7 +67,8 @@ fn put_field(
     requires first { 1 ≤ place }
     requires last { place ≤ Sheets.width sheet }
     ensures before { out.new.before ≡ out.old.before }
-    ensures tokens { OnOk result (out.new.tokens ≡ out.old.tokens ++ spec.field_tokens (field_at (row_of sheet texts.now) place)) }
+    ensures tokens { OnOk result (out.new.tokens ≡
+        out.old.tokens ++ spec.field_tokens (field_at (row_of sheet texts.now) place)) }
 {
     let name = name_at(sheet, place);
     let text = texts.text(place - 1);
