@@ -53,7 +53,8 @@ publication_answer entry publication moment counts =
 
 -- its text
 unfoldable pub publication_text : ℕ → ℕ → ℤ → ℕ × ℕ × ℕ → Text
-publication_text entry publication moment counts = compact_text (publication_answer entry publication moment counts)
+publication_text entry publication moment counts = compact_text
+    (publication_answer entry publication moment counts)
 
 -- what is answered of the numbers of entries, issuers, bytes of bodies and publications, and of the numbers of
 -- records, relationships and exceptions that are held; annulled relationships are counted

@@ -13,8 +13,8 @@ abbrev pub with_front : List ℕ → Option (List ℕ × List ℕ) → Option (L
 with_front made None = None
 with_front made (Some read) = Some (made ++ read.0, read.1)
 
--- The text before its closing quote, and the rest behind that. The flag tells that a quote stands before the bytes, which
--- closes the text unless another one follows it.
+-- The text before its closing quote, and the rest behind that. The flag tells that a quote stands before the bytes,
+-- which closes the text unless another one follows it.
 abbrev pub text_from : List ℕ → Bool → Option (List ℕ × List ℕ)
 text_from [] true = Some ([], [])
 text_from [] false = None

@@ -21,7 +21,8 @@ last_end start (end ∷ ends) = last_end end ends
 
 -- The part at an index goes from here to there.
 abbrev pub IsSpan : List ℕ → ℕ → ℕ → ℕ → Type 0
-IsSpan ends index start end = (other : Span) → get_or (spans 0 ends) index other ≡ record { start = start; end = end }
+IsSpan ends index start end = (other : Span)
+    → get_or (spans 0 ends) index other ≡ record { start = start; end = end }
 
 -- The part of the bytes in a span.
 abbrev pub part : List ℕ → Span → Text
@@ -33,7 +34,8 @@ cut bytes ends = map (part bytes) (spans 0 ends)
 
 -- The span lies within the bytes, and its part is UTF-8 (RFC 3629).
 abbrev pub holds_text : List ℕ → Span → Bool
-holds_text bytes span = nat_le span.start span.end && nat_le span.end (length bytes) && is_utf8 (part bytes span)
+holds_text bytes span = nat_le span.start span.end && nat_le span.end (length bytes) && is_utf8
+    (part bytes span)
 
 -- Each of the parts is a text, and the last ends with the bytes.
 pub record IsCut (bytes ends : List ℕ) : Type 0 where

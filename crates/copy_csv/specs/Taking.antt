@@ -10,14 +10,14 @@ use Rattle.copy_csv.specs.Rows.{AreRising}
 abbrev pub HasNoQuote : List ℕ → Type 0
 HasNoQuote bytes = All (λ byte. (byte == 34) ≡ false) bytes
 
--- What closes a text in a line and opens the next one: a quote, a comma and a quote where more fields follow, and else a quote
--- and LF.
+-- What closes a text in a line and opens the next one: a quote, a comma and a quote where more fields follow, and else
+-- a quote and LF.
 abbrev pub closing_of : ℕ → List ℕ
 closing_of zero = 34 ∷ 10 ∷ []
 closing_of (suc more) = 34 ∷ 44 ∷ 34 ∷ []
 
--- The bytes before the next quote were put behind the others and are no longer to be read, nor is the quote; or there is
--- none, and nothing was changed.
+-- The bytes before the next quote were put behind the others and are no longer to be read, nor is the quote; or there
+-- is none, and nothing was changed.
 abbrev pub TakesPart : List ℕ → List ℕ → Bool → List ℕ → List ℕ → Type 0
 TakesPart old made true new made' =
     (part : List ℕ) × (old ≡ part ++ 34 ∷ new) × HasNoQuote part × (made' ≡ made ++ part)
@@ -52,7 +52,8 @@ abbrev pub is_behind : {X : Type 0} → (X → KeyTexts) → List X → X → Bo
 is_behind key xs x = comes_after key (slice_get xs (length xs - 1)) x
 
 -- The bytes are what printing makes of good ones whose keys rise.
-pub record AreRead {X : Type 0} (print : X → List ℕ) (Good : X → Type 0) (key : X → KeyTexts) (bytes : List ℕ) (xs : List X) : Type 0 where
+pub record AreRead {X : Type 0} (print : X → List ℕ) (Good : X → Type 0) (key : X → KeyTexts) (bytes : List ℕ)
+    (xs : List X) : Type 0 where
   pub printed : bytes ≡ flat_map print xs
   pub good : All Good xs
   pub rising : AreRising (map key xs)

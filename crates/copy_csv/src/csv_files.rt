@@ -50,7 +50,8 @@ pub fn read_csv_copy(alloc: Global, bytes: &[u8], sheet: Sheet) -> Result<List<R
 
 /// The changes of a delta.
 pub fn read_csv_delta(alloc: Global, bytes: &[u8], sheet: Sheet) -> Result<List<Change>, FormFault>
-    ensures found { IfOk result (λ changes. (bytes.now ≡ csv_delta sheet changes) × AreChanges sheet changes) }
+    ensures found { IfOk result
+        (λ changes. (bytes.now ≡ csv_delta sheet changes) × AreChanges sheet changes) }
     ensures only { IsErrOf result FormFault.NotRead
         → (changes : Items Changed) → AreChanges sheet changes → bytes.now ≢ csv_delta sheet changes }
 {

@@ -165,9 +165,11 @@ fn is_change_behind(changes: &[Change], change: &Change) -> bool
 /// The changes whose lines these are. The bytes are UTF-8.
 pub fn read_changes(alloc: Global, sheet: Sheet, bytes: &[u8]) -> Result<List<Change>, FormFault>
     requires { IsUtf8 bytes.now }
-    ensures found { IfOk result (λ changes. AreRead change_line (IsChangeOf sheet) changed_key bytes.now changes) }
+    ensures found { IfOk result
+        (λ changes. AreRead change_line (IsChangeOf sheet) changed_key bytes.now changes) }
     ensures only { IsErrOf result FormFault.NotRead
-        → (changes : Items Changed) → AreRead change_line (IsChangeOf sheet) changed_key bytes.now changes → ⊥ }
+        → (changes : Items Changed)
+        → AreRead change_line (IsChangeOf sheet) changed_key bytes.now changes → ⊥ }
 {
     let mut changes = Vec::new(alloc);
     let mut reader = Reader::new(bytes);

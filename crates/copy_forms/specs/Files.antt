@@ -32,15 +32,17 @@ abbrev pub delta : Sheet → Form → Head → List Change → Text
 delta sheet Form.Csv head changes = csv_delta sheet changes
 delta sheet Form.Json head changes = json_delta head changes
 
--- The bytes are the copy of a sheet with this head and these rows: the text of a head of a copy and of rows of the sheet
--- whose keys rise.
-pub record IsCopy (bytes : Text) (sheet : Sheet) (form : Form) (head : Head) (rows : List SheetRow) : Type 0 where
+-- The bytes are the copy of a sheet with this head and these rows: the text of a head of a copy and of rows of the
+-- sheet whose keys rise.
+pub record IsCopy (bytes : Text) (sheet : Sheet) (form : Form) (head : Head)
+    (rows : List SheetRow) : Type 0 where
   pub text : bytes ≡ copy sheet form head rows
   pub head_is : IsCopyHead head
   pub rows_are : AreRows sheet rows
 
 -- The same of a delta.
-pub record IsDelta (bytes : Text) (sheet : Sheet) (form : Form) (head : Head) (changes : List Change) : Type 0 where
+pub record IsDelta (bytes : Text) (sheet : Sheet) (form : Form) (head : Head)
+    (changes : List Change) : Type 0 where
   pub text : bytes ≡ delta sheet form head changes
   pub head_is : IsDeltaHead head
   pub changes_are : AreChanges sheet changes
@@ -50,7 +52,8 @@ pub record IsDelta (bytes : Text) (sheet : Sheet) (form : Form) (head : Head) (c
 abbrev pub IsCopyRead : Text → Sheet → Form → CopyRead → Type 0
 IsCopyRead bytes sheet Form.Csv read =
     (read.head ≡ None) × ((head : Head) → IsCopyHead head → IsCopy bytes sheet Form.Csv head read.rows)
-IsCopyRead bytes sheet Form.Json read = (head : Head) × (read.head ≡ Some head) × IsCopy bytes sheet Form.Json head read.rows
+IsCopyRead bytes sheet Form.Json read = (head : Head) × (read.head ≡ Some head)
+    × IsCopy bytes sheet Form.Json head read.rows
 
 -- The same of a delta.
 abbrev pub IsDeltaRead : Text → Sheet → Form → DeltaRead → Type 0

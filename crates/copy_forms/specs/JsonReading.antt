@@ -32,7 +32,8 @@ after (x ∷ front) (y ∷ bytes) = if y == x then after front bytes else None
 -- The text of a string and the bytes behind it, from behind the opening quote. Each escape is the one that is printed.
 unfoldable pub string_from : List ℕ → Option (List ℕ × List ℕ)
 string_from bytes =
-    option_and_then (λ text. option_map (λ rest. (text, rest)) (after (escape text ++ 34 ∷ []) bytes)) (content plain bytes)
+    option_and_then (λ text. option_map (λ rest. (text, rest)) (after (escape text ++ 34 ∷ []) bytes))
+    (content plain bytes)
 
 -- A byte that is printed as an escape: the quote, the backslash and the control characters.
 abbrev pub is_escaped : ℕ → Bool
@@ -41,7 +42,8 @@ is_escaped byte = (byte == 34) || (byte == 92) || nat_lt byte 32
 -- These bytes: the quote, the backslash, and those below 32.
 abbrev pub escaped : List ℕ
 escaped =
-    34 ∷ 92 ∷ 0 ∷ 1 ∷ 2 ∷ 3 ∷ 4 ∷ 5 ∷ 6 ∷ 7 ∷ 8 ∷ 9 ∷ 10 ∷ 11 ∷ 12 ∷ 13 ∷ 14 ∷ 15 ∷ 16 ∷ 17 ∷ 18 ∷ 19 ∷ 20 ∷ 21 ∷ 22 ∷ 23
+    34 ∷ 92 ∷ 0 ∷ 1 ∷ 2 ∷ 3 ∷ 4 ∷ 5 ∷ 6 ∷ 7 ∷ 8 ∷ 9 ∷ 10 ∷ 11 ∷ 12 ∷ 13 ∷ 14 ∷ 15 ∷ 16 ∷ 17 ∷ 18 ∷ 19
+    ∷ 20 ∷ 21 ∷ 22 ∷ 23
     ∷ 24 ∷ 25 ∷ 26 ∷ 27 ∷ 28 ∷ 29 ∷ 30 ∷ 31 ∷ []
 
 -- Each with its escape.
@@ -74,7 +76,8 @@ kept text = if is_absent text then None else if is_utf8 text then Some text else
 
 -- The text of a field and the bytes behind it, from behind the opening quote.
 unfoldable pub text_from : List ℕ → Option (Text × List ℕ)
-text_from bytes = option_and_then (λ read. option_map (λ text. (text, read.1)) (kept read.0)) (string_from bytes)
+text_from bytes = option_and_then (λ read. option_map (λ text. (text, read.1)) (kept read.0))
+    (string_from bytes)
 
 -- What is read of a field: its text, whether a field stands before what follows, and the bytes that follow.
 pub record FieldRead : Type 0 where
@@ -99,13 +102,15 @@ field_from name later bytes = field_behind later bytes (after (lead later name) 
 unfoldable pub fields_from : List Text → Bool → List ℕ → Option (List Text × List ℕ)
 fields_from [] later bytes = option_map (λ rest. ([], rest)) (after (125 ∷ []) bytes)
 fields_from (name ∷ names) later bytes =
-    option_and_then (λ field. option_map (λ read. (field.text ∷ read.0, read.1)) (fields_from names field.later field.rest))
+    option_and_then (λ field. option_map (λ read. (field.text ∷ read.0, read.1))
+    (fields_from names field.later field.rest))
     (field_from name later bytes)
 
 -- Where each field of a sheet, in order of place, stands in byte order of the names.
 abbrev pub json_ranks : Sheet → List ℕ
 json_ranks Sheet.Lei =
-    21 ∷ 16 ∷ 17 ∷ 11 ∷ 9 ∷ 13 ∷ 10 ∷ 12 ∷ 6 ∷ 4 ∷ 8 ∷ 5 ∷ 7 ∷ 19 ∷ 18 ∷ 15 ∷ 1 ∷ 14 ∷ 3 ∷ 2 ∷ 20 ∷ 23 ∷ 24 ∷ 27 ∷ 26 ∷ 25 ∷ 28 ∷ 22 ∷ []
+    21 ∷ 16 ∷ 17 ∷ 11 ∷ 9 ∷ 13 ∷ 10 ∷ 12 ∷ 6 ∷ 4 ∷ 8 ∷ 5 ∷ 7 ∷ 19 ∷ 18 ∷ 15 ∷ 1 ∷ 14 ∷ 3 ∷ 2 ∷ 20 ∷ 23 ∷ 24
+    ∷ 27 ∷ 26 ∷ 25 ∷ 28 ∷ 22 ∷ []
 json_ranks Sheet.Rr = 11 ∷ 9 ∷ 7 ∷ 8 ∷ 10 ∷ 6 ∷ 1 ∷ 2 ∷ 4 ∷ 3 ∷ 5 ∷ []
 json_ranks Sheet.Repex = 4 ∷ 1 ∷ 2 ∷ 3 ∷ []
 
@@ -116,10 +121,12 @@ placed sheet texts = row_of sheet (map (text_at texts) (json_ranks sheet))
 -- The row of a record, and the bytes behind it.
 unfoldable pub record_from : Sheet → List ℕ → Option (SheetRow × List ℕ)
 record_from sheet bytes =
-    option_and_then (λ rest. option_map (λ read. (placed sheet read.0, read.1)) (fields_from (json_names sheet) false rest))
+    option_and_then (λ rest. option_map (λ read. (placed sheet read.0, read.1))
+    (fields_from (json_names sheet) false rest))
     (after (123 ∷ []) bytes)
 
--- The change with this action that a row was read for, if it may be one: of a row that is dropped only the key is there.
+-- The change with this action that a row was read for, if it may be one: of a row that is dropped only the key is
+-- there.
 abbrev pub change_of : Bool → SheetRow → Option Change
 change_of true row = Some (Change.Put row)
 change_of false row = if is_key_alone row then Some (Change.Drop row) else None
@@ -127,7 +134,8 @@ change_of false row = if is_key_alone row then Some (Change.Drop row) else None
 -- A change whose record begins these bytes, and the bytes behind the brace that closes it.
 abbrev pub changed_from : Sheet → Bool → List ℕ → Option (Change × List ℕ)
 changed_from sheet puts bytes =
-    option_and_then (λ read. option_and_then (λ rest. option_map (λ change. (change, rest)) (change_of puts read.0)) (after (125 ∷ []) read.1))
+    option_and_then (λ read. option_and_then
+    (λ rest. option_map (λ change. (change, rest)) (change_of puts read.0)) (after (125 ∷ []) read.1))
     (record_from sheet bytes)
 
 -- The same by what stands behind the begin of a change that puts a row, or else of one that drops a key.
@@ -144,10 +152,12 @@ change_from sheet bytes =
 -- ---- the records of a file
 
 -- So many items up to the end of the bytes, by what is read of one.
-unfoldable pub items_from : {A : Type 0} → (List ℕ → Option (A × List ℕ)) → ℕ → Bool → List ℕ → Option (List A)
+unfoldable pub items_from : {A : Type 0} → (List ℕ → Option (A × List ℕ)) → ℕ → Bool → List ℕ
+    → Option (List A)
 items_from item zero later bytes = if bytes_eq bytes (93 ∷ 125 ∷ []) then Some [] else None
 items_from item (suc n) later bytes =
-    option_and_then (λ rest. option_and_then (λ read. option_map (λ others. read.0 ∷ others) (items_from item n true read.1)) (item rest))
+    option_and_then (λ rest. option_and_then
+    (λ read. option_map (λ others. read.0 ∷ others) (items_from item n true read.1)) (item rest))
     (after (comma_if later) bytes)
 
 -- ---- the begin of a file
@@ -155,7 +165,8 @@ items_from item (suc n) later bytes =
 -- The number that digits write in decimal, below 2^64 and with no zero before it.
 unfoldable pub number_of : List ℕ → Option ℕ
 number_of digits =
-    if nat_lt (digits_value 10 digits) (2 ^ 64) && bytes_eq (decimal (digits_value 10 digits)) digits then Some (digits_value 10 digits) else None
+    if nat_lt (digits_value 10 digits) (2 ^ 64) && bytes_eq (decimal (digits_value 10 digits)) digits then
+    Some (digits_value 10 digits) else None
 
 -- A number, and the bytes behind its digits.
 unfoldable pub number_from : List ℕ → Option (ℕ × List ℕ)
@@ -166,12 +177,14 @@ number_from bytes =
 -- The moment that a text is the printed form of.
 abbrev pub printed_moment : Text → Option ℤ
 printed_moment text =
-    if is_utf8 text then option_and_then (λ moment. if bytes_eq (moment_text moment) text then Some moment else None) (read_moment text)
+    if is_utf8 text then option_and_then
+    (λ moment. if bytes_eq (moment_text moment) text then Some moment else None) (read_moment text)
     else None
 
 -- A moment, from behind its opening quote, and the bytes behind it.
 unfoldable pub moment_from : List ℕ → Option (ℤ × List ℕ)
-moment_from bytes = option_and_then (λ read. option_map (λ moment. (moment, read.1)) (printed_moment read.0)) (string_from bytes)
+moment_from bytes = option_and_then (λ read. option_map (λ moment. (moment, read.1)) (printed_moment read.0))
+    (string_from bytes)
 
 -- What stands before the moment of a file.
 abbrev pub date_begin : Text
@@ -199,7 +212,8 @@ is_publication number = nat_le 1 number && nat_le number 1_000_000
 
 -- The number of a publication behind a front, and the bytes behind it.
 unfoldable pub publication_behind : List ℕ → List ℕ → Option (ℕ × List ℕ)
-publication_behind front bytes = option_and_then (λ read. if is_publication read.0 then Some read else None) (number_behind front bytes)
+publication_behind front bytes = option_and_then (λ read. if is_publication read.0 then Some read else None)
+    (number_behind front bytes)
 
 -- The number of a publication in a member with this name, and the bytes behind it.
 abbrev pub publication_from : Text → List ℕ → Option (ℕ × List ℕ)
@@ -243,7 +257,8 @@ pub record Added (old new : List Text) (text : Text) : Type 0 where
   pub is : new ≡ old ++ text ∷ []
 
 -- A reader puts the text that is to be read behind the others, and gives what follows.
-abbrev pub Adds : {X Y : Type 0} → (Text → X → Y) → List Text → List Text → Result X FormFault → Option Y → Type 0
+abbrev pub Adds : {X Y : Type 0} → (Text → X → Y) → List Text → List Text → Result X FormFault
+    → Option Y → Type 0
 Adds view old new (Ok x) found = (text : Text) × (found ≡ Some (view text x)) × Added old new text
 Adds view old new (Err fault) found = Fails fault found
 

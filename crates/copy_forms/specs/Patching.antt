@@ -18,8 +18,8 @@ Keyed = FinMap key_cmp SheetRow
 abbrev pub keyed : List SheetRow → Keyed
 keyed rows = from_entries (map (λ row. (key row, row)) rows)
 
--- A change puts its row in the place of the row of its key or as a row of its own, or takes out the row of its key where
--- there is one.
+-- A change puts its row in the place of the row of its key or as a row of its own, or takes out the row of its key
+-- where there is one.
 abbrev pub changed : Keyed → Change → Keyed
 changed rows (Change.Put row) = insert rows (key row) row
 changed rows (Change.Drop row) = remove rows (key row)

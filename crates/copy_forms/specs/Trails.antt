@@ -81,7 +81,8 @@ delta_head from number publication = record { moment = publication.moment; publi
 
 -- The copy of a publication.
 abbrev pub copy_of : ℕ → Publication → Sheet → Form → Text
-copy_of number publication sheet form = copy sheet form (copy_head number publication) (publication.rows sheet)
+copy_of number publication sheet form = copy sheet form (copy_head number publication)
+    (publication.rows sheet)
 
 -- The row of a key that is dropped: the key, and no other texts.
 abbrev pub dropped_row : Sheet → KeyTexts → SheetRow
@@ -104,8 +105,8 @@ touched_in sheet later = flat_map (λ publication. publication.touched sheet) la
 abbrev pub between : Trail → ℕ → ℕ → List Publication
 between trail from number = take (number - from) (drop from trail)
 
--- The changes of the delta between two publications: each key that was touched behind the first, once and in order, with
--- its row in the other.
+-- The changes of the delta between two publications: each key that was touched behind the first, once and in order,
+-- with its row in the other.
 abbrev pub changes_between : Trail → ℕ → ℕ → Publication → Sheet → List Change
 changes_between trail from number publication sheet =
     map (change_of sheet (publication.rows sheet)) (in_order (touched_in sheet (between trail from number)))
@@ -113,16 +114,19 @@ changes_between trail from number publication sheet =
 -- The delta between two publications.
 abbrev pub delta_between : Trail → ℕ → ℕ → Publication → Sheet → Form → Text
 delta_between trail from number publication sheet form =
-    delta sheet form (delta_head from number publication) (changes_between trail from number publication sheet)
+    delta sheet form (delta_head from number publication)
+    (changes_between trail from number publication sheet)
 
 -- The publication with this number, counted from 1.
 abbrev pub publication_at : Trail → ℕ → Option Publication
 publication_at trail number = slice_get trail (number - 1)
 
--- In the trail the copy of each publication, patched by the delta from there to a later one or to itself, is the copy of
--- that one, byte for byte.
+-- In the trail the copy of each publication, patched by the delta from there to a later one or to itself, is the copy
+-- of that one, byte for byte.
 abbrev pub DeltasLeadOn : Trail → Type 0
 DeltasLeadOn trail =
-    (p q : ℕ) (base latest : Publication) → 1 ≤ p → p ≤ q → publication_at trail p ≡ Some base → publication_at trail q ≡ Some latest
+    (p q : ℕ) (base latest : Publication) → 1 ≤ p → p ≤ q → publication_at trail p ≡ Some base
+    → publication_at trail q ≡ Some latest
     → (sheet : Sheet) (form : Form)
-    → IsPatched (copy_of p base sheet form) (delta_between trail p q latest sheet form) (copy_of q latest sheet form) sheet form
+    → IsPatched (copy_of p base sheet form) (delta_between trail p q latest sheet form)
+    (copy_of q latest sheet form) sheet form

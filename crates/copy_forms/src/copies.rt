@@ -104,7 +104,8 @@ fn read_delta_in_csv(alloc: Global, bytes: &[u8], sheet: Sheet) -> Result<DeltaR
 fn read_delta_in_json(alloc: Global, bytes: &[u8], sheet: Sheet) -> Result<DeltaRead, FormFault>
     ensures found { IfOk result (λ read. IsDeltaRead bytes.now sheet Form.Json read) }
     ensures only { IsErrOf result FormFault.NotRead
-        → (head : DeclaredHead) (changes : Items Change) → IsDelta bytes.now sheet Form.Json head changes → ⊥ }
+        → (head : DeclaredHead) (changes : Items Change)
+        → IsDelta bytes.now sheet Form.Json head changes → ⊥ }
 {
     match read_json_delta(alloc, bytes, sheet) {
         Ok((head, changes)) => {

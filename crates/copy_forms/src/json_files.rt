@@ -152,7 +152,8 @@ fn changes_from(
     bytes: &[u8],
 ) -> Result<Vec<Change>, FormFault>
     requires { leads.now ≡ map (JsonTexts.lead true) (json_names sheet) }
-    ensures { Gives (λ changes. changes.items) result (items_from (spec.change_from sheet) count false bytes.now) }
+    ensures { Gives (λ changes. changes.items) result
+        (items_from (spec.change_from sheet) count false bytes.now) }
 {
     let mut changes = Vec::new(alloc);
     let mut rest = bytes;

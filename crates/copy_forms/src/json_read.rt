@@ -88,8 +88,8 @@ fn text_from<'a>(alloc: Global, texts: &mut Texts, bytes: &'a [u8]) -> Result<&'
     Ok(rest)
 }
 
-// Puts the text of a field behind the others, the empty text where its lead doesn't stand there. It gives whether a field
-// stands before the bytes that follow, and these.
+// Puts the text of a field behind the others, the empty text where its lead doesn't stand there. It gives whether a
+// field stands before the bytes that follow, and these.
 fn field_from<'a>(
     alloc: Global,
     texts: &mut Texts,
@@ -97,7 +97,8 @@ fn field_from<'a>(
     later: bool,
     bytes: &'a [u8],
 ) -> Result<(bool, &'a [u8]), FormFault>
-    ensures { Adds (λ text read. record { text = text; later = read.0; rest = read.1.now }) texts.old texts.new result
+    ensures { Adds (λ text read. record { text = text; later = read.0; rest = read.1.now }) texts.old
+        texts.new result
         (spec.field_behind later bytes.now (spec.after lead.now bytes.now)) }
 {
     match after(bytes, lead) {
@@ -120,7 +121,8 @@ fn fields_from<'a>(
     bytes: &'a [u8],
 ) -> Result<(Texts, &'a [u8]), FormFault>
     requires { leads.now ≡ map (JsonTexts.lead true) (json_names sheet) }
-    ensures { Gives (λ read. (read.0, read.1.now)) result (spec.fields_from (json_names sheet) false bytes.now) }
+    ensures { Gives (λ read. (read.0, read.1.now)) result
+        (spec.fields_from (json_names sheet) false bytes.now) }
 {
     // Most texts are short.
     let room = leads.len().saturating_mul(16);

@@ -63,7 +63,8 @@ fn put_field(out: &mut Writer, row: &Row, place: usize) -> Result<(), NoMemory>
     requires first { 1 ≤ place }
     requires last { place ≤ Sheets.width row.now.sheet }
     ensures before { out.new.before ≡ out.old.before }
-    ensures tokens { OnOk result (out.new.tokens ≡ out.old.tokens ++ spec.field_tokens (field_at row.now place)) }
+    ensures tokens { OnOk result
+        (out.new.tokens ≡ out.old.tokens ++ spec.field_tokens (field_at row.now place)) }
 {
     let name = name_at(row.sheet(), place);
     let text = row.text(place);

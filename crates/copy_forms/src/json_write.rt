@@ -17,7 +17,8 @@ use std::str;
 /// The text of a copy with these records.
 pub fn json_copy_text(alloc: Global, head: &Head, rows: &[RowTexts]) -> Result<Bytes, NoMemory>
     ensures { IfOk result (λ bytes. bytes
-        ≡ before_copy head.now (length rows.now) (records_text false (map (λ texts. texts.json) rows.now) ++ 125 ∷ [])) }
+        ≡ before_copy head.now (length rows.now)
+        (records_text false (map (λ texts. texts.json) rows.now) ++ 125 ∷ [])) }
 {
     let mut out = copy_begin(alloc, head, rows.len())?;
     for (index, texts) in rows.iter().enumerate() {
@@ -53,7 +54,8 @@ pub fn json_delta_text(
     changes: &[TextChange<'_>],
 ) -> Result<Bytes, NoMemory>
     ensures { IfOk result (λ bytes. bytes
-        ≡ before_delta head.now (length changes.now) (records_text false (map text_change_record changes.now) ++ 125 ∷ [])) }
+        ≡ before_delta head.now (length changes.now)
+        (records_text false (map text_change_record changes.now) ++ 125 ∷ [])) }
 {
     let mut out = delta_begin(alloc, head, changes.len())?;
     for (index, change) in changes.iter().enumerate() {
@@ -71,7 +73,8 @@ fn put_change(
     later: bool,
     change: &TextChange<'_>,
 ) -> Result<(), NoMemory>
-    ensures { OnOk result (out.new.items ≡ out.old.items ++ (comma_if later ++ text_change_record change.now)) }
+    ensures { OnOk result (out.new.items
+        ≡ out.old.items ++ (comma_if later ++ text_change_record change.now)) }
 {
     match change {
         TextChange::Put(texts) => {
@@ -160,7 +163,8 @@ fn put_date(out: &mut Writer, moment: Moment) -> Result<(), NoMemory>
 // Writes a member that is a number.
 fn put_number(out: &mut Writer, name: &str, value: u64) -> Result<(), NoMemory>
     ensures before { out.new.before ≡ out.old.before }
-    ensures tokens { OnOk result (out.new.tokens ≡ out.old.tokens ++ (key name.now ∷ number (decimal value) ∷ [])) }
+    ensures tokens { OnOk result
+        (out.new.tokens ≡ out.old.tokens ++ (key name.now ∷ number (decimal value) ∷ [])) }
 {
     out.key(name)?;
     out.u64(value)?;

@@ -15,9 +15,9 @@ ghost use Rattle.copy_csv.specs.Rows.{AreChanges, AreRows};
 ghost use Rattle.copy_csv.specs.Sheets.{SheetRow};
 ghost use Rattle.copy_forms.specs.Trails.{DeltasLeadOn, IsSound, Trail};
 
-/// In every sound trail of at most 1,000,000 publications, a copy that is patched by the delta to a later one is the copy
-/// of that one, byte for byte, in both forms and of each sheet. So it is for an empty delta, for a row that changed back,
-/// and where a key is dropped that the copy lacks.
+/// In every sound trail of at most 1,000,000 publications, a copy that is patched by the delta to a later one is the
+/// copy of that one, byte for byte, in both forms and of each sheet. So it is for an empty delta, for a row that
+/// changed back, and where a key is dropped that the copy lacks.
 pub fn deltas_lead_from_copy_to_copy()
     ensures { (trail : Trail) → IsSound trail → length trail ≤ 1_000_000 → DeltasLeadOn trail }
 {}
@@ -26,17 +26,20 @@ pub fn deltas_lead_from_copy_to_copy()
 pub fn csv_tells_its_rows()
     ensures copies { (sheet : Sheet) (rows others : List SheetRow) → AreRows sheet rows → AreRows sheet others
         → csv_copy sheet rows ≡ csv_copy sheet others → rows ≡ others }
-    ensures deltas { (sheet : Sheet) (changes others : List Change) → AreChanges sheet changes → AreChanges sheet others
+    ensures deltas { (sheet : Sheet) (changes others : List Change) → AreChanges sheet changes
+        → AreChanges sheet others
         → csv_delta sheet changes ≡ csv_delta sheet others → changes ≡ others }
 {}
 
-/// In JSON no two heads and no two lists of rows have one text, and no two heads and lists of changes. It is said of texts
-/// of fewer than 2^64 bytes, as every text in memory has.
+/// In JSON no two heads and no two lists of rows have one text, and no two heads and lists of changes. It is said of
+/// texts of fewer than 2^64 bytes, as every text in memory has.
 pub fn json_tells_its_heads_and_rows()
-    ensures copies { (sheet : Sheet) (bytes : Text) (head other : Head) (rows others : List SheetRow) → length bytes < 2 ^ 64
+    ensures copies { (sheet : Sheet) (bytes : Text) (head other : Head) (rows others : List SheetRow)
+        → length bytes < 2 ^ 64
         → IsCopy bytes sheet Form.Json head rows → IsCopy bytes sheet Form.Json other others
         → (head ≡ other) × (rows ≡ others) }
-    ensures deltas { (sheet : Sheet) (bytes : Text) (head other : Head) (changes others : List Change) → length bytes < 2 ^ 64
+    ensures deltas { (sheet : Sheet) (bytes : Text) (head other : Head) (changes others : List Change)
+        → length bytes < 2 ^ 64
         → IsDelta bytes sheet Form.Json head changes → IsDelta bytes sheet Form.Json other others
         → (head ≡ other) × (changes ≡ others) }
 {}

@@ -37,7 +37,8 @@ pub record IsApplied (copy delta bytes : Text) (sheet : Sheet) (form : Form) : T
   pub goes_from : GoesFrom form patched.base_head patched.head
 
 -- The two are a copy and a delta in JSON, and the delta goes from another publication than that of the copy.
-pub record IsOfOtherBase (copy delta : Text) (sheet : Sheet) (form : Form) (publication from : ℕ) : Type 0 where
+pub record IsOfOtherBase (copy delta : Text) (sheet : Sheet) (form : Form)
+    (publication from : ℕ) : Type 0 where
   pub in_json : form ≡ Form.Json
   pub base_head : Head
   pub rows : List SheetRow
@@ -49,13 +50,15 @@ pub record IsOfOtherBase (copy delta : Text) (sheet : Sheet) (form : Form) (publ
   pub from_is : from ≡ head.from
   pub differ : publication ≢ from
 
--- What is to be answered of a copy and a delta, in this order: that the one is no copy, that the other is no delta, that
--- they don't go together, or the copy after the delta. Want of memory is never to be answered.
+-- What is to be answered of a copy and a delta, in this order: that the one is no copy, that the other is no delta,
+-- that they don't go together, or the copy after the delta. Want of memory is never to be answered.
 abbrev pub IsAnswer : Text → Text → Sheet → Form → Result Text ApplyFault → Type 0
 IsAnswer copy delta sheet form (Ok bytes) = IsApplied copy delta bytes sheet form
 IsAnswer copy delta sheet form (Err faults.CopyNotRead) = IsNoCopy copy sheet form
-IsAnswer copy delta sheet form (Err faults.DeltaNotRead) = IsSomeCopy copy sheet form × IsNoDelta delta sheet form
-IsAnswer copy delta sheet form (Err (faults.WrongBase publication from)) = IsOfOtherBase copy delta sheet form publication from
+IsAnswer copy delta sheet form (Err faults.DeltaNotRead) = IsSomeCopy copy sheet form
+    × IsNoDelta delta sheet form
+IsAnswer copy delta sheet form (Err (faults.WrongBase publication from)) = IsOfOtherBase copy delta sheet form
+    publication from
 IsAnswer copy delta sheet form (Err faults.NoMemory) = ⊥
 
 -- This holds, unless memory was wanting.
@@ -66,11 +69,12 @@ UnlessNoMemory (Err faults.DeltaNotRead) P = P
 UnlessNoMemory (Err (faults.WrongBase publication from)) P = P
 UnlessNoMemory (Err faults.NoMemory) P = ⊤
 
--- Of the copy of a publication of a sound trail and the delta from there to a later one, or to itself, the copy of that one
--- is answered, byte for byte, unless memory was wanting.
+-- Of the copy of a publication of a sound trail and the delta from there to a later one, or to itself, the copy of that
+-- one is answered, byte for byte, unless memory was wanting.
 abbrev pub LeadsOn : Text → Text → Sheet → Form → Result Text ApplyFault → Type 0
 LeadsOn copy delta sheet form result =
     (trail : Trail) → IsSound trail → length trail ≤ 1_000_000
-    → (p q : ℕ) (base latest : Publication) → 1 ≤ p → p ≤ q → publication_at trail p ≡ Some base → publication_at trail q ≡ Some latest
+    → (p q : ℕ) (base latest : Publication) → 1 ≤ p → p ≤ q → publication_at trail p ≡ Some base
+    → publication_at trail q ≡ Some latest
     → copy ≡ copy_of p base sheet form → delta ≡ delta_between trail p q latest sheet form
     → UnlessNoMemory result (result ≡ Ok (copy_of q latest sheet form))

@@ -11,8 +11,8 @@ abbrev pub put_by : Change → List SheetRow
 put_by (Change.Put row) = row ∷ []
 put_by (Change.Drop row) = []
 
--- A row among changes: what those with a lesser key put stands before it, and what one with its own key puts stands in its
--- place. The others are left to the rows behind it.
+-- A row among changes: what those with a lesser key put stands before it, and what one with its own key puts stands in
+-- its place. The others are left to the rows behind it.
 abbrev pub placed : SheetRow → (List Change → List SheetRow) → List Change → List SheetRow
 placed row others [] = row ∷ others []
 placed row others (change ∷ changes) =

@@ -14,15 +14,17 @@ use Rattle.delta_apply.specs.declared.fault.ApplyFault.{ApplyFault}
 use Rattle.delta_apply.specs.declared.fault.ApplyFault.TheVariants as faults
 use Rattle.delta_apply.specs.Merging.{merged}
 
--- A row was passed: whatever rows follow it, what was put by now, with what they and the changes from `next` on make, is
--- what was put before, with what the row, they and the changes from `at` on make.
-abbrev pub PassesRow : {X : Type 0} → (SheetRow → List X) → List Change → SheetRow → ℕ → List X → ℕ → List X → Type 0
+-- A row was passed: whatever rows follow it, what was put by now, with what they and the changes from `next` on make,
+-- is what was put before, with what the row, they and the changes from `at` on make.
+abbrev pub PassesRow : {X : Type 0} → (SheetRow → List X) → List Change → SheetRow → ℕ → List X → ℕ
+    → List X → Type 0
 PassesRow print changes row at old next new =
     (more : List SheetRow)
-    → new ++ flat_map print (merged more (drop next changes)) ≡ old ++ flat_map print (merged (row ∷ more) (drop at changes))
+    → new ++ flat_map print (merged more (drop next changes))
+    ≡ old ++ flat_map print (merged (row ∷ more) (drop at changes))
 
--- The bytes are lines of rows of a sheet whose keys rise, and the lines of these rows after the changes were put behind the
--- others.
+-- The bytes are lines of rows of a sheet whose keys rise, and the lines of these rows after the changes were put behind
+-- the others.
 pub record PutsLines (sheet : Sheet) (bytes : Text) (changes : List Change) (old new : Text) : Type 0 where
   pub rows : List SheetRow
   pub are : AreRead row_line (IsRowOf sheet) key bytes rows
@@ -35,8 +37,8 @@ pub record IsPatchedCsv (sheet : Sheet) (copy : Text) (changes : List Change) (b
   pub rows_are : AreRows sheet rows
   pub bytes_are : bytes ≡ csv_copy sheet (patched rows changes)
 
--- Rows and changes that were read of JSON with these heads, patched: the text under the delta's head, or the wrong base with
--- both numbers. Neither of the two is unread, and of want of memory nothing is said.
+-- Rows and changes that were read of JSON with these heads, patched: the text under the delta's head, or the wrong base
+-- with both numbers. Neither of the two is unread, and of want of memory nothing is said.
 abbrev pub IsPatchedJson : Head → List SheetRow → Head → List Change → Result Text ApplyFault → Type 0
 IsPatchedJson base rows head changes (Ok bytes) =
     (base.publication ≡ head.from) × (bytes ≡ json_copy (patched_head head) (patched rows changes))

@@ -41,8 +41,8 @@ pub fn patch_csv(
     }
 }
 
-// Puts the lines of the rows after the changes behind the others. `NotRead` says that the bytes are no lines of rows whose
-// keys rise.
+// Puts the lines of the rows after the changes behind the others. `NotRead` says that the bytes are no lines of rows
+// whose keys rise.
 fn put_patched(
     alloc: Global,
     sheet: Sheet,
@@ -87,8 +87,8 @@ fn follows(last: &Option<Row>, row: &Row) -> bool
     }
 }
 
-// Puts the lines of what the changes from a place on put before a row, and of what stands in its place: its own line where
-// no change has its key. Gives the place of the first change that is left.
+// Puts the lines of what the changes from a place on put before a row, and of what stands in its place: its own line
+// where no change has its key. Gives the place of the first change that is left.
 fn put_next(
     out: &mut Vec<u8>,
     changes: &[Change],
@@ -99,7 +99,8 @@ fn put_next(
     requires place { at ≤ length changes.now }
     requires sheets { All (λ change. (changed_row change).sheet ≡ row.now.sheet) changes.now }
     requires line { line.now ≡ row_line row.now }
-    ensures put { IfOk result (λ next. PassesRow row_line changes.now row.now at out.old.items next out.new.items) }
+    ensures put { IfOk result
+        (λ next. PassesRow row_line changes.now row.now at out.old.items next out.new.items) }
     ensures place { IfOk result (λ next. next ≤ length changes.now) }
 {
     for index in at..changes.len() {

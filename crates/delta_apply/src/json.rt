@@ -49,8 +49,8 @@ fn merge<'a>(
     Ok(held)
 }
 
-// Puts behind the others what the changes from a place on put before a row, and what stands in its place: itself where no
-// change has its key. Gives the place of the first change that is left.
+// Puts behind the others what the changes from a place on put before a row, and what stands in its place: itself where
+// no change has its key. Gives the place of the first change that is left.
 fn push_next<'a>(
     held: &mut Vec<&'a Row>,
     changes: &'a [Change],

@@ -31,15 +31,16 @@ last_until bound (moment ∷ later) = counted (last_until bound later) (int_le m
 
 -- A number from 1 to that of the latest publication names this publication, and another number names none.
 abbrev pub numbered : ℕ → ℕ → Result ℕ ShelfFault
-numbered latest number = if nat_le 1 number && nat_le number latest then Ok number else Err ShelfFault.PublicationUnknown
+numbered latest number = if nat_le 1 number && nat_le number latest then Ok number else Err
+    ShelfFault.PublicationUnknown
 
 -- The publication that is old enough, if there is one.
 abbrev pub aged : Option ℕ → Result ℕ ShelfFault
 aged (Some number) = Ok number
 aged None = Err ShelfFault.NoBase
 
--- The number of the publication that a base names among publications with these moments, whose latest has this one. A day,
--- a week and a month are 1, 7 and 31 times 86,400 seconds.
+-- The number of the publication that a base names among publications with these moments, whose latest has this one. A
+-- day, a week and a month are 1, 7 and 31 times 86,400 seconds.
 abbrev pub named : List ℤ → ℤ → Base → Result ℕ ShelfFault
 named moments latest (Base.Number number) = numbered (length moments) number
 named moments latest Base.LastDay = aged (last_until (latest -ℤ pos 86_400) moments)

@@ -21,7 +21,8 @@ in_sheet sheet changes = filter (λ change. is_of sheet change.0) changes
 
 -- The same as the changes of a delta: a row that is put, or a key that is dropped.
 abbrev pub changes_of : Sheet → Changes → List Change
-changes_of sheet changes = map (λ change. change_to sheet (key_texts change.0) change.1) (in_sheet sheet changes)
+changes_of sheet changes = map (λ change. change_to sheet (key_texts change.0) change.1)
+    (in_sheet sheet changes)
 
 -- The keys of a sheet among those that changed.
 abbrev pub touched_by : Sheet → Changes → List KeyTexts
@@ -42,9 +43,10 @@ pub record AreOwnChanges (changes : Changes) : Type 0 where
   pub each : AllByRecursion IsOwnChange changes
   pub rising : (sheet : Sheet) → AreRising (touched_by sheet changes)
 
--- The publication that follows rows by these changes: it has the moment, the rows of each sheet patched by the changes of
--- this sheet, and the keys that changed.
-pub record IsIssued (before : Sheet → List SheetRow) (moment : ℤ) (changes : Changes) (next : Publication) : Type 0 where
+-- The publication that follows rows by these changes: it has the moment, the rows of each sheet patched by the changes
+-- of this sheet, and the keys that changed.
+pub record IsIssued (before : Sheet → List SheetRow) (moment : ℤ) (changes : Changes)
+    (next : Publication) : Type 0 where
   pub moment_is : next.moment ≡ moment
   pub rows_are : (sheet : Sheet) → next.rows sheet ≡ patched (before sheet) (changes_of sheet changes)
   pub touched_are : (sheet : Sheet) → next.touched sheet ≡ touched_by sheet changes

@@ -23,8 +23,8 @@ LineChange = KeyTexts × Option RowTexts
 abbrev pub AreSorted : List Line → Type 0
 AreSorted lines = is_sorted key_cmp lines ≡ true
 
--- Lines with a change: the line takes the place of the one of its key or stands as one of its own, or the line of the key
--- is taken out where there is one.
+-- Lines with a change: the line takes the place of the one of its key or stands as one of its own, or the line of the
+-- key is taken out where there is one.
 abbrev pub with_line : List Line → LineChange → List Line
 with_line lines (k, Some texts) = put key_cmp k texts lines
 with_line lines (k, None) = where_key key_cmp (λ other. not (eq_by_cmp key_cmp k other)) lines

@@ -15,7 +15,8 @@ side_of sides Sheet.Repex = sides.repex
 
 -- What is kept, by its parts.
 abbrev pub kept_of : List Issue → Sides → Kept
-kept_of issues sides = record { issues = issues; lei = sides.lei.lines; rr = sides.rr.lines; repex = sides.repex.lines }
+kept_of issues sides = record
+    { issues = issues; lei = sides.lei.lines; rr = sides.rr.lines; repex = sides.repex.lines }
 
 -- What was kept before the last publication: all publications but the last one, and the lines with what it replaced.
 abbrev pub before_of : List Issue → Sides → Kept

@@ -31,8 +31,8 @@ latest_rows trail = rows_in (latest trail)
 
 -- ---- what is kept
 
--- What is kept: of each publication its moment and the keys that changed, and of the latest one the texts of its rows under
--- their keys.
+-- What is kept: of each publication its moment and the keys that changed, and of the latest one the texts of its rows
+-- under their keys.
 pub record Kept : Type 0 where
   pub issues : List Issue
   pub lei : List Line
@@ -49,7 +49,8 @@ lines_of kept Sheet.Repex = kept.repex
 abbrev pub nothing_kept : Kept
 nothing_kept = record { issues = []; lei = []; rr = []; repex = [] }
 
--- What contracts see of a shelf: what it keeps, and what it kept before the last publication, where this can be taken back.
+-- What contracts see of a shelf: what it keeps, and what it kept before the last publication, where this can be taken
+-- back.
 pub record ShelfState : Type 0 where
   pub now : Kept
   pub before : Option Kept
@@ -59,7 +60,8 @@ pub record ShelfState : Type 0 where
 -- This is kept of a publication.
 pub record IsIssueOf (issue : Issue) (publication : Publication) : Type 0 where
   pub moment_is : issue.moment ≡ publication.moment
-  pub touched_are : (sheet : Sheet) → publication.touched sheet ≡ map key_texts (filter (is_of sheet) issue.keys)
+  pub touched_are : (sheet : Sheet)
+      → publication.touched sheet ≡ map key_texts (filter (is_of sheet) issue.keys)
 
 -- Of each publication of a trail this is kept, in their order.
 abbrev pub AreIssuesOf : List Issue → Trail → Type 0
@@ -67,8 +69,8 @@ AreIssuesOf [] [] = ⊤
 AreIssuesOf (issue ∷ issues) (publication ∷ trail) = IsIssueOf issue publication × AreIssuesOf issues trail
 AreIssuesOf issues trail = ⊥
 
--- A trail is kept so: it is sound, its publications are those that something is kept of, and the lines of each sheet are
--- those of the latest rows.
+-- A trail is kept so: it is sound, its publications are those that something is kept of, and the lines of each sheet
+-- are those of the latest rows.
 pub record Keeps (trail : Trail) (kept : Kept) : Type 0 where
   pub sound : IsSound trail
   pub issues_are : AreIssuesOf kept.issues trail

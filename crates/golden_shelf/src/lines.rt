@@ -37,7 +37,8 @@ impl Model for Lines {
 
     ghost view = { λ l. record { lines = lines_in l.keys.items l.texts.items; room = l.room } };
 
-    ghost invariant = { λ l. (length l.keys.items ≡ length l.texts.items) × (l.room ≤ vec_capacity l.keys) × (l.room ≤ vec_capacity l.texts) };
+    ghost invariant = { λ l. (length l.keys.items ≡ length l.texts.items) × (l.room ≤ vec_capacity l.keys)
+        × (l.room ≤ vec_capacity l.texts) };
 }
 
 impl Lines {
@@ -69,7 +70,8 @@ impl Lines {
 
     /// The last key.
     pub fn last_key(&self) -> Option<&RowKey>
-        ensures { option_map (λ key. key_texts key.now) result ≡ slice_get (map (λ line. line.0) self.now.lines) (length self.now.lines - 1) }
+        ensures { option_map (λ key. key_texts key.now) result
+            ≡ slice_get (map (λ line. line.0) self.now.lines) (length self.now.lines - 1) }
     {
         self.keys.as_slice().last()
     }
@@ -132,7 +134,8 @@ impl Lines {
 
     /// Takes the last line.
     pub fn pop(&mut self) -> Option<(RowKey, RowTexts)>
-        ensures line { MatchOption result ((self.old.lines ≡ []) × (self.new.lines ≡ [])) (λ line. self.old.lines ≡ self.new.lines ++ (key_texts line.0, line.1) ∷ []) }
+        ensures line { MatchOption result ((self.old.lines ≡ []) × (self.new.lines ≡ []))
+            (λ line. self.old.lines ≡ self.new.lines ++ (key_texts line.0, line.1) ∷ []) }
         ensures room { self.new.room ≡ self.old.room }
     {
         let key = self.keys.pop()?;

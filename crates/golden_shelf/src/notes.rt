@@ -60,9 +60,12 @@ pub fn render_all<L: Ledger, R: Threads + Sync>(
 
 /// Notes by sheet, each in the part of its key's.
 pub fn parted(alloc: Global, notes: Vec<Note>) -> Result<Parts, NoMemory>
-    ensures lei { IfOk result (λ parts. parts.lei.items ≡ filter (λ note. is_of DeclaredSheet.Lei note.key) notes.items) }
-    ensures rr { IfOk result (λ parts. parts.rr.items ≡ filter (λ note. is_of DeclaredSheet.Rr note.key) notes.items) }
-    ensures repex { IfOk result (λ parts. parts.repex.items ≡ filter (λ note. is_of DeclaredSheet.Repex note.key) notes.items) }
+    ensures lei { IfOk result
+        (λ parts. parts.lei.items ≡ filter (λ note. is_of DeclaredSheet.Lei note.key) notes.items) }
+    ensures rr { IfOk result (λ parts. parts.rr.items
+        ≡ filter (λ note. is_of DeclaredSheet.Rr note.key) notes.items) }
+    ensures repex { IfOk result
+        (λ parts. parts.repex.items ≡ filter (λ note. is_of DeclaredSheet.Repex note.key) notes.items) }
 {
     let mut parts = Parts {
         lei: Vec::new(alloc),
@@ -77,9 +80,14 @@ pub fn parted(alloc: Global, notes: Vec<Note>) -> Result<Parts, NoMemory>
 
 // Puts a note behind those of its sheet.
 fn put_part(parts: &mut Parts, note: Note) -> Result<(), NoMemory>
-    ensures lei { OnOk result (parts.new.lei.items ≡ parts.old.lei.items ++ filter (λ note. is_of DeclaredSheet.Lei note.key) (note ∷ [])) }
-    ensures rr { OnOk result (parts.new.rr.items ≡ parts.old.rr.items ++ filter (λ note. is_of DeclaredSheet.Rr note.key) (note ∷ [])) }
-    ensures repex { OnOk result (parts.new.repex.items ≡ parts.old.repex.items ++ filter (λ note. is_of DeclaredSheet.Repex note.key) (note ∷ [])) }
+    ensures lei { OnOk result
+        (parts.new.lei.items ≡ parts.old.lei.items
+        ++ filter (λ note. is_of DeclaredSheet.Lei note.key) (note ∷ [])) }
+    ensures rr { OnOk result (parts.new.rr.items
+        ≡ parts.old.rr.items ++ filter (λ note. is_of DeclaredSheet.Rr note.key) (note ∷ [])) }
+    ensures repex { OnOk result
+        (parts.new.repex.items ≡ parts.old.repex.items
+        ++ filter (λ note. is_of DeclaredSheet.Repex note.key) (note ∷ [])) }
 {
     match note.key {
         RowKey::Rec(_) => parts.lei.push(note)?,

@@ -22,7 +22,8 @@ pub struct TextKey {
 impl PartialEq for TextKey {
     ghost eq = { λ x y. eq_by_cmp key_cmp (key_texts x.key) (key_texts y.key) };
 
-    ghost laws = { Cmp.partial_equiv_from_equiv (eq_by_cmp_equiv (on_total (λ k. key_texts k.key) key_total)) };
+    ghost laws = { Cmp.partial_equiv_from_equiv
+        (eq_by_cmp_equiv (on_total (λ k. key_texts k.key) key_total)) };
 
     fn eq(&self, other: &Self) -> bool {
         self.cmp(other).is_eq()

@@ -62,7 +62,8 @@ impl Rest {
 
     /// Takes the first line.
     pub fn pop_first(&mut self) -> Option<(RowKey, RowTexts)>
-        ensures line { MatchOption result ((self.old.lines ≡ []) × (self.new.lines ≡ [])) (λ line. self.old.lines ≡ (key_texts line.0, line.1) ∷ self.new.lines) }
+        ensures line { MatchOption result ((self.old.lines ≡ []) × (self.new.lines ≡ []))
+            (λ line. self.old.lines ≡ (key_texts line.0, line.1) ∷ self.new.lines) }
         ensures room { self.new.room ≡ self.old.room }
     {
         self.back.pop()

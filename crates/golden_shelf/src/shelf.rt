@@ -31,8 +31,9 @@ use std::sync::ledger::Ledger;
 use std::thread::Threads;
 use worker_pool::Steps;
 
-/// Publications one behind the other, of which the latest can be copied. Each row is rendered once, when it is published.
-/// Contracts see what is kept of the publications, and what was kept before the last one, where that can be taken back.
+/// Publications one behind the other, of which the latest can be copied. Each row is rendered once, when it is
+/// published. Contracts see what is kept of the publications, and what was kept before the last one, where that can be
+/// taken back.
 #[derive(Drop)]
 pub struct Shelf {
     alloc: Global,
@@ -72,10 +73,10 @@ impl Shelf {
         })
     }
 
-    /// Publishes the rows of the latest publication with these changes: of each key its row now, or none where the key has
-    /// no row any more. Each change is a step, and no other row is rendered. The condition is that keys are those of their
-    /// rows and rise within each sheet, and that there were fewer than 1,000,000 publications. Where memory is wanting, all
-    /// stays as it was, also what can be taken back.
+    /// Publishes the rows of the latest publication with these changes: of each key its row now, or none where the key
+    /// has no row any more. Each change is a step, and no other row is rendered. The condition is that keys are those
+    /// of their rows and rise within each sheet, and that there were fewer than 1,000,000 publications. Where memory is
+    /// wanting, all stays as it was, also what can be taken back.
     pub fn publish<L: Ledger, R: Threads + Sync>(
         &mut self,
         rt: &R,
@@ -86,7 +87,8 @@ impl Shelf {
         requires changes { AreOwnChanges changes.now }
         requires few { length self.old.now.issues < 1_000_000 }
         ensures next { OnOk result ((trail : Trail) (next : Publication) → Keeps trail self.old.now
-            → IsIssued (latest_rows trail) moment changes.now next → Keeps (trail ++ next ∷ []) self.new.now) }
+            → IsIssued (latest_rows trail) moment changes.now next
+            → Keeps (trail ++ next ∷ []) self.new.now) }
         ensures before { OnOk result (self.new.before ≡ Some self.old.now) }
         ensures count { OnOk result (length self.new.now.issues ≡ length self.old.now.issues + 1) }
         ensures err { OnErr result (self.new ≡ self.old) }
@@ -123,7 +125,8 @@ impl Shelf {
         ensures nothing { IsErrOf result DeclaredFault.NothingPublished ↔ (self.now.now.issues ≡ []) }
         ensures copy { IfOk result (λ bytes. (trail : Trail) (last : Publication) → Keeps trail self.now.now
             → latest trail ≡ Some last → bytes ≡ copy_of (length trail) last sheet form) }
-        ensures faults { IfErr result (λ fault. (fault ≡ DeclaredFault.NothingPublished) ⊎ (fault ≡ DeclaredFault.NoMemory)) }
+        ensures faults { IfErr result
+            (λ fault. (fault ≡ DeclaredFault.NothingPublished) ⊎ (fault ≡ DeclaredFault.NoMemory)) }
     {
         let Some(latest) = self.latest() else {
             return Err(ShelfFault::NothingPublished);
@@ -139,12 +142,13 @@ impl Shelf {
         }
     }
 
-    /// The delta of a sheet to the latest publication from the one that a base names, joined of texts that are kept. It costs
-    /// the keys that changed since then, their order, and what it gives. A refusal takes no memory.
+    /// The delta of a sheet to the latest publication from the one that a base names, joined of texts that are kept. It
+    /// costs the keys that changed since then, their order, and what it gives. A refusal takes no memory.
     pub fn delta(&self, base: Base, sheet: Sheet, form: Form) -> Result<Bytes, ShelfFault>
         ensures refused { (trail : Trail) (fault : DeclaredFault) → Keeps trail self.now.now
             → base_in (moments_of trail) base ≡ Err fault → result ≡ Err fault }
-        ensures given { (trail : Trail) (from : ℕ) (last : Publication) → Keeps trail self.now.now → latest trail ≡ Some last
+        ensures given { (trail : Trail) (from : ℕ) (last : Publication) → Keeps trail self.now.now
+            → latest trail ≡ Some last
             → base_in (moments_of trail) base ≡ Ok from
             → MatchResult result (λ bytes. bytes ≡ delta_between trail from (length trail) last sheet form)
             (λ fault. fault ≡ DeclaredFault.NoMemory) }
@@ -183,7 +187,8 @@ impl Shelf {
     fn delta_behind(&self, sheet: Sheet, form: Form, head: &Head) -> Result<Bytes, NoMemory>
         requires { head.now.from ≤ length self.now.now.issues }
         ensures { IfOk result (λ bytes. (changes : Items Change) → All (IsChangeOf sheet) changes
-            → map (shown_in sheet (lines_of self.now.now sheet)) (in_order (changed_in sheet (drop head.now.from self.now.now.issues)))
+            → map (shown_in sheet (lines_of self.now.now sheet))
+            (in_order (changed_in sheet (drop head.now.from self.now.now.issues)))
             ≡ map rendered_change changes → bytes ≡ delta sheet form head.now changes) }
     {
         let behind = &self.issues.as_slice()[head.from as usize..];
@@ -195,9 +200,12 @@ impl Shelf {
 
     /// How many rows the latest publication has: records, relationships and exceptions.
     pub fn counts(&self) -> (u64, u64, u64)
-        ensures lei { (trail : Trail) → Keeps trail self.now.now → result.0 ≡ length (latest_rows trail DeclaredSheet.Lei) }
-        ensures rr { (trail : Trail) → Keeps trail self.now.now → result.1 ≡ length (latest_rows trail DeclaredSheet.Rr) }
-        ensures repex { (trail : Trail) → Keeps trail self.now.now → result.2 ≡ length (latest_rows trail DeclaredSheet.Repex) }
+        ensures lei { (trail : Trail) → Keeps trail self.now.now
+            → result.0 ≡ length (latest_rows trail DeclaredSheet.Lei) }
+        ensures rr { (trail : Trail) → Keeps trail self.now.now
+            → result.1 ≡ length (latest_rows trail DeclaredSheet.Rr) }
+        ensures repex { (trail : Trail) → Keeps trail self.now.now
+            → result.2 ≡ length (latest_rows trail DeclaredSheet.Repex) }
     {
         (
             self.sides.lei.len() as u64,

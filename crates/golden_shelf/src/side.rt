@@ -15,8 +15,8 @@ use lei_records::RowKey;
 use std::alloc::Global;
 use std::marker::Model;
 
-/// The lines of a sheet, and notes of what the last publication replaced. Contracts see also for how many lines there is
-/// room.
+/// The lines of a sheet, and notes of what the last publication replaced. Contracts see also for how many lines there
+/// is room.
 #[derive(Drop)]
 pub struct Side {
     rows: Lines,

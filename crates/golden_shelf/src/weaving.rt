@@ -11,8 +11,8 @@ use crate::rest::Rest;
 use lei_records::RowKey;
 use std::mem;
 
-/// Puts each change of a note among the lines, and notes what it replaced. No line waits before and none after. Where few
-/// lines get other texts, and no line comes or goes, none is moved.
+/// Puts each change of a note among the lines, and notes what it replaced. No line waits before and none after. Where
+/// few lines get other texts, and no line comes or goes, none is moved.
 pub fn weave(rows: &mut Lines, rest: &mut Rest, notes: &mut [Note])
     requires sorted { AreSorted rows.old.lines }
     requires rising { AreRisingChanges (notes_of notes.old) }
@@ -64,10 +64,13 @@ fn weave_one(rows: &mut Lines, rest: &mut Rest, note: &mut Note)
     requires { length rows.old.lines + length rest.old.lines < rows.old.room }
     ensures rows { rows.new.lines
         ≡ rows.old.lines ++ (below (key_texts note.old.key) rest.old.lines ++ line_for (note_of note.old)) }
-    ensures rest { rest.new.lines ≡ past (key_texts note.old.key) (onward (key_texts note.old.key) rest.old.lines) }
+    ensures rest { rest.new.lines
+        ≡ past (key_texts note.old.key) (onward (key_texts note.old.key) rest.old.lines) }
     ensures key { note.new.key ≡ note.old.key }
-    ensures texts { note.new.texts ≡ texts_at (key_texts note.old.key) (onward (key_texts note.old.key) rest.old.lines) }
-    ensures len { length rows.new.lines + length rest.new.lines ≤ length rows.old.lines + length rest.old.lines + 1 }
+    ensures texts { note.new.texts
+        ≡ texts_at (key_texts note.old.key) (onward (key_texts note.old.key) rest.old.lines) }
+    ensures len { length rows.new.lines + length rest.new.lines ≤ length rows.old.lines + length
+        rest.old.lines + 1 }
     ensures rows_room { rows.new.room ≡ rows.old.room }
     ensures rest_room { rest.new.room ≡ rest.old.room }
 {
@@ -93,7 +96,8 @@ fn raise_before(rows: &mut Lines, rest: &mut Rest, key: &RowKey)
     requires { length rows.old.lines + length rest.old.lines ≤ rows.old.room }
     ensures rows { rows.new.lines ≡ rows.old.lines ++ below (key_texts key.now) rest.old.lines }
     ensures rest { rest.new.lines ≡ onward (key_texts key.now) rest.old.lines }
-    ensures len { length rows.new.lines + length rest.new.lines ≡ length rows.old.lines + length rest.old.lines }
+    ensures len { length rows.new.lines + length rest.new.lines
+        ≡ length rows.old.lines + length rest.old.lines }
     ensures rows_room { rows.new.room ≡ rows.old.room }
     ensures rest_room { rest.new.room ≡ rest.old.room }
 {
@@ -122,7 +126,8 @@ fn exchange(rows: &mut Lines, rest: &mut Rest, note: &mut Note)
     ensures rest { rest.new.lines ≡ past (key_texts note.old.key) rest.old.lines }
     ensures key { note.new.key ≡ note.old.key }
     ensures texts { note.new.texts ≡ texts_at (key_texts note.old.key) rest.old.lines }
-    ensures len { length rows.new.lines + length rest.new.lines ≤ length rows.old.lines + length rest.old.lines + 1 }
+    ensures len { length rows.new.lines + length rest.new.lines ≤ length rows.old.lines + length
+        rest.old.lines + 1 }
     ensures rows_room { rows.new.room ≡ rows.old.room }
     ensures rest_room { rest.new.room ≡ rest.old.room }
 {

@@ -35,10 +35,11 @@ is_coded headers = list_any (has_name (codes "transfer-encoding")) headers
 -- The number of bytes that a value states: 1 to 10 decimal digits.
 unfoldable pub length_in : List ℕ → Option ℕ
 length_in value =
-    if nat_le 1 (length value) && nat_le (length value) 10 && all_ascii_digits value then Some (digits_value 10 value) else None
+    if nat_le 1 (length value) && nat_le (length value) 10 && all_ascii_digits value then Some
+    (digits_value 10 value) else None
 
--- The length that one value and all others state together: their one number. Where one of them states none, or two state
--- different numbers, it is wrong.
+-- The length that one value and all others state together: their one number. Where one of them states none, or two
+-- state different numbers, it is wrong.
 abbrev pub joint_length : Option ℕ → ContentLength → ContentLength
 joint_length None others = ContentLength.Wrong
 joint_length (Some number) ContentLength.Absent = ContentLength.Bytes number

@@ -1,5 +1,5 @@
--- What is read of the head of a request (RFC 9112), by the grammar of `httparse`. The limits and the order of the refusals
--- are this project's profile.
+-- What is read of the head of a request (RFC 9112), by the grammar of `httparse`. The limits and the order of the
+-- refusals are this project's profile.
 use Rattle.std.specs.Prelude.{◌≡◌, ◌⊎◌, ◌≤◌, ℕ, ◌==◌, Bool, false, true, ◌||◌, List, length, map, take, slice_range, nat_lt, codes, if◌then◌else◌, Option, None, Some}
 use Rattle.std.specs.Str.{IsUtf8, bytes_eq}
 use Rattle.httparse.specs.Grammar.{HasNoRequest, MayBecomeRequest, NeverHasRequest, ReadsRequest, RequestHead, print_request}
@@ -51,7 +51,8 @@ lacks_length _ _ _ = false
 
 -- What is refused where the headers aren't.
 abbrev pub fault_of_upload : Method → Option Place → ContentLength → Option Refusal
-fault_of_upload method place body = if lacks_length method place body then Some Refusal.LengthRequired else None
+fault_of_upload method place body = if lacks_length method place body then Some
+    Refusal.LengthRequired else None
 
 -- The first of two faults.
 abbrev pub first_fault : Option Refusal → Option Refusal → Option Refusal
@@ -62,8 +63,8 @@ first_fault (Some fault) second = Some fault
 abbrev pub fault_by : HeaderFacts → Method → Option Place → Option Refusal
 fault_by facts method place = first_fault (fault_of_headers facts) (fault_of_upload method place facts.body)
 
--- Why a whole head is refused, the first that applies: it has more than 32 headers; what these say; or it is one of an upload
--- without a length.
+-- Why a whole head is refused, the first that applies: it has more than 32 headers; what these say; or it is one of an
+-- upload without a length.
 abbrev pub fault_of : RequestHead → Option Refusal
 fault_of head =
     if nat_lt 32 (length head.fields) then Some Refusal.HeadTooLong
@@ -87,13 +88,13 @@ Tells bytes head HeadRead.More = ⊥
 Tells bytes head (HeadRead.Bad fault) = fault_of head ≡ Some fault
 Tells bytes head (HeadRead.Whole read) = (fault_of head ≡ None) × IsHead bytes head read
 
--- What is answered of so many bytes, the first of which have no whole head and may have one later: 8,192 bytes have to be
--- enough.
+-- What is answered of so many bytes, the first of which have no whole head and may have one later: 8,192 bytes have to
+-- be enough.
 abbrev pub unfinished_read : ℕ → HeadRead
 unfinished_read size = if nat_lt size 8192 then HeadRead.More else HeadRead.Bad Refusal.HeadTooLong
 
--- What is answered of bytes with this front: the head isn't there yet; or no head begins so; or what the head tells that is
--- there.
+-- What is answered of bytes with this front: the head isn't there yet; or no head begins so; or what the head tells
+-- that is there.
 abbrev pub IsFrontRead : List ℕ → List ℕ → HeadRead → Type 0
 IsFrontRead front bytes read =
     (HasNoRequest front × MayBecomeRequest front × (read ≡ unfinished_read (length bytes)))

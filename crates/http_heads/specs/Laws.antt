@@ -5,8 +5,8 @@ use Rattle.matchit.specs.Router.{RouteOf}
 use Rattle.matchit.specs.Rows.{param_token}
 use Rattle.http_heads.specs.declared.routes.Place.{Place}
 
--- A route: what its path is made of, the names of its parameters in order, and the place to which it leads. In the path a
--- byte stands for itself, and 256 for a parameter, which takes one byte or more of a path, and no slash.
+-- A route: what its path is made of, the names of its parameters in order, and the place to which it leads. In the path
+-- a byte stands for itself, and 256 for a parameter, which takes one byte or more of a path, and no slash.
 pub record RouteRow : Type 0 where
   pub path : List ℕ
   pub names : List (List ℕ)

@@ -14,7 +14,8 @@ size_of head = head.size + head.body
 abbrev pub with_body : ℕ → HeadRead → HeadRead
 with_body size HeadRead.More = HeadRead.More
 with_body size (HeadRead.Bad fault) = HeadRead.Bad fault
-with_body size (HeadRead.Whole head) = if nat_le (size_of head) size then HeadRead.Whole head else HeadRead.More
+with_body size (HeadRead.Whole head) = if nat_le (size_of head) size then HeadRead.Whole head
+    else HeadRead.More
 
 -- What is read at the front of bytes: a whole request; or a head that is refused; or more bytes are needed.
 abbrev pub IsRead : List ℕ → HeadRead → Type 0

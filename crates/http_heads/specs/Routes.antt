@@ -1,4 +1,5 @@
--- The routes of requests, by what `matchit` says of a router, and the places to which they lead. This project's profile.
+-- The routes of requests, by what `matchit` says of a router, and the places to which they lead. This project's
+-- profile.
 use Rattle.std.specs.Prelude.{ℕ, ◌==◌, List, [], codes, Option, option_map, Result, Ok, Err}
 use Rattle.std.specs.List.{before_first}
 use Rattle.matchit.specs.Order.{placed}

@@ -28,9 +28,11 @@ impl<'k, 'v> Model for Words<'k, 'v> {
 
     ghost Value = { List (List ℕ × List ℕ) };
 
-    ghost view = { λ w. walk w.params.pattern.now w.params.text.now w.params.path.now w.params.names.now 0 0 };
+    ghost view = { λ w. walk w.params.pattern.now w.params.text.now w.params.path.now
+        w.params.names.now 0 0 };
 
-    ghost invariant = { λ w. AllText (walk w.params.pattern.now w.params.text.now w.params.path.now w.params.names.now 0 0) };
+    ghost invariant = { λ w. AllText
+        (walk w.params.pattern.now w.params.text.now w.params.path.now w.params.names.now 0 0) };
 }
 
 impl<'k, 'v> Words<'k, 'v> {
@@ -38,7 +40,8 @@ impl<'k, 'v> Words<'k, 'v> {
     fn of(params: Params<'k, 'v>) -> Words<'k, 'v>
         requires text { list_all is_ascii params.text.now ≡ true }
         requires path { list_all is_ascii params.path.now ≡ true }
-        ensures { result ≡ walk params.entry.pattern.now params.entry.text.now params.entry.path.now params.entry.names.now 0 0 }
+        ensures { result ≡ walk params.entry.pattern.now params.entry.text.now params.entry.path.now
+            params.entry.names.now 0 0 }
     {
         Words { params }
     }
@@ -60,8 +63,8 @@ fn is_ascii(text: &str) -> bool
     text.bytes().all(|byte| byte.is_ascii())
 }
 
-/// What a method asks of a target, with this body, of which only an upload makes use. Its one error is want of memory for the
-/// body of an upload.
+/// What a method asks of a target, with this body, of which only an upload makes use. Its one error is want of memory
+/// for the body of an upload.
 pub fn asked_of(
     alloc: Global,
     router: &Router<Place>,

@@ -141,7 +141,8 @@ fn head_found(
     requires room { length spans.now ≤ 32 }
     requires within { IsRequestWithin front.now spans.now found }
     requires text { IsUtf8 (slice_range front.now found.path.start found.path.end) }
-    ensures { (head : RequestHead) → IsRequestAt front.now spans.now found head → Tells front.now head result }
+    ensures { (head : RequestHead) → IsRequestAt front.now spans.now found head
+        → Tells front.now head result }
 {
     let facts = read_headers(front, &spans[..found.headers]);
     let method = method_of(found.method.of(front));

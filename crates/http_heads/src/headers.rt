@@ -48,7 +48,8 @@ pub fn read_headers(front: &[u8], headers: &[HeaderSpan]) -> HeaderFacts
 
 // What a header says, and those after it.
 fn with_header(name: &[u8], value: &[u8], facts: HeaderFacts) -> HeaderFacts
-    ensures { (others : List Header) → facts ≡ header_facts others → result ≡ header_facts ((name.now, value.now) ∷ others) }
+    ensures { (others : List Header) → facts ≡ header_facts others
+        → result ≡ header_facts ((name.now, value.now) ∷ others) }
 {
     HeaderFacts {
         coded: are_alike(name, b"transfer-encoding") | facts.coded,
@@ -64,7 +65,8 @@ fn is_close(name: &[u8], value: &[u8]) -> bool
 }
 
 fn with_length(name: &[u8], value: &[u8], others: ContentLength) -> ContentLength
-    ensures { (headers : List Header) → others ≡ content_length headers → result ≡ content_length ((name.now, value.now) ∷ headers) }
+    ensures { (headers : List Header) → others ≡ content_length headers
+        → result ≡ content_length ((name.now, value.now) ∷ headers) }
 {
     if are_alike(name, b"content-length") {
         joint_length(length_in(value), others)

@@ -4,8 +4,8 @@ ghost use Rattle.http_heads.specs.Laws.{row_of, rows_in_order};
 ghost use Rattle.http_heads.specs.Responses.{phrase_of};
 ghost use Rattle.http_heads.specs.Routes.{routes};
 
-/// The phrases of the status codes that the register answers with are those of RFC 9110, but for 413, which has the phrase of
-/// RFC 7231, 431, which RFC 6585 adds, and 507, which RFC 4918 adds.
+/// The phrases of the status codes that the register answers with are those of RFC 9110, but for 413, which has the
+/// phrase of RFC 7231, 431, which RFC 6585 adds, and 507, which RFC 4918 adds.
 pub fn phrases_are_standard()
     ensures ok { phrase_of 200 ≡ codes "OK" }
     ensures created { phrase_of 201 ≡ codes "Created" }

@@ -1,5 +1,5 @@
-//! Requests and responses of HTTP, but for what a connection does: the heads of requests and which are refused, what a request
-//! asks, and the heads of responses.
+//! Requests and responses of HTTP, but for what a connection does: the heads of requests and which are refused, what a
+//! request asks, and the heads of responses.
 #![tactic(auto)]
 
 mod asking;

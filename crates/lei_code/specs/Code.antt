@@ -14,10 +14,11 @@ may_stand position c = is_ascii_digit c || (nat_le position 18 && is_ascii_upper
 
 -- At each position of the text stands a character that may stand there.
 pub record IsWellFormed (text : Text) : Type 0 where
-  pub each : (position : ℕ) → 1 ≤ position → position ≤ length text → IsTrue (may_stand position (character text position))
+  pub each : (position : ℕ) → 1 ≤ position → position ≤ length text
+      → IsTrue (may_stand position (character text position))
 
--- The text is a Legal Entity Identifier (ISO 17442-1): 20 characters, each where it may stand, whose number leaves 1 when
--- divided by 97.
+-- The text is a Legal Entity Identifier (ISO 17442-1): 20 characters, each where it may stand, whose number leaves 1
+-- when divided by 97.
 pub record IsValid (text : Text) : Type 0 where
   pub len : length text ≡ 20
   pub characters : IsWellFormed text

@@ -7,7 +7,7 @@ use Rattle.lei_code.specs.Texts.{Text}
 abbrev pub two_digits : ℕ → Text
 two_digits n = (48 + n / 10) ∷ (48 + n % 10) ∷ []
 
--- The two check digits of the first 18 characters: 98 less the remainder by 97 of the number of the text with `00` behind
--- it (ISO/IEC 7064, MOD 97-10).
+-- The two check digits of the first 18 characters: 98 less the remainder by 97 of the number of the text with `00`
+-- behind it (ISO/IEC 7064, MOD 97-10).
 unfoldable pub digits : Text → Text
 digits text = two_digits (98 - number (text ++ codes "00") % 97)

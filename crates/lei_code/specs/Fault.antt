@@ -30,7 +30,8 @@ IsFault text CheckDigits = (length text ≡ 20) × IsWellFormed text × (number 
 
 -- The first of the positions, counted from 1, whose character may not stand there.
 unfoldable pub first_wrong : Text → Option ℕ
-first_wrong text = find (λ position. not (may_stand position (character text position))) (range_with_len 1 (length text))
+first_wrong text = find (λ position. not (may_stand position (character text position)))
+    (range_with_len 1 (length text))
 
 -- The fault of the first wrong character, if there is one.
 abbrev pub character_fault : Text → Option LeiFault

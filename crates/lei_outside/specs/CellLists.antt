@@ -15,4 +15,5 @@ cells_in list = from_entries (map content_at list)
 
 -- The cells that an entry of such a number touched last, in the order of the list.
 abbrev pub between_of : ℕ → ℕ → List (CellPlace × CellContent) → List KeptCell
-between_of after upto list = filter (λ cell. nat_lt after cell.touched && nat_le cell.touched upto) (map cell_at list)
+between_of after upto list = filter (λ cell. nat_lt after cell.touched && nat_le cell.touched upto)
+    (map cell_at list)

@@ -6,8 +6,8 @@ use Rattle.lei_outside.specs.declared.faults.SinkFault.TheVariants.{Failed, NoMe
 use Rattle.lei_outside.specs.declared.faults.KeepFault.{KeepFault}
 use Rattle.lei_outside.specs.declared.faults.KeepFault.TheVariants as keep_faults
 
--- A call of a device failed, and nothing was read or written behind it: there was a time at which no call had failed and
--- the device told what it tells now, and behind that time its count of faults rose.
+-- A call of a device failed, and nothing was read or written behind it: there was a time at which no call had failed
+-- and the device told what it tells now, and behind that time its count of faults rose.
 pub record FailsLast {D T : Type 0} (told : D → T) (faults : D → ℕ) (before after : D) : Type 0 where
   pub last : D
   pub faultless : faults last ≡ faults before

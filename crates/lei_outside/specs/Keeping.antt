@@ -71,7 +71,8 @@ IsEntryNumber number = (1 ≤ number) × (number ≤ 18446744073709551615)
 
 -- Each cell was touched by an entry.
 abbrev pub AreTouched : Cells → Type 0
-AreTouched cells = (place : CellPlace) (content : CellContent) → get cells place ≡ Some content → IsEntryNumber content.touched
+AreTouched cells = (place : CellPlace) (content : CellContent) → get cells place ≡ Some content
+    → IsEntryNumber content.touched
 
 -- Tables that are kept: the numbers of the entries are at least 1 and rise, and each cell has the number of an entry.
 pub record AreKept (tables : KeptTables) : Type 0 where
@@ -96,12 +97,14 @@ entries_between after upto tables = filter (λ e. nat_lt after e.seq && nat_le e
 -- A cell in its place.
 abbrev pub cell_at : CellPlace × CellContent → KeptCell
 cell_at ([], content) = record { kind = 0; name = []; touched = content.touched; row = content.row }
-cell_at (kind ∷ name, content) = record { kind = kind; name = name; touched = content.touched; row = content.row }
+cell_at (kind ∷ name, content) = record
+    { kind = kind; name = name; touched = content.touched; row = content.row }
 
 -- The cells that were touched last by such an entry, in the order of their places.
 abbrev pub cells_between : ℕ → ℕ → KeptTables → List KeptCell
 cells_between after upto tables =
-    filter (λ cell. nat_lt after cell.touched && nat_le cell.touched upto) (map cell_at (entries tables.cells))
+    filter (λ cell. nat_lt after cell.touched && nat_le cell.touched upto)
+    (map cell_at (entries tables.cells))
 
 -- ---- what is committed
 
@@ -140,7 +143,8 @@ abbrev pub Stays : Option KeptTables → Option KeptTables → Type 0
 Stays old new = Becomes (λ tables. tables) old new
 
 -- A batch was kept whole, or nothing of it.
-abbrev pub Commits : {E : Type 0} → Batch → Result (Unit {0}) E → Option KeptTables → Option KeptTables → Type 0
+abbrev pub Commits : {E : Type 0} → Batch → Result (Unit {0}) E → Option KeptTables
+    → Option KeptTables → Type 0
 Commits batch result old new =
     MatchResult result (λ _. Becomes (with_batch batch) old new) (λ _. Stays old new)
 
@@ -155,7 +159,8 @@ abbrev pub LeavesTold : Option KeptTables → (Option KeptTables → Type 0) →
 LeavesTold told leaves = IfSome told (λ tables. (left : Option KeptTables) → leaves left → left ≡ Some tables)
 
 -- What is left is what might have been left before, or the told tables with the batch.
-abbrev pub LeavesEither : Batch → Option KeptTables → (Option KeptTables → Type 0) → (Option KeptTables → Type 0) → Type 0
+abbrev pub LeavesEither : Batch → Option KeptTables → (Option KeptTables → Type 0)
+    → (Option KeptTables → Type 0) → Type 0
 LeavesEither batch told old new = (left : Option KeptTables) → new left
     → old left ⊎ ((tables : KeptTables) × (told ≡ Some tables) × (left ≡ Some (with_batch batch tables)))
 

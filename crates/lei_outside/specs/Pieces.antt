@@ -11,7 +11,8 @@ abbrev pub pieces : ℕ → List ℕ → List ℕ → List (List ℕ)
 pieces start [] bytes = []
 pieces start (end ∷ ends) bytes = piece start end bytes ∷ pieces end ends bytes
 
--- The ends of pieces that lie one behind the other from the start to the end of a text: each is a place between characters.
+-- The ends of pieces that lie one behind the other from the start to the end of a text: each is a place between
+-- characters.
 abbrev pub AreEnds : ℕ → List ℕ → List ℕ → Type 0
 AreEnds start [] bytes = start ≡ length bytes
 AreEnds start (end ∷ ends) bytes = (start ≤ end) × IsCharBoundary bytes end × AreEnds end ends bytes

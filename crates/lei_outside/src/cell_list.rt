@@ -62,7 +62,8 @@ fn told(
     after: u64,
     upto: u64,
 ) -> Result<Vec<KeptCell>, NoMemory>
-    ensures told { IfOk result (λ list. list.items ≡ between_of after upto (map content_at places.now.entries)) }
+    ensures told { IfOk result
+        (λ list. list.items ≡ between_of after upto (map content_at places.now.entries)) }
     ensures ordered { IsOrdered (slice_cmp nat_cmp) places.now }
 {
     // Its keys rise.

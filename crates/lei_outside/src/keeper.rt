@@ -63,7 +63,8 @@ pub trait Keeper {
 
     /// The number of the last entry, 0 where there is none.
     fn last(&mut self) -> Result<u64, KeepFault>
-        ensures answer { IfSome (tables self.new) (λ told. IfOk result (λ number. number ≡ last_number told)) }
+        ensures answer { IfSome (tables self.new)
+            (λ told. IfOk result (λ number. number ≡ last_number told)) }
         ensures kept { OnOk result (IfSome (tables self.new) AreKept) }
         ensures same { Stays (tables self.old) (tables self.new) }
         ensures crash { LeavesNoMore (leaves self.old) (leaves self.new) }
@@ -73,7 +74,8 @@ pub trait Keeper {
 
     /// The entries whose number is greater than `after` and at most `upto`, in their order.
     fn entries(&mut self, after: u64, upto: u64) -> Result<List<KeptEntry>, KeepFault>
-        ensures answer { IfSome (tables self.new) (λ told. IfOk result (λ list. list ≡ entries_between after upto told)) }
+        ensures answer { IfSome (tables self.new)
+            (λ told. IfOk result (λ list. list ≡ entries_between after upto told)) }
         ensures same { Stays (tables self.old) (tables self.new) }
         ensures crash { LeavesNoMore (leaves self.old) (leaves self.new) }
         ensures count { faults self.old ≤ faults self.new }
@@ -83,7 +85,8 @@ pub trait Keeper {
     /// The cells that an entry touched last whose number is greater than `after` and at most `upto`, in the order of
     /// kinds and names.
     fn cells(&mut self, after: u64, upto: u64) -> Result<List<KeptCell>, KeepFault>
-        ensures answer { IfSome (tables self.new) (λ told. IfOk result (λ list. list ≡ cells_between after upto told)) }
+        ensures answer { IfSome (tables self.new)
+            (λ told. IfOk result (λ list. list ≡ cells_between after upto told)) }
         ensures same { Stays (tables self.old) (tables self.new) }
         ensures crash { LeavesNoMore (leaves self.old) (leaves self.new) }
         ensures count { faults self.old ≤ faults self.new }
@@ -96,7 +99,8 @@ pub trait Keeper {
         requires batch { IsBatch batch.now }
         requires next { IsNextOf (tables self.old) batch.now }
         ensures tables { Commits batch.now result (tables self.old) (tables self.new) }
-        ensures crash { CommitLeaves batch.now result (tables self.old) (tables self.new) (leaves self.old) (leaves self.new) }
+        ensures crash { CommitLeaves batch.now result (tables self.old) (tables self.new) (leaves self.old)
+            (leaves self.new) }
         ensures count { faults self.old ≤ faults self.new }
         ensures faultless { ¬ (IsErrOf result KeepFault.Failed) → faults self.new ≡ faults self.old }
         ensures failed { IsErrOf result KeepFault.Failed → Rose (faults self.old) (faults self.new) };

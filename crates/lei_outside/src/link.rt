@@ -39,7 +39,8 @@ pub trait Link {
         ensures bytes { Writes (written self.old) (written self.new) result piece.now }
         ensures count { write_faults self.old ≤ write_faults self.new }
         ensures kept { ¬ (IsErrOf result SinkFault.Failed) → write_faults self.new ≡ write_faults self.old }
-        ensures failed { IsErrOf result SinkFault.Failed → Rose (write_faults self.old) (write_faults self.new) }
+        ensures failed { IsErrOf result SinkFault.Failed
+            → Rose (write_faults self.old) (write_faults self.new) }
         ensures left { left self.new ≡ left self.old }
         ensures read_count { read_faults self.new ≡ read_faults self.old };
 }

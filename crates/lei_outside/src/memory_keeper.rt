@@ -27,7 +27,8 @@ impl Model for SureKeeper {
 
     ghost view = { λ k. record { entries = k.entries.items; cells = k.cells.items } };
 
-    ghost invariant = { λ k. AreKept (tables_of (record { entries = k.entries.items; cells = k.cells.items })) };
+    ghost invariant = { λ k. AreKept
+        (tables_of (record { entries = k.entries.items; cells = k.cells.items })) };
 }
 
 impl SureKeeper {
@@ -171,10 +172,11 @@ impl Model for MapKeeper {
 }
 
 impl MapKeeper {
-    /// A keeper that has kept nothing. The calls with the numbers in `failing` fail, where the first call has the number
-    /// 1. A call that finds no memory counts as one.
+    /// A keeper that has kept nothing. The calls with the numbers in `failing` fail, where the first call has the
+    /// number 1. A call that finds no memory counts as one.
     pub fn new(alloc: Global, failing: List<u64>) -> Self
-        ensures { result ≡ record { kept = record { entries = []; cells = [] }; failing = failing; calls = 0; faults = 0 } }
+        ensures { result ≡ record
+            { kept = record { entries = []; cells = [] }; failing = failing; calls = 0; faults = 0 } }
     {
         MapKeeper {
             keeper: SureKeeper::new(alloc),
@@ -191,7 +193,8 @@ impl MapKeeper {
         failing: List<u64>,
     ) -> Self
         requires { AreKept (tables_of (record { entries = entries; cells = cells })) }
-        ensures { result ≡ record { kept = record { entries = entries; cells = cells }; failing = failing; calls = 0; faults = 0 } }
+        ensures { result ≡ record
+            { kept = record { entries = entries; cells = cells }; failing = failing; calls = 0; faults = 0 } }
     {
         let keeper = SureKeeper {
             alloc,

@@ -88,7 +88,8 @@ impl Link for ByteLink {
         ensures failed { IsErrOf result SinkFault.Failed → Rose self.old.sink.faults self.new.sink.faults }
         ensures source { self.new.source ≡ self.old.source }
 
-        ensures fails { IsErrOf result SinkFault.Failed ↔ FailsNext self.old.sink.failing self.old.sink.calls }
+        ensures fails { IsErrOf result SinkFault.Failed
+            ↔ FailsNext self.old.sink.failing self.old.sink.calls }
         ensures size { IfOk result (λ n. n ≡ min self.old.sink.most (length piece.now)) }
         ensures ok { IfOk result (λ n. self.new.sink ≡ record self.old.sink {
           written = self.old.sink.written ++ take n piece.now;

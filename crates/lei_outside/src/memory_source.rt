@@ -53,7 +53,8 @@ impl Source for SureSource {
         requires { 0 < length buffer.old }
         ensures bytes { Reads (Some self.old.left) (Some self.new.left) result buffer.new }
         ensures sure { IsOk result }
-        ensures size { IfOk result (λ n. n ≡ min (min self.old.most (length buffer.old)) (length self.old.left)) }
+        ensures size { IfOk result
+            (λ n. n ≡ min (min self.old.most (length buffer.old)) (length self.old.left)) }
         ensures ok { IfOk result (λ n. self.new ≡ record self.old { left = drop n self.old.left }) }
         ensures behind { IfOk result (λ n. drop n buffer.new ≡ drop n buffer.old) }
     {
@@ -135,7 +136,8 @@ impl Source for ByteSource {
         ensures failed { OnErr result (Rose self.old.faults self.new.faults) }
 
         ensures fails { IsErr result ↔ FailsNext self.old.failing self.old.calls }
-        ensures size { IfOk result (λ n. n ≡ min (min self.old.most (length buffer.old)) (length self.old.left)) }
+        ensures size { IfOk result
+            (λ n. n ≡ min (min self.old.most (length buffer.old)) (length self.old.left)) }
         ensures ok { IfOk result (λ n.
             self.new ≡ record self.old { left = drop n self.old.left; calls = counted self.old.calls }) }
         ensures behind { IfOk result (λ n. drop n buffer.new ≡ drop n buffer.old) }

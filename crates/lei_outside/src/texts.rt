@@ -10,8 +10,8 @@ use std::alloc::Global;
 use std::fmt;
 use std::marker::Model;
 
-/// Texts that lie one behind the other in one piece of memory, of at most 4 GiB. Contracts see the list of them, each by
-/// its UTF-8 bytes.
+/// Texts that lie one behind the other in one piece of memory, of at most 4 GiB. Contracts see the list of them, each
+/// by its UTF-8 bytes.
 #[derive(Drop)]
 pub struct Texts {
     text: String,

@@ -16,7 +16,8 @@ use Rattle.lei_records.specs.Places.{authority_id_place, authority_place, catego
 use Rattle.lei_records.specs.Rows.{Row, text_at}
 use Rattle.lei_records.specs.Spelled.{is_absent, moment_in, present}
 
--- ---- what a record's texts spell. Each part of a record's row can be read; of another row the value behind it stands for it.
+-- ---- what a record's texts spell. Each part of a record's row can be read; of another row the value behind it stands
+-- for it.
 
 -- The entity's LEI.
 abbrev pub lei_in : Row → Lei
@@ -102,8 +103,8 @@ is_live row = is_live_status (status_in row)
 abbrev pub is_no_authority : Text → Bool
 is_no_authority text = bytes_eq text (codes "RA888888") || bytes_eq text (codes "RA999999")
 
--- A record's authority key: the registration authority and its id of the entity. None where the id is absent, or where the
--- authority is none.
+-- A record's authority key: the registration authority and its id of the entity. None where the id is absent, or where
+-- the authority is none.
 unfoldable pub akey : Row → Option (Text × Text)
 akey row = if is_absent (authority_id_in row) || is_no_authority (authority_in row) then None
     else Some (authority_in row, authority_id_in row)
@@ -119,8 +120,8 @@ holds authority id row = is_live row && is_key authority id (akey row)
 
 -- ---- views
 
--- What a view answers: for an LEI the record; for an authority key the LEI of the live record that has it; for a start, a
--- type and an end the relationship; for a start and a type the end of the active relationship; and for an LEI and a
+-- What a view answers: for an LEI the record; for an authority key the LEI of the live record that has it; for a start,
+-- a type and an end the relationship; for a start and a type the end of the active relationship; and for an LEI and a
 -- category whether there is an exception.
 pub record Cells : Type 0 where
   pub record_cell : Lei → Seen RecCell

@@ -75,8 +75,8 @@ abbrev pub with_named : Text → Option Text → Text
 with_named text None = text
 with_named text (Some name) = text ++ 32 ∷ name
 
--- How a failed check is told: by what it is called and, behind a space, by what it names. Where no check has its number,
--- it can't be told.
+-- How a failed check is told: by what it is called and, behind a space, by what it names. Where no check has its
+-- number, it can't be told.
 abbrev pub check_text : FailedCheck → Option Text
 check_text check = option_map (λ name. with_named name (detail_text check.detail)) (check_name check.number)
 
@@ -96,7 +96,8 @@ fails_if fails number detail = record { number = number; fails = fails; detail =
 abbrev pub first_failing : List Finding → Option FailedCheck
 first_failing [] = None
 first_failing (finding ∷ findings) =
-    if finding.fails then Some (record { number = finding.number; detail = finding.detail }) else first_failing findings
+    if finding.fails then Some (record { number = finding.number; detail = finding.detail }) else
+    first_failing findings
 
 -- An LEI that stands in the way is named.
 abbrev pub code_detail : Option Lei → Detail

@@ -1,6 +1,6 @@
--- The fields of the three kinds of items in order of place: how each is named, what it holds, and where it is needed. The
--- names are those of the columns of a golden copy (level 1, level 2 and reporting exceptions), but for Register.TransferTo
--- and Action; what they hold and where they are needed is this project's profile.
+-- The fields of the three kinds of items in order of place: how each is named, what it holds, and where it is needed.
+-- The names are those of the columns of a golden copy (level 1, level 2 and reporting exceptions), but for
+-- Register.TransferTo and Action; what they hold and where they are needed is this project's profile.
 use Rattle.std.specs.Prelude.{ℕ, ◌-◌, List, [], ◌∷◌, map, take, slice_index_or, Bool, true, false, not, ◌||◌, codes}
 use Rattle.std.specs.Borrow.{Bor}
 use Rattle.std.specs.Str.{bytes_eq}

@@ -1,5 +1,5 @@
--- Whether an item that was sent is a record, a relationship or an exception: the checks of its fields, each a sentence over
--- them, and the row that it has. This project's profile.
+-- Whether an item that was sent is a record, a relationship or an exception: the checks of its fields, each a sentence
+-- over them, and the row that it has. This project's profile.
 use Rattle.std.specs.Prelude.{ℕ, ◌%◌, List, map, filter, codes, Bool, not, ◌&&◌, ◌==◌, if◌then◌else◌, find, Option, Some, None, option_map, unwrap_or}
 use Rattle.std.specs.Option.{option_or}
 use Rattle.std.specs.List.{list_any}
@@ -53,7 +53,8 @@ is_missing facts field text = is_needed facts field.2 && is_absent text
 
 -- A field stands, and has another shape or may not stand there.
 abbrev pub is_misshapen : Facts → Field → Text → Bool
-is_misshapen facts field text = not (is_absent text) && not (fits_content field.1 text && may_stand facts field.2)
+is_misshapen facts field text = not (is_absent text) && not
+    (fits_content field.1 text && may_stand facts field.2)
 
 -- A text of an LEI's shape leaves, as a number, another remainder than 1 by 97 (ISO/IEC 7064, MOD 97-10).
 abbrev pub has_other_remainder : Text → Bool
@@ -71,7 +72,8 @@ unknown_name kind pairs = least (filter (λ name. not (is_field kind name)) (nam
 
 -- The first field by place of whose text the answer is yes.
 abbrev pub first_field : (Field → Text → Bool) → Kind → List (Text × Text) → Option Text
-first_field asks kind pairs = option_map (λ field. field.0) (find (λ field. asks field (text_of pairs field.0)) (fields_of kind))
+first_field asks kind pairs = option_map (λ field. field.0)
+    (find (λ field. asks field (text_of pairs field.0)) (fields_of kind))
 
 -- C02: the first needed field that is absent.
 abbrev pub missing_field : Kind → List (Text × Text) → Option Text
@@ -100,7 +102,8 @@ failed_check kind pairs = option_or (option_map (failed_field 1) (unknown_name k
 
 -- A text of a shape as a row has it: that of a moment in printed form, and every other one as it was sent.
 abbrev pub printed : Shape → Text → Text
-printed Shape.Moment text = if is_absent text then text else unwrap_or (option_map moment_text (read_moment text)) text
+printed Shape.Moment text = if is_absent text then text else unwrap_or
+    (option_map moment_text (read_moment text)) text
 printed other text = text
 
 -- The text of a field as a row has it.

@@ -8,8 +8,10 @@ use Rattle.lei_records.specs.Tables.{Table, active_of}
 
 -- The category of the exceptions that speak of the parents of a type, and none where the type is no parent's.
 abbrev pub parent_category : RelationType → Option ExceptionCategory
-parent_category RelationType.IsDirectlyConsolidatedBy = Some ExceptionCategory.DirectAccountingConsolidationParent
-parent_category RelationType.IsUltimatelyConsolidatedBy = Some ExceptionCategory.UltimateAccountingConsolidationParent
+parent_category RelationType.IsDirectlyConsolidatedBy = Some
+    ExceptionCategory.DirectAccountingConsolidationParent
+parent_category RelationType.IsUltimatelyConsolidatedBy = Some
+    ExceptionCategory.UltimateAccountingConsolidationParent
 parent_category other = None
 
 -- The type of the parents that exceptions of a category speak of.

@@ -49,4 +49,5 @@ pub record IsExceptionSpelled (parts : ExceptionParts) : Type 0 where
 
 -- Each moment is the one that the text of its index reads as. Of a text without one nothing is said.
 abbrev pub AreRead : Row → List (Option ℤ) → Type 0
-AreRead row moments = (index : ℕ) (moment : ℤ) → index < length row → get_or moments index None ≡ Some moment → read_moment (get_or row index []) ≡ Some moment
+AreRead row moments = (index : ℕ) (moment : ℤ) → index < length row → get_or moments index None ≡ Some moment
+    → read_moment (get_or row index []) ≡ Some moment

@@ -1,5 +1,5 @@
--- Places: where the fields that rules speak of stand in a row, counted from 1, and how many fields a row has. The tables of
--- the fields (`Fields.antt`) have each field at its place. This project's profile.
+-- Places: where the fields that rules speak of stand in a row, counted from 1, and how many fields a row has. The
+-- tables of the fields (`Fields.antt`) have each field at its place. This project's profile.
 use Rattle.std.specs.Prelude.{ℕ, List, [], ◌∷◌, codes}
 use Rattle.lei_code.specs.Texts.{Text}
 use Rattle.lei_records.specs.declared.fields.Kind.{Kind}

@@ -1,5 +1,5 @@
--- What the row of a relationship spells by its texts. Each part of such a row can be read; for that of another row stands
--- the value behind it.
+-- What the row of a relationship spells by its texts. Each part of such a row can be read; for that of another row
+-- stands the value behind it.
 use Rattle.std.specs.Prelude.{ℕ, ℤ, List, Bool, true, false, ◌&&◌, Option, unwrap_or, option_and_then}
 use Rattle.std.specs.Str.{bytes_eq}
 use Rattle.lei_code.specs.Texts.{Lei}
@@ -27,7 +27,8 @@ end_in row = text_at row end_place
 
 -- Whether the relationship is active, as it says itself.
 unfoldable pub relation_status_in : Row → RelationStatus
-relation_status_in row = unwrap_or (relation_status_of (text_at row relation_status_place)) RelationStatus.Inactive
+relation_status_in row = unwrap_or (relation_status_of (text_at row relation_status_place))
+    RelationStatus.Inactive
 
 -- When the relationship began: its StartDate.
 abbrev pub started_in : Row → ℤ
@@ -47,7 +48,8 @@ relation_updated_in row = moment_in row relation_updated_place
 
 -- The status of its registration.
 unfoldable pub registration_in : Row → RelationRegistration
-registration_in row = unwrap_or (relation_registration_of (text_at row registration_place)) RelationRegistration.Annulled
+registration_in row = unwrap_or (relation_registration_of (text_at row registration_place))
+    RelationRegistration.Annulled
 
 -- The issuer that manages the relationship.
 abbrev pub relation_manager_in : Row → Lei
@@ -74,4 +76,5 @@ is_same_type a b = bytes_eq (relation_type_text a) (relation_type_text b)
 
 -- The relationship is active, and has this start and this type.
 unfoldable pub is_active_of : Lei → RelationType → Row → Bool
-is_active_of start kind row = is_active row && (bytes_eq (start_in row) start && is_same_type (kind_in row) kind)
+is_active_of start kind row = is_active row &&
+    (bytes_eq (start_in row) start && is_same_type (kind_in row) kind)

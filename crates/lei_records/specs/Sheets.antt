@@ -67,4 +67,5 @@ printed_at kind texts = map (λ entry. row_text entry.0.1 entry.1) (zip (row_fie
 -- An item with these texts that failed this check, or that failed none.
 abbrev pub readied_by : Kind → Row → Option FailedCheck → Readied
 readied_by kind texts (Some check) = Readied.Bad check
-readied_by kind texts None = Readied.Good (item_of kind (facts_at kind texts).withdrawal (printed_at kind texts))
+readied_by kind texts None = Readied.Good
+    (item_of kind (facts_at kind texts).withdrawal (printed_at kind texts))

@@ -17,8 +17,8 @@ is_absent text = length text == 0
 abbrev pub present : Text → Option Text
 present text = if is_absent text then None else Some text
 
--- The moment that the text at a place reads as, in seconds from 1970-01-01T00:00:00Z; that begin of 1970 where it reads as
--- none, as in no row of an item.
+-- The moment that the text at a place reads as, in seconds from 1970-01-01T00:00:00Z; that begin of 1970 where it reads
+-- as none, as in no row of an item.
 unfoldable pub moment_in : Row → ℕ → ℤ
 moment_in row place = unwrap_or (read_moment (text_at row place)) (pos 0)
 
@@ -30,8 +30,8 @@ IsPrinted text = (seconds : ℤ) × (read_moment text ≡ Some seconds) × (text
 abbrev pub IsListed : {V : Type 0} → (Text → Option V) → Text → Type 0
 IsListed {V} value_of text = IsSome (value_of text)
 
--- The row is that of a record. Each part of it that is more than a text can be read: an LEI by its check digits, a value by
--- its list, and a moment by its printed form. An LEI and a moment that need not stand may be absent.
+-- The row is that of a record. Each part of it that is more than a text can be read: an LEI by its check digits, a
+-- value by its list, and a moment by its printed form. An LEI and a moment that need not stand may be absent.
 pub record IsRow (row : Row) : Type 0 where
   pub places : length row ≡ record_places
   pub lei : IsValid (text_at row lei_place)

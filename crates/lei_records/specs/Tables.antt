@@ -80,8 +80,8 @@ with_relations table rows = record table { relations = rows }
 abbrev pub with_exceptions : Table → Rows → Table
 with_exceptions table rows = record table { exceptions = rows }
 
--- The table with the item: its row takes the place of the row of its key, or stands as a row of its own. An exception that
--- is a withdrawal removes the row of its key. All other rows stay.
+-- The table with the item: its row takes the place of the row of its key, or stands as a row of its own. An exception
+-- that is a withdrawal removes the row of its key. All other rows stay.
 abbrev pub put : Table → Item → Table
 put table (Item.Record row) = with_records table (insert table.records (record_key (lei_in row)) row)
 put table (Item.Relation row) = with_relations table (insert table.relations (relation_key_in row) row)
@@ -93,7 +93,8 @@ put table (Item.Exception item) = with_exceptions table
 -- record and a relationship are never withdrawn.
 abbrev pub put_write : Table → RowKey × Option Item → Table
 put_write table (key, Some item) = put table item
-put_write table (RowKey.Exc lei category, None) = with_exceptions table (remove table.exceptions (exception_key lei category))
+put_write table (RowKey.Exc lei category, None) = with_exceptions table
+    (remove table.exceptions (exception_key lei category))
 put_write table (key, None) = table
 
 -- The table after these writes, from the first to the last.
@@ -128,11 +129,13 @@ abbrev pub holds_key : Option (Text × Text) → Row → Bool
 holds_key None row = false
 holds_key (Some key) row = holds key.0 key.1 row
 
--- The LEI of another record that is live and has the row's authority key, and of the first of them in the order of LEIs.
+-- The LEI of another record that is live and has the row's authority key, and of the first of them in the order of
+-- LEIs.
 abbrev pub other_holder : Table → Row → Option Lei
 other_holder table row =
     option_map lei_in
-    (find (λ other. holds_key (akey row) other && not (bytes_eq (lei_in other) (lei_in row))) (records_of table))
+    (find (λ other. holds_key (akey row) other && not (bytes_eq (lei_in other) (lei_in row)))
+    (records_of table))
 
 -- All relationships, in the order of their keys.
 abbrev pub relations_of : Table → List Row
@@ -186,7 +189,8 @@ cells_of table = record {
 
 -- Each record's row stands under its own key.
 abbrev pub IsKeyed : Table → Type 0
-IsKeyed table = (key : KeyTexts) (row : Row) → get table.records key ≡ Some row → key ≡ record_key (lei_in row)
+IsKeyed table = (key : KeyTexts) (row : Row) → get table.records key ≡ Some row
+    → key ≡ record_key (lei_in row)
 
 -- No two live records have the same authority key.
 abbrev pub AuthorityKeysAreUnique : Table → Type 0
@@ -200,7 +204,8 @@ HasRows table = (key : KeyTexts) (row : Row) → get table.records key ≡ Some 
 
 -- Each relationship's row stands under its own key.
 abbrev pub AreRelationsKeyed : Table → Type 0
-AreRelationsKeyed table = (key : KeyTexts) (row : Row) → get table.relations key ≡ Some row → key ≡ relation_key_in row
+AreRelationsKeyed table = (key : KeyTexts) (row : Row) → get table.relations key ≡ Some row
+    → key ≡ relation_key_in row
 
 -- Each relationship's row is that of a relationship.
 abbrev pub HasRelationRows : Table → Type 0
@@ -214,11 +219,13 @@ HasActives table = (start : Lei) (kind : RelationType) (a b : KeyTexts) (first s
 
 -- Each exception's row stands under its own key.
 abbrev pub AreExceptionsKeyed : Table → Type 0
-AreExceptionsKeyed table = (key : KeyTexts) (row : Row) → get table.exceptions key ≡ Some row → key ≡ exception_key_in row
+AreExceptionsKeyed table = (key : KeyTexts) (row : Row) → get table.exceptions key ≡ Some row
+    → key ≡ exception_key_in row
 
 -- Each exception's row is that of an exception.
 abbrev pub HasExceptionRows : Table → Type 0
-HasExceptionRows table = (key : KeyTexts) (row : Row) → get table.exceptions key ≡ Some row → IsExceptionRow row
+HasExceptionRows table = (key : KeyTexts) (row : Row) → get table.exceptions key ≡ Some row
+    → IsExceptionRow row
 
 -- A sound table: each row stands under its own key and is that of a record, a relationship or an exception, as its list
 -- says. No two live records have the same authority key, and no two active relationships the same start and type.

@@ -31,7 +31,8 @@ impl Model for FieldTexts {
 
     ghost view = { λ t. pieces 0 (take t.count t.ends) (string_bytes t.text) };
 
-    ghost invariant = { λ t. (t.count ≤ length t.ends) × AreEnds 0 (take t.count t.ends) (string_bytes t.text) };
+    ghost invariant = { λ t. (t.count ≤ length t.ends)
+        × AreEnds 0 (take t.count t.ends) (string_bytes t.text) };
 }
 
 impl FieldTexts {
@@ -46,8 +47,8 @@ impl FieldTexts {
         })
     }
 
-    /// Puts a text behind the others. Where they have more than 65,535 bytes then, it is `NoMemory`; an item that passed
-    /// its checks has at most 28 fields of 2,000 bytes.
+    /// Puts a text behind the others. Where they have more than 65,535 bytes then, it is `NoMemory`; an item that
+    /// passed its checks has at most 28 fields of 2,000 bytes.
     pub fn push(&mut self, text: &str) -> Result<(), NoMemory>
         requires { length self.old < record_places }
         ensures ok { OnOk result (self.new ≡ self.old ++ text.now ∷ []) }

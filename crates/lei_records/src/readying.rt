@@ -57,7 +57,8 @@ fn by_names(alloc: Global, kind: Kind, fields: &Fields) -> Result<Readied, NoMem
 #[tactic(auto, unfolding(crate::specs::Sheets::failed_at))]
 fn by_presence(alloc: Global, kind: Kind, texts: &[&str]) -> Result<Readied, NoMemory>
     requires { length texts.now ≡ field_count kind }
-    ensures { let row = read_texts texts.now in IfOk result (λ item. item ≡ readied_by kind row (failed_at kind row)) }
+    ensures { let row = read_texts texts.now in IfOk result
+        (λ item. item ≡ readied_by kind row (failed_at kind row)) }
 {
     match first_failing(FieldCheck::Presence, kind, texts) {
         Some(name) => bad(alloc, FIELD_MISSING, name),
@@ -70,7 +71,8 @@ fn by_presence(alloc: Global, kind: Kind, texts: &[&str]) -> Result<Readied, NoM
 fn by_shapes(alloc: Global, kind: Kind, texts: &[&str]) -> Result<Readied, NoMemory>
     requires places { length texts.now ≡ field_count kind }
     requires present { first_at FieldCheck.Presence kind (read_texts texts.now) ≡ None }
-    ensures { let row = read_texts texts.now in IfOk result (λ item. item ≡ readied_by kind row (failed_at kind row)) }
+    ensures { let row = read_texts texts.now in IfOk result
+        (λ item. item ≡ readied_by kind row (failed_at kind row)) }
 {
     let shaped = shaped_row(alloc, kind, texts)?;
     match shaped.misshapen {
@@ -86,7 +88,8 @@ fn by_digits(alloc: Global, kind: Kind, texts: &[&str], row: Printed) -> Result<
     requires present { first_at FieldCheck.Presence kind (read_texts texts.now) ≡ None }
     requires shaped { first_at FieldCheck.Shape kind (read_texts texts.now) ≡ None }
     requires row { row ≡ printed_at kind (read_texts texts.now) }
-    ensures { let row = read_texts texts.now in IfOk result (λ item. item ≡ readied_by kind row (failed_at kind row)) }
+    ensures { let row = read_texts texts.now in IfOk result
+        (λ item. item ≡ readied_by kind row (failed_at kind row)) }
 {
     match first_failing(FieldCheck::Digits, kind, texts) {
         Some(name) => bad(alloc, CHECK_DIGITS, name),
@@ -208,12 +211,15 @@ struct Shaped {
     misshapen: Option<&'static str>,
 }
 
-// C03 of each field, and the texts of the row: each a copy or, of a moment, its printed form. So each text is read once.
+// C03 of each field, and the texts of the row: each a copy or, of a moment, its printed form. So each text is read
+// once.
 #[tactic(auto, unfolding(crate::specs::Sheets::first_at, crate::specs::Sheets::printed_at))]
 fn shaped_row(alloc: Global, kind: Kind, texts: &[&str]) -> Result<Shaped, NoMemory>
     requires { length texts.now ≡ field_count kind }
-    ensures misshapen { IfOk result (λ shaped. option_copied shaped.misshapen ≡ first_at FieldCheck.Shape kind (read_texts texts.now)) }
-    ensures row { IfOk result (λ shaped. shaped.misshapen ≡ None → shaped.row ≡ printed_at kind (read_texts texts.now)) }
+    ensures misshapen { IfOk result
+        (λ shaped. option_copied shaped.misshapen ≡ first_at FieldCheck.Shape kind (read_texts texts.now)) }
+    ensures row { IfOk result
+        (λ shaped. shaped.misshapen ≡ None → shaped.row ≡ printed_at kind (read_texts texts.now)) }
 {
     let facts = facts_at(kind, texts);
     let table = kind.fields();
@@ -255,7 +261,8 @@ fn place_text(
     text: &str,
 ) -> Result<bool, NoMemory>
     requires { IsTrue stands → length row.old < record_places }
-    ensures fits { IfOk result (λ fits. not fits ≡ field_fails FieldCheck.Shape facts (read_field field.now) text.now) }
+    ensures fits { IfOk result
+        (λ fits. not fits ≡ field_fails FieldCheck.Shape facts (read_field field.now) text.now) }
     ensures row { IfOk result (λ fits. IsTrue fits
         → row.new ≡ (if stands then row.old ++ Items.row_text field.now.1 text.now ∷ [] else row.old)) }
 {
@@ -273,7 +280,8 @@ fn push_fitting(
     text: &str,
 ) -> Result<bool, NoMemory>
     requires { length row.old < record_places }
-    ensures fits { IfOk result (λ fits. not fits ≡ field_fails FieldCheck.Shape facts (read_field field.now) text.now) }
+    ensures fits { IfOk result
+        (λ fits. not fits ≡ field_fails FieldCheck.Shape facts (read_field field.now) text.now) }
     ensures row { IfOk result (λ fits. IsTrue fits
         → row.new ≡ row.old ++ Items.row_text field.now.1 text.now ∷ []) }
 {

@@ -145,8 +145,8 @@ impl Record {
         text_at(&self.texts, places::AUTHORITY)
     }
 
-    /// The authority's id of the entity: the field Entity.RegistrationAuthority.RegistrationAuthorityEntityID. The empty
-    /// text where it is absent.
+    /// The authority's id of the entity: the field Entity.RegistrationAuthority.RegistrationAuthorityEntityID. The
+    /// empty text where it is absent.
     pub fn authority_id(&self) -> &str
         ensures { result.now ≡ Cells.authority_id_in self.now }
     {

@@ -6,8 +6,8 @@ use Rattle.jiff_fmt.specs.Text.{pad2, pad4}
 use Rattle.lei_code.specs.Texts.{Text}
 use Rattle.lei_shapes.specs.Moment.{day_of, second_of_day}
 
--- The days since 1 March of the year 0, of a day number from 1970-01-01: a year that begins in March has its leap day at its
--- end.
+-- The days since 1 March of the year 0, of a day number from 1970-01-01: a year that begins in March has its leap day
+-- at its end.
 abbrev pub march_count : ℤ → ℕ
 march_count day = unsigned_abs (day +ℤ pos 719_468)
 

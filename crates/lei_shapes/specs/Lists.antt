@@ -1,5 +1,5 @@
--- The lists of values. Each has one table, the text of every value, which is compared byte for byte, as in the Common Data
--- File formats of the Global LEI System. What a text reads as follows from the table.
+-- The lists of values. Each has one table, the text of every value, which is compared byte for byte, as in the Common
+-- Data File formats of the Global LEI System. What a text reads as follows from the table.
 use Rattle.std.specs.Prelude.{◌≡◌, ◌≢◌, List, [], ◌∷◌, Option, Some, MatchOption, find, bytes_eq, codes}
 use Rattle.lei_code.specs.Texts.{Text}
 use Rattle.lei_shapes.specs.declared.lists.RecordStatus.{RecordStatus}

@@ -20,8 +20,8 @@ is_moment seconds =
 abbrev pub whole_seconds : ℤ → ℤ
 whole_seconds nanos = int_div_euclid nanos (pos 1_000_000_000)
 
--- A text is read as `jiff` reads it, which takes in RFC 3339: as the whole seconds of that instant exactly where these are a
--- moment, and not at all where `jiff` refuses the text.
+-- A text is read as `jiff` reads it, which takes in RFC 3339: as the whole seconds of that instant exactly where these
+-- are a moment, and not at all where `jiff` refuses the text.
 abbrev pub IsMomentRead : Text → Option ℤ → Type 0
 IsMomentRead text read = MatchResult (parse_timestamp text)
     (λ nanos. SomeIff read (IsMoment (whole_seconds nanos)) (whole_seconds nanos))

@@ -62,12 +62,13 @@ impl Moment {
         Moment::read_form(text).map(|found| found.0)
     }
 
-    /// The moment of a text, as `read` has it, and its printed form where the text isn't in that. A text in printed form
-    /// is known by its digits, and isn't parsed.
+    /// The moment of a text, as `read` has it, and its printed form where the text isn't in that. A text in printed
+    /// form is known by its digits, and isn't parsed.
     pub fn read_form(text: &str) -> Option<(Moment, Option<[u8; 20]>)>
         ensures value { option_map (λ found. found.0) result ≡ read_moment text.now }
         ensures form { IfSome result (λ found. unwrap_or found.1 text.now ≡ moment_text found.0) }
-        ensures reads_back { IfSome result (λ found. read_moment (unwrap_or found.1 text.now) ≡ Some found.0) }
+        ensures reads_back { IfSome result
+            (λ found. read_moment (unwrap_or found.1 text.now) ≡ Some found.0) }
         ensures ascii { IfSome result (λ found. IfSome found.1 IsAscii) }
     {
         if let Some(moment) = of_form(text) {
@@ -114,7 +115,8 @@ impl Moment {
     }
 }
 
-/// The number of the day in UTC of a moment that is told by its seconds from 1970-01-01T00:00:00Z on, where that day is 0.
+/// The number of the day in UTC of a moment that is told by its seconds from 1970-01-01T00:00:00Z on, where that day is
+/// 0.
 pub fn day_number(seconds: i64) -> i32
     requires { IsMoment seconds }
     ensures { result ≡ day_of seconds }

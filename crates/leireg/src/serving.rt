@@ -11,8 +11,8 @@ use std::net::{Ipv4Addr, SocketAddr, TcpListener};
 use std::sync::Wait;
 use std::thread::Threads;
 
-/// Serves the register as the words ask for it, and says the status. The port is asked for first: if it can't be had, the
-/// store isn't opened, and none is made.
+/// Serves the register as the words ask for it, and says the status. The port is asked for first: if it can't be had,
+/// the store isn't opened, and none is made.
 pub fn serve_wanted<R: Threads + Wait + Sync>(
     rt: &R,
     host: &HostRuntime,

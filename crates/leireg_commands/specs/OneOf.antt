@@ -9,7 +9,8 @@ either first second (OneOf.First one) = first one
 either first second (OneOf.Second one) = second one
 
 -- What a crash may leave of the first, or else of the second.
-abbrev pub left_of_either : {A B : Type 0} → (A → Option KeptTables → Type 0) → (B → Option KeptTables → Type 0)
+abbrev pub left_of_either : {A B : Type 0} → (A → Option KeptTables → Type 0)
+    → (B → Option KeptTables → Type 0)
     → OneOf A B → Option KeptTables → Type 0
 left_of_either first second (OneOf.First one) = first one
 left_of_either first second (OneOf.Second one) = second one

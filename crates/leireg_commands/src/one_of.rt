@@ -20,7 +20,11 @@ impl<K: Keeper, L: Keeper> Keeper for OneOf<K, L> {
 
     ghost leaves = { left_of_either K.leaves L.leaves };
 
-    ghost may_stay = { elim [ OneOf.First keeper ↦ K.may_stay keeper | OneOf.Second keeper ↦ L.may_stay keeper ] };
+    ghost may_stay = { elim [
+      | OneOf.First keeper ↦ K.may_stay keeper
+      | OneOf.Second keeper ↦
+          L.may_stay keeper
+    ] };
 
     fn last(&mut self) -> Result<u64, KeepFault> {
         match self {

@@ -2,7 +2,8 @@
 use leireg_run::Progress;
 use std::io::{self, IsTerminal};
 
-/// Tells on the standard error how many requests were answered, in at most ten lines, and nothing where it is no terminal.
+/// Tells on the standard error how many requests were answered, in at most ten lines, and nothing where it is no
+/// terminal.
 #[derive(Drop)]
 pub struct Counted<'a> {
     rt: &'a HostRuntime,

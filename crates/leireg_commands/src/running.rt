@@ -13,8 +13,8 @@ use std::fs::File;
 use std::io::Stdin;
 use std::thread::Threads;
 
-/// Runs a command over a keeper, by the clock of the machine. Says its status, and gives the keeper back. The runtime is
-/// handed on as one that may start threads, and as the host.
+/// Runs a command over a keeper, by the clock of the machine. Says its status, and gives the keeper back. The runtime
+/// is handed on as one that may start threads, and as the host.
 pub fn run_command<R: Threads + Sync, K: Keeper>(
     rt: &R,
     host: &HostRuntime,

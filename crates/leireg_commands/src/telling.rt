@@ -3,8 +3,8 @@ use crate::help::{advice, cause};
 use program_words::help_of;
 use register_words::ExitStatus;
 
-/// Tells of a status other than `Ok`: its word, what happened, and what to do, or how the command is called that the first
-/// of these words names.
+/// Tells of a status other than `Ok`: its word, what happened, and what to do, or how the command is called that the
+/// first of these words names.
 pub fn tell(host: &HostRuntime, status: u8, words: &[String]) {
     match ExitStatus::of(status) {
         Some(ExitStatus::Ok) | None => {}

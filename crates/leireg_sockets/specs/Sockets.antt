@@ -24,8 +24,8 @@ Waits door (Ok (Some stream)) = (door.listens ≡ true) × (0 < door.to_give)
 Waits door (Ok None) = (door.listens ≡ true) × (door.to_give ≡ 0)
 Waits door (Err fault) = (door.listens ≡ false) ⊎ (0 < door.to_give)
 
--- What a door's call does to it: it gave one of its lines, which is out now; it is closed, exactly where it has a listener
--- and gave them all; or the call failed, which is counted.
+-- What a door's call does to it: it gave one of its lines, which is out now; it is closed, exactly where it has a
+-- listener and gave them all; or the call failed, which is counted.
 abbrev pub Gives : {L : Type 0} → ListenerState → Came L → ListenerState → Type 0
 Gives old (Came.Line line) new = (old.listens ≡ true) × (0 < old.to_give)
     × (new ≡ record old { to_give = old.to_give - 1; out = true })

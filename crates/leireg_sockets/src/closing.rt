@@ -3,7 +3,8 @@ use std::io::Read;
 use std::net::{Shutdown, TcpStream};
 use std::time::{Clock, Duration, Instant};
 
-// How many bytes a peer may still send after the last reply: twice the greatest body of an upload. This project's profile.
+// How many bytes a peer may still send after the last reply: twice the greatest body of an upload. This project's
+// profile.
 const CLOSING_BYTES: usize = 8_388_608;
 
 // How long a peer may be silent before it is taken to send no more, in milliseconds.
@@ -12,9 +13,10 @@ const SILENCE: u64 = 200;
 // How many bytes are read at a time.
 const BLOCK: usize = 16_384;
 
-/// Closes a connection so that its peer gets what was written. If it were closed while bytes of the peer are unread, the
-/// system would reset it, and the peer would lose the last reply. So no more is sent, and what the peer still sends is read
-/// and dropped until the peer closes or is silent for 200 milliseconds, for at most this time and at most 8 MiB.
+/// Closes a connection so that its peer gets what was written. If it were closed while bytes of the peer are unread,
+/// the system would reset it, and the peer would lose the last reply. So no more is sent, and what the peer still sends
+/// is read and dropped until the peer closes or is silent for 200 milliseconds, for at most this time and at most 8
+/// MiB.
 pub fn close<R: Clock>(rt: &R, mut stream: TcpStream, time: Duration) {
     let Ok(begin) = Instant::now(rt) else {
         return;
@@ -35,8 +37,8 @@ pub fn close<R: Clock>(rt: &R, mut stream: TcpStream, time: Duration) {
     }
 }
 
-// How long the next read may wait within a time that began at this moment, or none if it has passed or the clock can't be
-// read.
+// How long the next read may wait within a time that began at this moment, or none if it has passed or the clock can't
+// be read.
 fn wait_left<R: Clock>(rt: &R, begin: Instant, time: Duration) -> Option<Duration> {
     let passed = begin.elapsed(rt).ok()?;
     let left = time.checked_sub(passed)?;

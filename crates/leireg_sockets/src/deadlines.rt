@@ -19,8 +19,8 @@ pub struct Deadlines {
 }
 
 impl Deadlines {
-    /// The deadlines of a server: 5 seconds for a byte, 30 for a request, 10 minutes for replies, 10 for a connection, and
-    /// a second for its end.
+    /// The deadlines of a server: 5 seconds for a byte, 30 for a request, 10 minutes for replies, 10 for a connection,
+    /// and a second for its end.
     pub fn standard() -> Self {
         Deadlines {
             silence: Duration::from_secs(5),
@@ -50,8 +50,8 @@ enum Turn {
 }
 
 /// Whether a connection is late. A request begins with the first byte that is read after the accept or a write, and
-/// lasts until the next write; the replies begin there, and last until the next byte is read. The connection's life begins
-/// with the accept, and is looked at between two requests alone. If the clock can't be read, all are late.
+/// lasts until the next write; the replies begin there, and last until the next byte is read. The connection's life
+/// begins with the accept, and is looked at between two requests alone. If the clock can't be read, all are late.
 #[derive(Drop)]
 pub struct Watch<'a, R> {
     rt: &'a R,
@@ -76,8 +76,8 @@ impl<'a, R: Clock> Watch<'a, R> {
         (self.rt, self.deadlines.closing)
     }
 
-    /// Whether a read comes too late for its request. What comes after a write is another request, for which the connection
-    /// may be too old.
+    /// Whether a read comes too late for its request. What comes after a write is another request, for which the
+    /// connection may be too old.
     pub fn is_late_to_read(&self) -> bool {
         match self.turn {
             Turn::New => false,
@@ -94,7 +94,8 @@ impl<'a, R: Clock> Watch<'a, R> {
         }
     }
 
-    /// Whether a write comes too late for the replies that it is one of. What is written first behind a read is in time.
+    /// Whether a write comes too late for the replies that it is one of. What is written first behind a read is in
+    /// time.
     pub fn is_late_to_write(&self) -> bool {
         match self.turn {
             Turn::Reply(since) => has_passed(self.rt, since, self.deadlines.reply),

@@ -17,8 +17,8 @@ use std::time::{Clock, Duration};
 const PAUSE: u64 = 100;
 
 /// A door over a listener, through which so many connections come, one after the other. Without a listener each call
-/// fails. The operator hears of the address at the first call, and of failures that may pass. A connection that comes back
-/// is closed. It tells nothing of its lines.
+/// fails. The operator hears of the address at the first call, and of failures that may pass. A connection that comes
+/// back is closed. It tells nothing of its lines.
 #[derive(Drop)]
 pub struct TcpDoor<'a, R, O> {
     rt: &'a R,

@@ -14,9 +14,9 @@ use std::marker::Model;
 use std::net::TcpStream;
 use std::time::Clock;
 
-/// A link over a stream, as a connection, which tells nothing of its bytes by itself. A read or a write that comes behind
-/// its deadline fails, and so does one that waited for as long as the stream lets it. Contracts see the stream and the
-/// numbers of reads and of writes that failed, which stand still at their last value.
+/// A link over a stream, as a connection, which tells nothing of its bytes by itself. A read or a write that comes
+/// behind its deadline fails, and so does one that waited for as long as the stream lets it. Contracts see the stream
+/// and the numbers of reads and of writes that failed, which stand still at their last value.
 #[derive(Drop)]
 pub struct StreamLink<'a, R, S> {
     stream: S,
@@ -30,7 +30,8 @@ impl<'a, R, S> Model for StreamLink<'a, R, S> {
 
     ghost Value = { StreamState S };
 
-    ghost view = { λ l. record { stream = l.stream; read_faults = l.read_faults; write_faults = l.write_faults } };
+    ghost view = { λ l. record
+        { stream = l.stream; read_faults = l.read_faults; write_faults = l.write_faults } };
 }
 
 impl<'a, R: Clock, S> StreamLink<'a, R, S> {
@@ -48,8 +49,8 @@ impl<'a, R: Clock, S> StreamLink<'a, R, S> {
 }
 
 impl<'a, R: Clock> StreamLink<'a, R, TcpStream> {
-    /// Closes the connection. If a read or a write failed, it is closed at once; otherwise so that the peer gets what was
-    /// written.
+    /// Closes the connection. If a read or a write failed, it is closed at once; otherwise so that the peer gets what
+    /// was written.
     pub fn close(self) {
         if self.read_faults == 0 && self.write_faults == 0 {
             let (rt, time) = self.watch.closing();
@@ -75,7 +76,8 @@ impl<'a, R: Clock, S: Read + Write> Link for StreamLink<'a, R, S> {
         ensures failed { OnErr result (Rose self.old.read_faults self.new.read_faults) }
         ensures exact { OnErr result (self.new.read_faults ≡ counted self.old.read_faults) }
         ensures writes { self.new.write_faults ≡ self.old.write_faults }
-        ensures stream { ReadConsumes (S.remaining self.old.stream) (S.remaining self.new.stream) result buffer.new }
+        ensures stream { ReadConsumes (S.remaining self.old.stream) (S.remaining self.new.stream)
+            result buffer.new }
     {
         match read_in_time(&mut self.watch, &mut self.stream, buffer) {
             Ok(count) => Ok(count),
@@ -95,7 +97,8 @@ impl<'a, R: Clock, S: Read + Write> Link for StreamLink<'a, R, S> {
         ensures exact { IfErr result (λ fault.
             (fault ≡ SinkFault.Failed) × (self.new.write_faults ≡ counted self.old.write_faults)) }
         ensures reads { self.new.read_faults ≡ self.old.read_faults }
-        ensures stream { WriteAppends (S.contents self.old.stream) (S.contents self.new.stream) result piece.now }
+        ensures stream { WriteAppends (S.contents self.old.stream) (S.contents self.new.stream)
+            result piece.now }
     {
         match write_in_time(&mut self.watch, &mut self.stream, piece) {
             Ok(count) => Ok(count),

@@ -7,6 +7,7 @@ pub trait Operator {
     /// Connections to this address are taken from now on.
     fn note_listening(&mut self, address: SocketAddr);
 
-    /// A connection could not be taken, and the door tries again. This is called for the first of several failures in a row.
+    /// A connection could not be taken, and the door tries again. This is called for the first of several failures in a
+    /// row.
     fn note_accept_fault(&mut self, fault: &io::Error);
 }

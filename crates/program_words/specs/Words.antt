@@ -11,8 +11,8 @@ use Rattle.program_words.specs.declared.runs.Command.{Command}
 use Rattle.program_words.specs.declared.runs.Command.TheVariants as commands
 use Rattle.program_words.specs.declared.runs.WantedRun.{WantedRun}
 
--- To answer the lines of the input, to answer over HTTP, to patch a copy of this sheet and form by a delta, to say whether
--- a text is an LEI, to make the check digits of a text, or to make up a register of so many records.
+-- To answer the lines of the input, to answer over HTTP, to patch a copy of this sheet and form by a delta, to say
+-- whether a text is an LEI, to make the check digits of a text, or to make up a register of so many records.
 pub data Invocation : Type 0 where
   to_answer_lines : Invocation
   to_serve : Invocation
@@ -21,8 +21,8 @@ pub data Invocation : Type 0 where
   to_make_digits : Text → Invocation
   to_make_up : ℕ → Invocation
 
--- What is to be done, and with what: the path of a store, those of a first and of a second file, and of a server its port,
--- how many workers it has and how many connections each of them takes. A number that isn't asked for is 0.
+-- What is to be done, and with what: the path of a store, those of a first and of a second file, and of a server its
+-- port, how many workers it has and how many connections each of them takes. A number that isn't asked for is 0.
 pub record Meant : Type 0 where
   pub invocation : Invocation
   pub store : Option Text

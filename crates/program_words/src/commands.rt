@@ -93,7 +93,8 @@ pub fn demo_command<'a>(alloc: Global) -> Result<Command<'a>, NoMemory>
 /// What is read of the words by a command.
 pub fn read<'a>(command: Command<'a>, words: &'a [String]) -> Result<ArgMatches<'a>, WordsFault>
     requires simple { is_simple_and_free (app_of command) ≡ true }
-    ensures { Finds (λ matches. rows_of (found_of matches)) (read_by (app_of command.entry) (map string_bytes words.now)) result }
+    ensures { Finds (λ matches. rows_of (found_of matches))
+        (read_by (app_of command.entry) (map string_bytes words.now)) result }
 {
     match command.try_get_matches_from(words) {
         Ok(matches) => Ok(matches),

@@ -59,8 +59,8 @@ pub struct WantedRun<'a> {
     pub connections: u64,
 }
 
-/// What these words ask for, which are the program's words without its name. `clap` reads those behind the first, as the
-/// options and texts of the command that the first one names.
+/// What these words ask for, which are the program's words without its name. `clap` reads those behind the first, as
+/// the options and texts of the command that the first one names.
 pub fn wanted<'a>(alloc: Global, words: &'a [String]) -> Result<WantedRun<'a>, WordsFault>
     ensures meant { Finds meaning (meant (map string_bytes words.now)) result }
     ensures range { IfOk result (λ run. IsInRange run.command) }
@@ -80,7 +80,8 @@ pub fn wanted<'a>(alloc: Global, words: &'a [String]) -> Result<WantedRun<'a>, W
 }
 
 fn wanted_lines<'a>(alloc: Global, words: &'a [String]) -> Result<WantedRun<'a>, WordsFault>
-    ensures meant { Finds meaning (option_and_then lines_meant (read_by lines_app (map string_bytes words.now))) result }
+    ensures meant { Finds meaning
+        (option_and_then lines_meant (read_by lines_app (map string_bytes words.now))) result }
     ensures range { IfOk result (λ run. IsInRange run.command) }
 {
     let matches = read(lines_command(alloc)?, words)?;
@@ -88,7 +89,8 @@ fn wanted_lines<'a>(alloc: Global, words: &'a [String]) -> Result<WantedRun<'a>,
 }
 
 fn wanted_serve<'a>(alloc: Global, words: &'a [String]) -> Result<WantedRun<'a>, WordsFault>
-    ensures meant { Finds meaning (option_and_then serve_meant (read_by serve_app (map string_bytes words.now))) result }
+    ensures meant { Finds meaning
+        (option_and_then serve_meant (read_by serve_app (map string_bytes words.now))) result }
     ensures range { IfOk result (λ run. IsInRange run.command) }
 {
     let matches = read(serve_command(alloc)?, words)?;
@@ -96,7 +98,8 @@ fn wanted_serve<'a>(alloc: Global, words: &'a [String]) -> Result<WantedRun<'a>,
 }
 
 fn wanted_apply<'a>(alloc: Global, words: &'a [String]) -> Result<WantedRun<'a>, WordsFault>
-    ensures meant { Finds meaning (option_and_then apply_meant (read_by apply_app (map string_bytes words.now))) result }
+    ensures meant { Finds meaning
+        (option_and_then apply_meant (read_by apply_app (map string_bytes words.now))) result }
     ensures range { IfOk result (λ run. IsInRange run.command) }
 {
     let matches = read(apply_command(alloc)?, words)?;
@@ -104,7 +107,8 @@ fn wanted_apply<'a>(alloc: Global, words: &'a [String]) -> Result<WantedRun<'a>,
 }
 
 fn wanted_check<'a>(alloc: Global, words: &'a [String]) -> Result<WantedRun<'a>, WordsFault>
-    ensures meant { Finds meaning (option_and_then check_meant (read_by check_app (map string_bytes words.now))) result }
+    ensures meant { Finds meaning
+        (option_and_then check_meant (read_by check_app (map string_bytes words.now))) result }
     ensures range { IfOk result (λ run. IsInRange run.command) }
 {
     let matches = read(check_command(alloc)?, words)?;
@@ -112,7 +116,8 @@ fn wanted_check<'a>(alloc: Global, words: &'a [String]) -> Result<WantedRun<'a>,
 }
 
 fn wanted_digits<'a>(alloc: Global, words: &'a [String]) -> Result<WantedRun<'a>, WordsFault>
-    ensures meant { Finds meaning (option_and_then digits_meant (read_by digits_app (map string_bytes words.now))) result }
+    ensures meant { Finds meaning
+        (option_and_then digits_meant (read_by digits_app (map string_bytes words.now))) result }
     ensures range { IfOk result (λ run. IsInRange run.command) }
 {
     let matches = read(digits_command(alloc)?, words)?;
@@ -120,7 +125,8 @@ fn wanted_digits<'a>(alloc: Global, words: &'a [String]) -> Result<WantedRun<'a>
 }
 
 fn wanted_demo<'a>(alloc: Global, words: &'a [String]) -> Result<WantedRun<'a>, WordsFault>
-    ensures meant { Finds meaning (option_and_then demo_meant (read_by demo_app (map string_bytes words.now))) result }
+    ensures meant { Finds meaning
+        (option_and_then demo_meant (read_by demo_app (map string_bytes words.now))) result }
     ensures range { IfOk result (λ run. IsInRange run.command) }
 {
     let matches = read(demo_command(alloc)?, words)?;

@@ -46,7 +46,8 @@ moment_word seconds = if is_moment seconds then moment_text seconds else signed_
 -- An entry in one line: its number, its kind, its office, its own number, its moment, its rules and its answer, with a
 -- space between two.
 unfoldable pub entry_line : KeptEntry → Text
-entry_line e = joined (decimal e.seq ∷ kind_word e.kind ∷ or_dash e.office ∷ decimal e.number ∷ moment_word e.moment
+entry_line e = joined (decimal e.seq ∷ kind_word e.kind ∷ or_dash e.office ∷ decimal e.number
+    ∷ moment_word e.moment
     ∷ decimal e.rules ∷ e.answer ∷ [])
 
 -- ---- what the replay makes of a stored entry
@@ -108,8 +109,8 @@ not_next office e = record { entry = e.seq; kept = entry_line e; replayed = repl
 abbrev pub missing : ℕ → Damage
 missing number = record { entry = number; kept = codes "none"; replayed = codes "NOT_AN_ENTRY" }
 
--- Where the entry of this number should be, another stands that isn't what the replay makes, or one of another number, so
--- that none of this number is stored.
+-- Where the entry of this number should be, another stands that isn't what the replay makes, or one of another number,
+-- so that none of this number is stored.
 abbrev pub EntryDiffers : OfficeState → ℕ → KeptEntry → Damage → Type 0
 EntryDiffers office number e damage =
     ((e.seq ≡ number) × (IsNext office e → ⊥) × (damage ≡ not_next office e))
@@ -150,15 +151,15 @@ abbrev pub row_word : Option Text → Text
 row_word None = codes "-"
 row_word (Some row) = row
 
--- A cell in one line: the number of its kind, its name, the number of the entry that touched it last and its row, with a
--- space between two.
+-- A cell in one line: the number of its kind, its name, the number of the entry that touched it last and its row, with
+-- a space between two.
 unfoldable pub cell_line : KeptCell → Text
 cell_line cell = joined (decimal cell.kind ∷ cell.name ∷ decimal cell.touched ∷ row_word cell.row ∷ [])
 
 -- ---- the first cell that differs
 
--- Cells are compared in pages by the entry that touched them last: those of the first 16 entries, of the next 16 and so on
--- up to the last entry, and then those that no entry touched.
+-- Cells are compared in pages by the entry that touched them last: those of the first 16 entries, of the next 16 and so
+-- on up to the last entry, and then those that no entry touched.
 abbrev pub page_bounds : ℕ → ℕ → ℕ × ℕ
 page_bounds last page = if nat_lt (16 * page) last
     then (16 * page, if nat_le (16 * page + 16) last then 16 * page + 16 else last)
@@ -205,13 +206,15 @@ pub record DifferFirst (kept made : List KeptCell) (damage : Damage) : Type 0 wh
 -- cells, and so has its own before it.
 pub record IsCellDamage (last : ℕ) (held : Held) (tables : KeptTables) (damage : Damage) : Type 0 where
   pub page : ℕ
-  pub earlier : (k : ℕ) → k < page → kept_page tables (page_bounds last k) ≡ made_page held (page_bounds last k)
-  pub differs : DifferFirst (kept_page tables (page_bounds last page)) (made_page held (page_bounds last page)) damage
+  pub earlier : (k : ℕ) → k < page
+      → kept_page tables (page_bounds last k) ≡ made_page held (page_bounds last k)
+  pub differs : DifferFirst (kept_page tables (page_bounds last page))
+      (made_page held (page_bounds last page)) damage
 
 -- ---- damage
 
--- The first difference: an entry that isn't what the replay makes; or, where the entries are a legal history, a cell that
--- isn't one of the register after it.
+-- The first difference: an entry that isn't what the replay makes; or, where the entries are a legal history, a cell
+-- that isn't one of the register after it.
 abbrev pub IsDamage : Limits → KeptTables → Damage → Type 0
 IsDamage limits tables damage = IsEntryDamage limits tables.entries damage
     ⊎ (Legal (office_of limits tables.entries)
@@ -219,19 +222,23 @@ IsDamage limits tables damage = IsEntryDamage limits tables.entries damage
 
 -- The tables are those of a legal history under these limits.
 abbrev pub AreOfHistory : Limits → KeptTables → Type 0
-AreOfHistory limits tables = Legal (office_of limits tables.entries) × AreTablesOf (office_of limits tables.entries) tables
+AreOfHistory limits tables = Legal (office_of limits tables.entries)
+    × AreTablesOf (office_of limits tables.entries) tables
 
 -- What has damage isn't what a history leaves.
 abbrev pub DamageExcludes : Limits → KeptTables → Type 0
-DamageExcludes limits tables = (damage : Damage) → IsDamage limits tables damage → AreOfHistory limits tables → ⊥
+DamageExcludes limits tables = (damage : Damage) → IsDamage limits tables damage
+    → AreOfHistory limits tables → ⊥
 
 -- Where an entry is the first difference, the two texts that tell it differ.
 abbrev pub EntryTextsDiffer : Limits → History → Type 0
-EntryTextsDiffer limits entries = (damage : Damage) → IsEntryDamage limits entries damage → damage.kept ≢ damage.replayed
+EntryTextsDiffer limits entries = (damage : Damage) → IsEntryDamage limits entries damage
+    → damage.kept ≢ damage.replayed
 
 -- A store has one first difference: no two damages are it.
 abbrev pub DamageIsOne : Limits → KeptTables → Type 0
-DamageIsOne limits tables = (one other : Damage) → IsDamage limits tables one → IsDamage limits tables other → one ≡ other
+DamageIsOne limits tables = (one other : Damage) → IsDamage limits tables one
+    → IsDamage limits tables other → one ≡ other
 
 -- The line of a cell that an entry touched, of a kind and a name that are known, tells the number of that entry and the
 -- word of the row.

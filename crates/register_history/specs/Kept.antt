@@ -25,8 +25,8 @@ joined [] = []
 joined (text ∷ []) = text
 joined (text ∷ next ∷ texts) = text ++ 32 ∷ joined (next ∷ texts)
 
--- The place of a key: the byte of its kind, which is its first text, and behind it the name, its other texts with a space
--- between two.
+-- The place of a key: the byte of its kind, which is its first text, and behind it the name, its other texts with a
+-- space between two.
 abbrev pub place_in : KeyTexts → CellPlace
 place_in [] = []
 place_in (kind ∷ texts) = kind ++ joined texts
@@ -66,10 +66,11 @@ content key cell = record {
 
 -- ---- the tables
 
--- The kept cells are those of the register: under the place of each key is kept what the register has under the key, and
--- nothing is kept under any other place.
+-- The kept cells are those of the register: under the place of each key is kept what the register has under the key,
+-- and nothing is kept under any other place.
 pub record AreCellsOf (held : Held) (cells : Cells) : Type 0 where
-  pub each : (key : RowKey) → IsKey key → get cells (place_in (cell_key key)) ≡ option_map (content key) (get held (cell_key key))
+  pub each : (key : RowKey) → IsKey key
+      → get cells (place_in (cell_key key)) ≡ option_map (content key) (get held (cell_key key))
   pub only : (place : CellPlace) (kept : CellContent) → get cells place ≡ Some kept
       → (key : RowKey) × IsKey key × (place ≡ place_in (cell_key key))
 
@@ -88,7 +89,8 @@ Keeps told office = IfSome told (AreTablesOf office)
 
 -- No two tables are those of one office.
 abbrev pub TablesAreOne : OfficeState → Type 0
-TablesAreOne office = (one other : KeptTables) → AreTablesOf office one → AreTablesOf office other → one ≡ other
+TablesAreOne office = (one other : KeptTables) → AreTablesOf office one
+    → AreTablesOf office other → one ≡ other
 
 -- ---- cells that are committed
 

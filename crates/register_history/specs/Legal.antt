@@ -32,7 +32,8 @@ IsNext before e =
 -- each entry of the rest is next after those before it
 abbrev pub LegalAfter : Limits → History → History → Type 0
 LegalAfter limits before [] = Unit {0}
-LegalAfter limits before (e ∷ rest) = IsNext (office_of limits before) e × LegalAfter limits (before ++ e ∷ []) rest
+LegalAfter limits before (e ∷ rest) = IsNext (office_of limits before) e
+    × LegalAfter limits (before ++ e ∷ []) rest
 
 -- each entry is what its own request adds to the entries before it, under the limits
 unfoldable pub Legal : OfficeState → Type 0
@@ -68,7 +69,8 @@ Session old (asked ∷ asks) moments (answered ∷ replies) new =
     (given : List ℤ) × (rest : List ℤ) × (between : OfficeState) × (moments ≡ given ++ rest)
     × AskStep old asked given answered between × Session between asks rest replies new
 
--- The replies where memory is never wanting and the keeper never fails. Where the moments run out, nothing more is answered.
+-- The replies where memory is never wanting and the keeper never fails. Where the moments run out, nothing more is
+-- answered.
 abbrev pub replies_to : OfficeState → List Asked → List ℤ → List Reply
 replies_to office [] moments = []
 replies_to office (Refuse refusal ∷ asks) moments = Words refusal ∷ replies_to office asks moments

@@ -40,7 +40,8 @@ abbrev pub item_changes : Table → Sitting → List Readied → List Change
 item_changes table sitting [] = []
 item_changes table sitting (item ∷ items) =
     let given = verdict table sitting item in
-    changes_by table sitting.issuer given item ++ item_changes (put_all (writes_of given item) table) sitting items
+    changes_by table sitting.issuer given item
+    ++ item_changes (put_all (writes_of given item) table) sitting items
 
 -- the changes that an entry makes: those of its items where it is an upload, and none else
 abbrev pub entry_changes : Limits → Table → KeptEntry → List Change
@@ -83,4 +84,5 @@ ChangesArePermitted office = All IsPermitted (changes office)
 
 -- the records of the register are what its changes make, from none: no record comes or changes by anything else
 abbrev pub ChangesMakeRecords : OfficeState → Type 0
-ChangesMakeRecords office = (after office.limits office.history).records ≡ fold changed no_rows.records (changes office)
+ChangesMakeRecords office = (after office.limits office.history).records
+    ≡ fold changed no_rows.records (changes office)

@@ -100,16 +100,18 @@ published_by limits before e = if is_publication e then publication_by limits be
 -- what the rest of a history publishes behind the entries before it
 abbrev pub trail_behind : Limits → History → History → Trail
 trail_behind limits before [] = []
-trail_behind limits before (e ∷ rest) = published_by limits before e ++ trail_behind limits (before ++ e ∷ []) rest
+trail_behind limits before (e ∷ rest) = published_by limits before e
+    ++ trail_behind limits (before ++ e ∷ []) rest
 
 -- the publications of a history, the first of which has the number 1
 unfoldable pub trail : OfficeState → Trail
 trail office = trail_behind office.limits [] office.history
 
--- A publication counts a key as touched exactly if an item of that key was accepted between the publication before it and
--- its own entry.
+-- A publication counts a key as touched exactly if an item of that key was accepted between the publication before it
+-- and its own entry.
 abbrev pub TouchedKeysWereAccepted : OfficeState → Type 0
 TouchedKeysWereAccepted office =
-    (before rest : History) (e : KeptEntry) (sheet : Sheet) (k : KeyTexts) → office.history ≡ before ++ e ∷ rest
+    (before rest : History) (e : KeptEntry) (sheet : Sheet) (k : KeyTexts)
+    → office.history ≡ before ++ e ∷ rest
     → is_among k ((publication_by office.limits before e).touched sheet)
     ≡ is_among k (keys_accepted_since (last_published before) office.limits [] before sheet)

@@ -15,20 +15,21 @@ use Rattle.register_words.specs.declared.limits.Limits.{Limits}
 use Rattle.register_history.specs.Publications.{is_annulled, last_published}
 use Rattle.register_history.specs.Register.{held_after}
 
--- the row that is published of what is held under a key: none where nothing is, nor of a relationship whose registration
--- is annulled
+-- the row that is published of what is held under a key: none where nothing is, nor of a relationship whose
+-- registration is annulled
 abbrev pub row_published : Option Item → Option SheetRow
 row_published None = None
 row_published (Some (Item.Record row)) = Some (row_of Sheet.Lei row)
-row_published (Some (Item.Relation row)) = if is_annulled (registration_in row) then None else Some (row_of Sheet.Rr row)
+row_published (Some (Item.Relation row)) = if is_annulled (registration_in row) then None else Some
+    (row_of Sheet.Rr row)
 row_published (Some (Item.Exception item)) = Some (row_of Sheet.Repex item.0)
 
 -- a touched key, with the row that is published under it
 abbrev pub change_of : Touched → RowKey × Option SheetRow
 change_of told = (told.key, row_published told.item)
 
--- These are the keys that entries touched last whose numbers are greater than one number and at most another, in the order
--- of the register's cells, each with the row that is published of it, or with none.
+-- These are the keys that entries touched last whose numbers are greater than one number and at most another, in the
+-- order of the register's cells, each with the row that is published of it, or with none.
 pub record AreChangesSince (after upto : ℕ) (held : Held) (changes : Changes) : Type 0 where
   pub told : List Touched
   pub touched : map shown told ≡ touched after upto held

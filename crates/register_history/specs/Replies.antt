@@ -100,8 +100,11 @@ taken_upload office call moment raws =
 
 -- how many rows of each sheet are published of a table: records, relationships and exceptions
 abbrev pub published_counts : Table → ℕ × ℕ × ℕ
-published_counts table =
-    (length (published_rows table Sheet.Lei), length (published_rows table Sheet.Rr), length (published_rows table Sheet.Repex))
+published_counts table = (
+  length (published_rows table Sheet.Lei),
+  length (published_rows table Sheet.Rr),
+  length (published_rows table Sheet.Repex),
+)
 
 -- a publication is an entry of kind 3, without an office and a body, with the number that was asked for
 abbrev pub publication_entry : OfficeState → ℕ → ℤ → KeptEntry
@@ -310,8 +313,8 @@ abbrev pub IsAddition : Outcome → Type 0
 IsAddition (stays reply) = ⊥
 IsAddition (adds e) = Unit {0}
 
--- The request's reply, and the office after it. Where the reply takes memory, its want may be answered in its place, and
--- where an entry would be added, that it couldn't be kept; then nothing changes.
+-- The request's reply, and the office after it. Where the reply takes memory, its want may be answered in its place,
+-- and where an entry would be added, that it couldn't be kept; then nothing changes.
 abbrev pub StepOf : Request → Outcome → OfficeState → Reply → OfficeState → Type 0
 StepOf request outcome old answered new = ((answered ≡ reply_of outcome) × (new ≡ next_of old outcome))
     ⊎ ((answered ≡ Words NoMemory) × (new ≡ old) × IsTrue (takes_memory request (reply_of outcome)))

@@ -52,7 +52,8 @@ pub fn registers_are_sound()
 
 /// In a register that can come about each successor that a record names is held, and each chain of successors ends.
 pub fn successors_are_chained()
-    ensures { (office : OfficeState) → Legal office → SuccessorChainsEnd (after office.limits office.history) }
+    ensures { (office : OfficeState) → Legal office
+        → SuccessorChainsEnd (after office.limits office.history) }
 {}
 
 /// In a register that can come about each chain of direct parents ends. For one start and type at most one relationship
@@ -102,14 +103,14 @@ pub fn damage_is_one()
     ensures { (limits : Limits) (tables : KeptTables) → DamageIsOne limits tables }
 {}
 
-/// The publications of a history that can come about are a sound trail: the rows of each stand in the order of their keys,
-/// and under a key that no entry touched since the one before stands the same row, or none as there.
+/// The publications of a history that can come about are a sound trail: the rows of each stand in the order of their
+/// keys, and under a key that no entry touched since the one before stands the same row, or none as there.
 pub fn publications_are_a_sound_trail()
     ensures { (office : OfficeState) → Legal office → IsSoundTrail (trail office) }
 {}
 
-/// A publication of a history that can come about counts a key as touched exactly if an item of that key was accepted after
-/// the publication before it.
+/// A publication of a history that can come about counts a key as touched exactly if an item of that key was accepted
+/// after the publication before it.
 pub fn touched_keys_were_accepted()
     ensures { (office : OfficeState) → Legal office → TouchedKeysWereAccepted office }
 {}
@@ -119,7 +120,8 @@ pub fn kept_tables_are_one()
     ensures { (office : OfficeState) → TablesAreOne office }
 {}
 
-/// Where neither want of memory nor a fault of the keeper is answered, the replies are those that the requests and their moments determine.
+/// Where neither want of memory nor a fault of the keeper is answered, the replies are those that the requests and
+/// their moments determine.
 pub fn sessions_are_exact()
     ensures { (old new : OfficeState) (asks : List Asked) (moments : List ℤ) (replies : List Reply) →
         Session old asks moments replies new → ¬ (Contains replies (Words NoMemory))

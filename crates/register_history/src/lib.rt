@@ -1,5 +1,5 @@
-//! Histories: what is answered to a request over one, what it adds, and the register that its entries leave. Laws hold of
-//! each history that can come about.
+//! Histories: what is answered to a request over one, what it adds, and the register that its entries leave. Laws hold
+//! of each history that can come about.
 #![tactic(auto)]
 
 mod damage;

@@ -29,7 +29,8 @@ c05 item = fails_if (not (entity_fits (status_in item) (entity_status_in item)))
 -- C06 fails where LastUpdateDate or NextRenewalDate is before InitialRegistrationDate.
 abbrev pub c06 : Row → Finding
 c06 item =
-    fails_if (int_lt (updated_in item) (initial_in item) || int_lt (renewal_in item) (initial_in item)) 6 Detail.None
+    fails_if (int_lt (updated_in item) (initial_in item) || int_lt (renewal_in item)
+    (initial_in item)) 6 Detail.None
 
 -- The moment's day is after today.
 abbrev pub is_after : ℤ → ℤ → Bool
@@ -38,11 +39,13 @@ is_after today seconds = int_lt today (day_of seconds)
 -- C07 fails where the day of LastUpdateDate or of EntityCreationDate is after today.
 abbrev pub c07 : ℤ → Row → Finding
 c07 today item =
-    fails_if (is_after today (updated_in item) || option_map_or (is_after today) (created_in item) false) 7 Detail.None
+    fails_if (is_after today (updated_in item) || option_map_or (is_after today) (created_in item)
+    false) 7 Detail.None
 
 -- A successor stands on another status than RETIRED and DUPLICATE, or none stands on DUPLICATE.
 abbrev pub misfits : RecordStatus → Bool → Bool
-misfits status stands = (stands && not (is_retired status || is_duplicate status)) || (not stands && is_duplicate status)
+misfits status stands = (stands && not (is_retired status || is_duplicate status)) ||
+    (not stands && is_duplicate status)
 
 -- C08 fails where the successor, or that there is none, doesn't fit the status.
 abbrev pub c08 : Row → Finding
@@ -72,8 +75,8 @@ is_another held issuer (Some Party.New) = false
 is_another held issuer (Some Party.Manager) = not (bytes_eq held.manager issuer)
 is_another held issuer (Some Party.Receiver) = not (option_map_or (bytes_eq issuer) held.transfer_to false)
 
--- C12 fails where one is held, the pair is permitted to its manager (its receiver), and its ManagingLOU (its TransferTo)
--- isn't the issuer that uploads the item.
+-- C12 fails where one is held, the pair is permitted to its manager (its receiver), and its ManagingLOU (its
+-- TransferTo) isn't the issuer that uploads the item.
 abbrev pub c12 : Option RecCell → Lei → Row → Finding
 c12 None issuer item = fails_if false 12 Detail.None
 c12 (Some held) issuer item =
@@ -91,7 +94,8 @@ c14 (Some held) item = fails_if (int_lt (updated_in item) held.updated) 14 Detai
 
 -- C15 fails where the rule on renewal is broken.
 abbrev pub c15 : ℤ → Row → Finding
-c15 today item = fails_if (not (renewal_fits (status_in item) (day_of (renewal_in item)) today)) 15 Detail.None
+c15 today item = fails_if
+    (not (renewal_fits (status_in item) (day_of (renewal_in item)) today)) 15 Detail.None
 
 -- ---- the successor of an item that has one
 
@@ -121,7 +125,8 @@ c20 held full = fails_if (is_none held && full) 20 Detail.None
 
 -- The checks of the item alone and of the issuer that uploads it: C05 to C09.
 abbrev pub own_checks : Sitting → Row → List Finding
-own_checks sitting item = c05 item ∷ c06 item ∷ c07 sitting.today item ∷ c08 item ∷ c09 sitting.issuer item ∷ []
+own_checks sitting item = c05 item ∷ c06 item ∷ c07 sitting.today item ∷ c08 item
+    ∷ c09 sitting.issuer item ∷ []
 
 -- The checks beside the record that is held under the item's LEI: C10 to C15.
 abbrev pub held_checks : Option RecCell → Sitting → Row → List Finding
@@ -134,17 +139,20 @@ held_checks held sitting item =
 abbrev pub successor_checks : Rules → Table → Row → Option Lei → List Finding
 successor_checks rules table item None = []
 successor_checks Rules.First table item (Some successor) =
-    c16 (record_of table successor) ∷ c17 (successor_of table) item successor ∷ c18 (successor_of table) successor ∷ []
+    c16 (record_of table successor) ∷ c17 (successor_of table) item successor
+    ∷ c18 (successor_of table) successor ∷ []
 
 -- All checks before C20 of a record on a table, in a sitting.
 abbrev pub earlier_checks : Table → Sitting → Row → List Finding
 earlier_checks table sitting item =
     own_checks sitting item ++ held_checks (record_of table (lei_in item)) sitting item
-    ++ successor_checks sitting.rules table item (successor_in item) ++ c19 (other_holder table item) item ∷ []
+    ++ successor_checks sitting.rules table item (successor_in item)
+    ++ c19 (other_holder table item) item ∷ []
 
 -- C20 of a record on a table.
 abbrev pub limit_check : Table → Sitting → Row → Finding
-limit_check table sitting item = c20 (record_of table (lei_in item)) (is_at_limit sitting (record_count table))
+limit_check table sitting item = c20 (record_of table (lei_in item))
+    (is_at_limit sitting (record_count table))
 
 -- All checks of a record on a table, in a sitting.
 abbrev pub record_checks : Table → Sitting → Row → List Finding

@@ -34,7 +34,8 @@ key_cell (Some key) = CellKey.Key key.0 key.1
 abbrev pub check_key : Cells → Row → Checked
 check_key cells item =
     if is_live item
-    then on_seen (taken cells item) (key_cell (akey item)) (λ other. checked_of (first_failing (c19 other item ∷ [])))
+    then on_seen (taken cells item) (key_cell (akey item))
+    (λ other. checked_of (first_failing (c19 other item ∷ [])))
     else Checked.Passes
 
 -- C16 to C19, with the record of the successor.
@@ -59,7 +60,8 @@ check_with_held cells sitting item held =
 unfoldable pub check_record : Cells → Sitting → Row → Checked
 check_record cells sitting item =
     unless_failed (first_failing (own_checks sitting item))
-    (on_seen (cells.record_cell (lei_in item)) (CellKey.Rec (lei_in item)) (check_with_held cells sitting item))
+    (on_seen (cells.record_cell (lei_in item)) (CellKey.Rec (lei_in item))
+    (check_with_held cells sitting item))
 
 -- ---- an item
 
@@ -73,7 +75,8 @@ acceptance = record { verdict = Verdict.Accepted; new = false }
 
 -- A record came to C20: it fails or not, and the record is new where none is held.
 abbrev pub judge_room : Option RecCell → Bool → ItemOutcome
-judge_room held full = record { verdict = verdict_of (first_failing (c20 held full ∷ [])); new = is_none held }
+judge_room held full = record
+    { verdict = verdict_of (first_failing (c20 held full ∷ [])); new = is_none held }
 
 -- What comes of an item by what its checks come to, and by what comes of it where they pass.
 abbrev pub outcome_by : Checked → ItemOutcome → Result ItemOutcome CellKey
@@ -90,7 +93,8 @@ value_seen Seen.Missing = None
 -- What comes of a record: C20 is asked last, with the record that is held under its LEI.
 abbrev pub judge_record : Cells → Bool → Sitting → Row → Result ItemOutcome CellKey
 judge_record cells full sitting item =
-    outcome_by (check_record cells sitting item) (judge_room (value_seen (cells.record_cell (lei_in item))) full)
+    outcome_by (check_record cells sitting item)
+    (judge_room (value_seen (cells.record_cell (lei_in item))) full)
 
 -- What comes of an item in a sitting, where a further record fits or not.
 abbrev pub judge_item : Cells → Bool → Sitting → Readied → Result ItemOutcome CellKey

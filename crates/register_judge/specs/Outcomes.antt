@@ -11,7 +11,8 @@ use Rattle.register_judge.specs.Judging.{Judgement}
 use Rattle.register_judge.specs.Taking.{Taken}
 
 -- The outcome has exactly these verdicts, writes and number of new records, and no reads.
-pub record Shows (outcome : Outcome) (verdicts : List Verdict) (writes : List (RowKey × Option Item)) (new_records : ℕ)
+pub record Shows (outcome : Outcome) (verdicts : List Verdict) (writes : List (RowKey × Option Item))
+    (new_records : ℕ)
     : Type 0 where
   pub verdicts_are : outcome.verdicts ≡ verdicts
   pub writes_are : outcome.writes ≡ writes

@@ -26,13 +26,14 @@ use Rattle.register_judge.specs.declared.overlay.Overlay.{Overlay}
 
 -- ---- the cells after one write
 
--- The cells after a record was put: its own cell is the record's, a key that it holds is its own, and nobody holds a key
--- any longer that only it held.
+-- The cells after a record was put: its own cell is the record's, a key that it holds is its own, and nobody holds a
+-- key any longer that only it held.
 abbrev pub put_record : Cells → Row → Cells
 put_record cells row = record cells {
   record_cell = λ lei. if bytes_eq lei (lei_in row) then Seen.Held (rec_cell row) else cells.record_cell lei;
   holder = λ authority id.
-      if holds authority id row then Seen.Held (lei_in row) else unless_own (lei_in row) (cells.holder authority id);
+      if holds authority id row then Seen.Held (lei_in row) else unless_own (lei_in row)
+      (cells.holder authority id);
 }
 
 -- The relationship has this start, this type and this end.
@@ -44,8 +45,8 @@ is_between start kind end row = is_from start kind row && bytes_eq (end_in row) 
 abbrev pub with_active : Row → Seen Lei → Seen Lei
 with_active row held = if is_active row then Seen.Held (end_in row) else unless_own (end_in row) held
 
--- The cells after a relationship was put: its own cell is the relationship's, and so is that of its start and type where
--- it is active. Where it isn't, nothing is active there any longer of which it takes the place.
+-- The cells after a relationship was put: its own cell is the relationship's, and so is that of its start and type
+-- where it is active. Where it isn't, nothing is active there any longer of which it takes the place.
 abbrev pub put_relation : Cells → Row → Cells
 put_relation cells row = record cells {
   relation = λ start kind end.
@@ -58,7 +59,8 @@ put_relation cells row = record cells {
 abbrev pub put_exception : Cells → Lei → ExceptionCategory → Bool → Cells
 put_exception cells lei category stands = record cells {
   exception = λ own other.
-      if bytes_eq lei own && is_same_category category other then seen_fact stands else cells.exception own other;
+      if bytes_eq lei own && is_same_category category other then seen_fact stands else
+      cells.exception own other;
 }
 
 -- The cells after a write. A record and a relationship are never withdrawn.
@@ -135,7 +137,8 @@ Relations = BTreeMap (Lei × Bor Text × Lei) (Bor Row)
 -- The accepted relationship of a start, a type and an end.
 abbrev pub relation_at : Relations → Lei → RelationType → Lei → Option Row
 relation_at relations start kind end = option_copied (get_by (λ key.
-    ordering_then (ordering_then (slice_cmp nat_cmp start key.0) (slice_cmp nat_cmp (relation_type_text kind) key.1.now))
+    ordering_then (ordering_then (slice_cmp nat_cmp start key.0)
+    (slice_cmp nat_cmp (relation_type_text kind) key.1.now))
     (slice_cmp nat_cmp end key.2)) relations)
 
 -- What a map by an LEI and a text has for these.
@@ -196,8 +199,10 @@ with_exception (Some stands) below = seen_fact stands
 abbrev pub overlaid : Cells → Records → Takers → Relations → Ends → Standing → Cells
 overlaid below records takers relations ends standing = record {
   record_cell = λ lei. with_record (record_at records lei) (below.record_cell lei);
-  holder = λ authority id. with_taker records authority id (taker_at takers authority id) (below.holder authority id);
-  relation = λ start kind end. with_relation (relation_at relations start kind end) (below.relation start kind end);
+  holder = λ authority id. with_taker records authority id (taker_at takers authority id)
+      (below.holder authority id);
+  relation = λ start kind end. with_relation (relation_at relations start kind end)
+      (below.relation start kind end);
   active = λ start kind. with_end relations start kind (end_at ends start kind) (below.active start kind);
   exception = λ lei category. with_exception (stands_at standing lei category) (below.exception lei category);
 }
@@ -205,4 +210,5 @@ overlaid below records takers relations ends standing = record {
 -- The cells of a view with accepted items over it.
 abbrev pub cells_in : {V : Type 0} → (V → Cells) → Overlay V → Cells
 cells_in cells overlay =
-    overlaid (cells overlay.view.now) overlay.records overlay.takers overlay.relations overlay.ends overlay.standing
+    overlaid (cells overlay.view.now) overlay.records overlay.takers overlay.relations overlay.ends
+    overlay.standing

@@ -17,7 +17,8 @@ abbrev pub verdict_of : Option FailedCheck → Verdict
 verdict_of None = Verdict.Accepted
 verdict_of (Some check) = Verdict.Rejected check
 
--- The checks of an item on a table, in a sitting: C05 to C20 of a record, C30 to C40 of a relationship, C50 to C53 of an exception.
+-- The checks of an item on a table, in a sitting: C05 to C20 of a record, C30 to C40 of a relationship, C50 to C53 of
+-- an exception.
 abbrev pub item_checks : Table → Sitting → Item → List Finding
 item_checks table sitting (Item.Record row) = record_checks table sitting row
 item_checks table sitting (Item.Relation row) = relation_checks table sitting.issuer row
@@ -46,8 +47,8 @@ is_new_record table sitting (Readied.Good (Item.Record item)) =
     is_none (record_of table (lei_in item)) && is_none (first_failing (earlier_checks table sitting item))
 is_new_record table sitting item = false
 
--- What came of items: the table behind them, a verdict for each, what the accepted ones wrote, and how many of them were
--- new.
+-- What came of items: the table behind them, a verdict for each, what the accepted ones wrote, and how many of them
+-- were new.
 pub record Taken : Type 0 where
   pub table : Table
   pub verdicts : List Verdict

@@ -144,8 +144,10 @@ fn add(progress: &mut Progress, judged: ItemOutcome) -> Result<(), NoMemory>
     ensures verdicts { OnOk result
         (progress.new.verdicts.items ≡ progress.old.verdicts.items ++ judged.verdict ∷ []) }
     ensures writes { progress.new.writes ≡ progress.old.writes }
-    ensures new_records { progress.new.new_records ≡ progress.old.new_records + (if judged.new then 1 else 0) }
-    ensures added { progress.new.added ≡ progress.old.added + Judging.records_added judged.verdict judged.new }
+    ensures new_records { progress.new.new_records
+        ≡ progress.old.new_records + (if judged.new then 1 else 0) }
+    ensures added { progress.new.added
+        ≡ progress.old.added + Judging.records_added judged.verdict judged.new }
 {
     progress.added += records_added(&judged.verdict, judged.new);
     progress.new_records += u32::from(judged.new);

@@ -25,8 +25,8 @@ pub fn writes_make_the_table()
         → (take table sitting items).table ≡ put_all (take table sitting items).writes table }
 {}
 
-/// Where each successor that a table's records name is held and each chain ends, this still holds after a record was put
-/// that passes the checks of its successor.
+/// Where each successor that a table's records name is held and each chain ends, this still holds after a record was
+/// put that passes the checks of its successor.
 pub fn accepted_successors_keep_chains()
     ensures { (rules : Rules) (table : Table) (row : Row) → SuccessorChainsEnd table
         → first_failing (successor_checks rules table row (successor_in row)) ≡ None
@@ -42,7 +42,8 @@ pub fn items_keep_chains()
 /// Items leave each chain of direct parents of a sound table with an end.
 pub fn items_keep_parents()
     ensures { (table : Table) (sitting : Sitting) (items : List Readied)
-        → IsSound table → ParentChainsEnd table → HaveRows items → ParentChainsEnd (take table sitting items).table }
+        → IsSound table → ParentChainsEnd table → HaveRows items
+        → ParentChainsEnd (take table sitting items).table }
 {}
 
 /// They leave no active parent of a sound table beside the exception of its category.

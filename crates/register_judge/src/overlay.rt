@@ -159,7 +159,8 @@ impl<'a, V: View> Overlay<'a, V> {
 
     // The record that took a key, if it still holds it.
     fn if_held(&self, authority: &str, id: &str, lei: Lei) -> Seen<Lei>
-        ensures { result ≡ (if Overlays.row_holds authority.now id.now (Overlays.record_at self.now.records lei)
+        ensures { result ≡ (if Overlays.row_holds authority.now id.now
+            (Overlays.record_at self.now.records lei)
             then Seen.Held lei else Seen.Empty) }
     {
         match self.accepted(&lei) {
@@ -198,7 +199,8 @@ impl<'a, V: View> Overlay<'a, V> {
 
     // The end of the relationship that was put as an active one last, if it still is one.
     fn if_active(&self, start: &Lei, kind: RelationType, end: Lei) -> Seen<Lei>
-        ensures { result ≡ (if Overlays.is_active_row (Overlays.relation_at self.now.relations start.now kind end)
+        ensures { result ≡ (if Overlays.is_active_row
+            (Overlays.relation_at self.now.relations start.now kind end)
             then Seen.Held end else Seen.Empty) }
     {
         match self.accepted_relation(start, kind, &end) {
@@ -242,7 +244,8 @@ fn insert<'a>(
     lei: Lei,
 ) -> Result<(), NoMemory>
     ensures { OnOk result ((a i : List ℕ) → Overlays.taker_at takers.new a i
-        ≡ (if bytes_eq authority.now a && bytes_eq id.now i then Some lei else Overlays.taker_at takers.old a i)) }
+        ≡ (if bytes_eq authority.now a && bytes_eq id.now i then Some lei else Overlays.taker_at
+        takers.old a i)) }
 {
     match takers.get_mut(authority) {
         Some(ids) => insert_id(ids, id, lei),
@@ -260,7 +263,8 @@ fn insert_first<'a>(
 ) -> Result<(), NoMemory>
     requires { Overlays.ids_at takers.old authority.now ≡ None }
     ensures { OnOk result ((a i : List ℕ) → Overlays.taker_at takers.new a i
-        ≡ (if bytes_eq authority.now a && bytes_eq id.now i then Some lei else Overlays.taker_at takers.old a i)) }
+        ≡ (if bytes_eq authority.now a && bytes_eq id.now i then Some lei else Overlays.taker_at
+        takers.old a i)) }
 {
     let mut ids = BTreeMap::new(alloc);
     insert_id(&mut ids, id, lei)?;
@@ -322,8 +326,10 @@ fn insert_relation<'a>(relations: &mut Relations<'a>, item: &'a Relation) -> Res
 
 // Notes whether an exception stands behind this item.
 fn insert_standing(standing: &mut Standing, item: &ExceptionItem) -> Result<(), NoMemory>
-    ensures { OnOk result ((lei : List ℕ) (category : ExceptionCategory) → Overlays.stands_at standing.new lei category
-        ≡ (if bytes_eq (subject_in item.now.0) lei && is_same_category (exception_category_in item.now.0) category
+    ensures { OnOk result ((lei : List ℕ) (category : ExceptionCategory)
+        → Overlays.stands_at standing.new lei category
+        ≡ (if bytes_eq (subject_in item.now.0) lei && is_same_category
+        (exception_category_in item.now.0) category
         then Some (not item.now.1) else Overlays.stands_at standing.old lei category)) }
 {
     match standing.insert((item.lei(), item.category().text()), !item.withdraws()) {

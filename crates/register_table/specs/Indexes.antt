@@ -16,7 +16,8 @@ use Rattle.register_table.specs.declared.authority_key_index.AuthorityKeyIndex.{
 -- What stands under an authority key: the LEI that was noted there last, or none once the key was freed. A key has
 -- nothing under it where none was ever noted, or where it was dropped.
 abbrev pub noted_holder : AuthorityKeyIndex → Text → Text → Option (Option Lei)
-noted_holder holders authority id = option_and_then (λ ids. get_by_text ids id) (get_by_text holders.map authority)
+noted_holder holders authority id = option_and_then (λ ids. get_by_text ids id)
+    (get_by_text holders.map authority)
 
 -- The LEI under an authority key, where one stands there.
 abbrev pub holder_in : AuthorityKeyIndex → Text → Text → Option Lei

@@ -34,9 +34,12 @@ end_after (Some (Item.Relation row)) before start kind =
 end_after item before start kind = before start kind
 
 -- These are the indexes with an item noted.
-pub record AreNoted (item : Option Item) (holders : AuthorityKeyIndex) (ends : Ends) (newer : AuthorityKeyIndex) (later : Ends) : Type 0 where
-  pub by_key : (authority id : Text) → holder_in newer authority id ≡ holder_after item (holder_in holders) authority id
-  pub by_start : (start : Lei) (kind : RelationType) → end_in_index later start kind ≡ end_after item (end_in_index ends) start kind
+pub record AreNoted (item : Option Item) (holders : AuthorityKeyIndex) (ends : Ends)
+    (newer : AuthorityKeyIndex) (later : Ends) : Type 0 where
+  pub by_key : (authority id : Text)
+      → holder_in newer authority id ≡ holder_after item (holder_in holders) authority id
+  pub by_start : (start : Lei) (kind : RelationType)
+      → end_in_index later start kind ≡ end_after item (end_in_index ends) start kind
 
 -- An item has a key under which nothing was noted.
 abbrev pub IsNew : Option Item → AuthorityKeyIndex → Ends → Type 0
@@ -49,15 +52,18 @@ abbrev pub IsMarked : Marks → Option Item → Type 0
 IsMarked marks (Some (Item.Record row)) =
     (authority id : Text) → holds authority id row ≡ true → marks.by_key authority id ≡ true
 IsMarked marks (Some (Item.Relation row)) =
-    (start : Lei) (kind : RelationType) → is_active_of start kind row ≡ true → marks.by_start start kind ≡ true
+    (start : Lei) (kind : RelationType) → is_active_of start kind row ≡ true
+    → marks.by_start start kind ≡ true
 IsMarked marks item = ⊤
 
 -- Each key of an item that some have marked is marked by others, too.
 abbrev pub IsWithin : Marks → Marks → Option Item → Type 0
 IsWithin some others (Some (Item.Record row)) =
-    (authority id : Text) → holds authority id row ≡ true → some.by_key authority id ≡ true → others.by_key authority id ≡ true
+    (authority id : Text) → holds authority id row ≡ true → some.by_key authority id ≡ true
+    → others.by_key authority id ≡ true
 IsWithin some others (Some (Item.Relation row)) =
-    (start : Lei) (kind : RelationType) → is_active_of start kind row ≡ true → some.by_start start kind ≡ true → others.by_start start kind ≡ true
+    (start : Lei) (kind : RelationType) → is_active_of start kind row ≡ true → some.by_start start kind ≡ true
+    → others.by_start start kind ≡ true
 IsWithin some others item = ⊤
 
 -- The same of the item of a note, if it has one.
@@ -74,16 +80,19 @@ held_by table = record {
 -- What was marked still is.
 pub record Stays (before after : Marks) : Type 0 where
   pub by_key : (authority id : Text) → before.by_key authority id ≡ true → after.by_key authority id ≡ true
-  pub by_start : (start : Lei) (kind : RelationType) → before.by_start start kind ≡ true → after.by_start start kind ≡ true
+  pub by_start : (start : Lei) (kind : RelationType) → before.by_start start kind ≡ true
+      → after.by_start start kind ≡ true
 
 -- ---- indexes over a table
 
 -- Who holds an authority key is noted under it, and so is the end of an active relationship under its start and type.
 -- What else is noted is of no account.
-pub record AreIndexes (table : Table) (holders : Text → Text → Option Lei) (ends : Lei → RelationType → Option Lei) : Type 0 where
+pub record AreIndexes (table : Table) (holders : Text → Text → Option Lei)
+    (ends : Lei → RelationType → Option Lei) : Type 0 where
   pub by_key : (authority id : Text) (key : KeyTexts) (row : Row) → get table.records key ≡ Some row
       → holds authority id row ≡ true → holders authority id ≡ Some (lei_in row)
-  pub by_start : (start : Lei) (kind : RelationType) (key : KeyTexts) (row : Row) → get table.relations key ≡ Some row
+  pub by_start : (start : Lei) (kind : RelationType) (key : KeyTexts) (row : Row)
+      → get table.relations key ≡ Some row
       → is_active_of start kind row ≡ true → ends start kind ≡ Some (end_in row)
 
 -- The cells can be kept, and the indexes are theirs.

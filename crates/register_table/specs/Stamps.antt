@@ -25,4 +25,5 @@ HasStamp stamps entry key = NoneFrom 0 stamps entry key → ⊥
 
 -- Each cell has a stamp of its number and its key. There may be others.
 abbrev pub AreStamped : List Stamp → Held → Type 0
-AreStamped stamps held = (key : KeyTexts) (cell : Cell) → get held key ≡ Some cell → HasStamp stamps cell.entry key
+AreStamped stamps held = (key : KeyTexts) (cell : Cell) → get held key ≡ Some cell
+    → HasStamp stamps cell.entry key

@@ -112,7 +112,8 @@ impl AuthorityKeyIndex {
 
     fn note(&mut self, authority: &str, id: &str, lei: Lei) -> Result<(), NoMemory>
         ensures put { OnOk result ((a i : List ℕ) → noted_holder self.new a i
-            ≡ (if bytes_eq authority.now a && bytes_eq id.now i then Some (Some lei) else noted_holder self.old a i)) }
+            ≡ (if bytes_eq authority.now a && bytes_eq id.now i then Some (Some lei) else noted_holder
+            self.old a i)) }
         ensures err { OnErr result ((a i : List ℕ) → noted_holder self.new a i ≡ noted_holder self.old a i) }
         ensures absent { OnErr result (noted_holder self.old authority.now id.now ≡ None) }
     {
@@ -126,7 +127,8 @@ impl AuthorityKeyIndex {
     fn note_first(&mut self, authority: &str, id: &str, lei: Lei) -> Result<(), NoMemory>
         requires { get_by_text self.old.map authority.now ≡ None }
         ensures put { OnOk result ((a i : List ℕ) → noted_holder self.new a i
-            ≡ (if bytes_eq authority.now a && bytes_eq id.now i then Some (Some lei) else noted_holder self.old a i)) }
+            ≡ (if bytes_eq authority.now a && bytes_eq id.now i then Some (Some lei) else noted_holder
+            self.old a i)) }
         ensures err { OnErr result ((a i : List ℕ) → noted_holder self.new a i ≡ noted_holder self.old a i) }
     {
         let mut ids = BTreeMap::new(self.alloc);

@@ -102,7 +102,8 @@ impl CellMap {
     ) -> Result<LentSlots<'_>, NoMemory>
         requires { (key : KeyTexts) (cell : Cell) → get self.now key ≡ Some cell
             → is_touched after upto cell ≡ true → HasStamp stamps.now cell.entry key }
-        ensures found { IfOk result (λ slots. entries (held_in (unlent slots.entries)) ≡ touched after upto self.now) }
+        ensures found { IfOk result
+            (λ slots. entries (held_in (unlent slots.entries)) ≡ touched after upto self.now) }
         ensures own { IfOk result (λ slots. AreOwnCells (unlent slots.entries)) }
     {
         let mut slots = BTreeMap::new(alloc);

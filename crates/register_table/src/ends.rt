@@ -45,7 +45,8 @@ impl Ends {
             else end_in_index self.old start kind)) }
         ensures err { OnErr result ((start : List ℕ) (kind : RelationType) → end_in_index self.new start kind
             ≡ end_in_index self.old start kind) }
-        ensures stays { (start : List ℕ) (kind : RelationType) → is_some (noted_end self.old start kind) ≡ true
+        ensures stays { (start : List ℕ) (kind : RelationType)
+            → is_some (noted_end self.old start kind) ≡ true
             → is_some (noted_end self.new start kind) ≡ true }
         ensures absent { OnErr result (HasNewEnd relation.now self.old) }
     {

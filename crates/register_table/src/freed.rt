@@ -1,5 +1,5 @@
-// Keys of the indexes that writes freed. They stay until the next writes, so that those that freed them can be taken back
-// without memory, and are dropped then. Keys that writes took are dropped when these are taken back.
+// Keys of the indexes that writes freed. They stay until the next writes, so that those that freed them can be taken
+// back without memory, and are dropped then. Keys that writes took are dropped when these are taken back.
 ghost use Rattle.std.specs.Prelude.{◌≡◌, Some, map};
 ghost use Rattle.std.specs.List.{All, AllByRecursion};
 ghost use Rattle.lei_records.specs.declared.item.Item.{Item};
@@ -29,8 +29,8 @@ pub fn take_back(parts: &mut Parts, mut notes: Vec<Note>, before: &[Note])
     drop_freed(parts, notes.as_slice());
 }
 
-/// Leaves no LEI under the keys of the items of these notes, where nobody holds them any more. What stood anywhere still
-/// does, and no LEI comes anywhere.
+/// Leaves no LEI under the keys of the items of these notes, where nobody holds them any more. What stood anywhere
+/// still does, and no LEI comes anywhere.
 pub fn free_keys(parts: &mut Parts, notes: &[Note])
     requires { AreParts parts.old }
     ensures cells { parts.new.cells ≡ parts.old.cells }
@@ -78,7 +78,8 @@ fn free_key(parts: &mut Parts, record: &Record)
     ensures parts { AreParts parts.new }
     ensures noted { Stays (noted parts.old) (noted parts.new) }
     ensures fewer { Stays (taken parts.new) (taken parts.old) }
-    ensures left { IsWithin (taken parts.new) (held_by (rows parts.old.cells)) (Some (Item.Record record.now)) }
+    ensures left { IsWithin (taken parts.new) (held_by (rows parts.old.cells))
+        (Some (Item.Record record.now)) }
 {
     if let Some((authority, id)) = held_key(record) {
         if parts.holder(authority, id).is_none() {
@@ -93,7 +94,8 @@ fn free_start(parts: &mut Parts, relation: &Relation)
     ensures parts { AreParts parts.new }
     ensures noted { Stays (noted parts.old) (noted parts.new) }
     ensures fewer { Stays (taken parts.new) (taken parts.old) }
-    ensures left { IsWithin (taken parts.new) (held_by (rows parts.old.cells)) (Some (Item.Relation relation.now)) }
+    ensures left { IsWithin (taken parts.new) (held_by (rows parts.old.cells))
+        (Some (Item.Relation relation.now)) }
 {
     if relation.is_active() {
         let (start, kind) = (relation.start(), relation.kind());
@@ -103,8 +105,8 @@ fn free_start(parts: &mut Parts, relation: &Relation)
     }
 }
 
-/// Puts a LEI under each key of the items of these notes where none stands, so that it isn't dropped. Each LEI stays where
-/// it stood. The keys have their places, so it takes no memory.
+/// Puts a LEI under each key of the items of these notes where none stands, so that it isn't dropped. Each LEI stays
+/// where it stood. The keys have their places, so it takes no memory.
 fn hold_keys(parts: &mut Parts, notes: &[Note])
     requires parts { AreParts parts.old }
     requires places { AllByRecursion (IsNoteOf (noted parts.old)) notes.now }

@@ -21,7 +21,8 @@ pub struct TextKey {
 impl PartialEq for TextKey {
     ghost eq = { λ x y. eq_by_cmp key_cmp (cell_key x.key) (cell_key y.key) };
 
-    ghost laws = { Cmp.partial_equiv_from_equiv (eq_by_cmp_equiv (on_total (λ k. cell_key k.key) keys_total)) };
+    ghost laws = { Cmp.partial_equiv_from_equiv
+        (eq_by_cmp_equiv (on_total (λ k. cell_key k.key) keys_total)) };
 
     fn eq(&self, other: &Self) -> bool {
         self.cmp(other).is_eq()

@@ -25,7 +25,8 @@ impl Parts {
 
     /// The relationship of a start, a type and an end.
     pub fn relation(&self, start: &Lei, kind: RelationType, end: &Lei) -> Option<&Relation>
-        ensures { option_map (λ row. row.now) result ≡ relation_row (rows self.now.cells) start.now kind end.now }
+        ensures { option_map (λ row. row.now) result
+            ≡ relation_row (rows self.now.cells) start.now kind end.now }
     {
         match self.cells.get(&RowKey::Rel(*start, kind, *end)) {
             Some(slot) => relation_in(&slot.item),

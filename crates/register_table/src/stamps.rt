@@ -15,8 +15,8 @@ pub struct Stamp {
     pub key: RowKey,
 }
 
-/// Puts stamps of the writes of an entry behind those of earlier ones, for which there is room. Stamps of its number or a
-/// greater one are of writes that were taken back, and go.
+/// Puts stamps of the writes of an entry behind those of earlier ones, for which there is room. Stamps of its number or
+/// a greater one are of writes that were taken back, and go.
 pub fn stamp_writes(stamps: &mut Vec<Stamp>, writes: &[(RowKey, Option<Item>)], entry: u64)
     requires order { AreInOrder stamps.old.items }
     requires room { vec_len stamps.old + length writes.now ≤ vec_capacity stamps.old }

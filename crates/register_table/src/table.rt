@@ -52,7 +52,8 @@ impl Model for Table {
     ghost invariant = { λ table. AreParts table.parts
         × IfSome table.last (λ notes. CanBeUndone (noted table.parts) notes.items table.parts.cells)
         × AreInOrder table.stamps.items × AreStamped table.stamps.items table.parts.cells
-        × IfSome table.last (λ notes. AreStamped table.stamps.items (undone (map note_of notes.items) table.parts.cells)) };
+        × IfSome table.last (λ notes. AreStamped table.stamps.items
+        (undone (map note_of notes.items) table.parts.cells)) };
 }
 
 impl View for Table {
@@ -116,8 +117,8 @@ impl Table {
         })
     }
 
-    /// Puts writes of the entry of this number, from the first to the last. Each key that is written has the number then.
-    /// Where there is no memory, the table stays as it was, and so do the writes that can be taken back.
+    /// Puts writes of the entry of this number, from the first to the last. Each key that is written has the number
+    /// then. Where there is no memory, the table stays as it was, and so do the writes that can be taken back.
     pub fn apply(&mut self, writes: &Writes, entry: u64) -> Result<(), NoMemory>
         requires may { MayApply writes.now (rows self.old.held) }
         requires later { IsLater entry self.old.held }

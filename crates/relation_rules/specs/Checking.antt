@@ -43,7 +43,8 @@ on_seen (Seen.Held x) key next = next (Some x)
 on_seen Seen.Empty key next = next None
 on_seen Seen.Missing key next = Checked.Missing key
 
--- The check of the first number fails where a walk comes back to its start, and that of the second where it is too long.
+-- The check of the first number fails where a walk comes back to its start, and that of the second where it is too
+-- long.
 abbrev pub check_walked : ℕ → ℕ → Walked → Checked → Checked
 check_walked cycle long Walked.Meets next = failed cycle
 check_walked cycle long Walked.Long next = failed long
@@ -76,7 +77,8 @@ check_parents cells item =
 
 -- C37 to C40, with the other end of the active relationship of the item's start and type.
 abbrev pub check_other_end : Cells → Row → Option Lei → Checked
-check_other_end cells item other = unless_failed (first_failing (c37 other item ∷ [])) (check_parents cells item)
+check_other_end cells item other = unless_failed (first_failing (c37 other item ∷ []))
+    (check_parents cells item)
 
 -- The same, where the end isn't known yet: a relationship that isn't active asks for no further cell, and its own end
 -- isn't another one.
@@ -107,13 +109,15 @@ check_end cells issuer item start end =
 abbrev pub check_start : Cells → Lei → Row → Option RecCell → Checked
 check_start cells issuer item start =
     unless_failed (first_failing (c32 start ∷ []))
-    (on_seen (cells.record_cell (end_in item)) (CellKey.Rec (end_in item)) (check_end cells issuer item start))
+    (on_seen (cells.record_cell (end_in item)) (CellKey.Rec (end_in item))
+    (check_end cells issuer item start))
 
 -- What the checks C30 to C40 of a relationship that an issuer uploads come to over a view.
 unfoldable pub check_relation : Cells → Lei → Row → Checked
 check_relation cells issuer item =
     unless_failed (first_failing (c30 item ∷ c31 item ∷ []))
-    (on_seen (cells.record_cell (start_in item)) (CellKey.Rec (start_in item)) (check_start cells issuer item))
+    (on_seen (cells.record_cell (start_in item)) (CellKey.Rec (start_in item))
+    (check_start cells issuer item))
 
 -- ---- an exception
 
@@ -143,4 +147,5 @@ check_subject cells issuer item held =
 -- What the checks C50 to C53 of an exception that an issuer uploads come to over a view.
 unfoldable pub check_exception : Cells → Lei → Row × Bool → Checked
 check_exception cells issuer item =
-    on_seen (cells.record_cell (subject_in item.0)) (CellKey.Rec (subject_in item.0)) (check_subject cells issuer item)
+    on_seen (cells.record_cell (subject_in item.0)) (CellKey.Rec (subject_in item.0))
+    (check_subject cells issuer item)

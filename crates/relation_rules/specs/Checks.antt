@@ -48,7 +48,8 @@ is_managed_elsewhere issuer cell = not (bytes_eq cell.manager issuer)
 abbrev pub c34 : Option RecCell → Lei → Row → Finding
 c34 start issuer item =
     fails_if
-    (not (bytes_eq (relation_manager_in item) issuer) || option_map_or (is_managed_elsewhere issuer) start false)
+    (not (bytes_eq (relation_manager_in item) issuer) || option_map_or
+    (is_managed_elsewhere issuer) start false)
     34 Detail.None
 
 -- The category is BRANCH.
@@ -120,7 +121,8 @@ c39 next item = fails_if (is_direct_parent item && is_long next (end_in item)) 3
 
 -- The exception of the parents of the item's type stands for its start.
 abbrev pub has_own_exception : Table → Row → Bool
-has_own_exception table item = option_map_or (has_exception table (start_in item)) (parent_category (kind_in item)) false
+has_own_exception table item = option_map_or (has_exception table (start_in item))
+    (parent_category (kind_in item)) false
 
 -- C40 fails where the item is an ACTIVE parent, and the exception of its category stands for the start.
 abbrev pub c40 : Bool → Row → Finding
@@ -130,8 +132,10 @@ c40 stands item = fails_if (is_active item && stands) 40 Detail.None
 abbrev pub relation_checks : Table → Lei → Row → List Finding
 relation_checks table issuer item =
     let start = record_of table (start_in item) in
-    c30 item ∷ c31 item ∷ c32 start ∷ c33 (record_of table (end_in item)) ∷ c34 start issuer item ∷ c35 start item
-    ∷ c36 (relation_of table (start_in item) (kind_in item) (end_in item)) item ∷ c37 (other_end table item) item
+    c30 item ∷ c31 item ∷ c32 start ∷ c33 (record_of table (end_in item)) ∷ c34 start issuer item
+    ∷ c35 start item
+    ∷ c36 (relation_of table (start_in item) (kind_in item) (end_in item)) item
+    ∷ c37 (other_end table item) item
     ∷ c38 (parent_of table) item ∷ c39 (parent_of table) item ∷ c40 (has_own_exception table item) item ∷ []
 
 -- ---- an exception, as its row and whether it is a withdrawal

@@ -38,16 +38,19 @@ exception_keys lei (Some category) = CellKey.Exc lei category ∷ []
 -- its start and type, and the exception in the place of such a parent.
 abbrev pub relation_names : Row → List CellKey
 relation_names item =
-    (CellKey.Rec (start_in item) ∷ CellKey.Rec (end_in item) ∷ CellKey.Rel (start_in item) (kind_in item) (end_in item)
-    ∷ CellKey.Act (start_in item) (kind_in item) ∷ []) ++ exception_keys (start_in item) (parent_category (kind_in item))
+    (CellKey.Rec (start_in item) ∷ CellKey.Rec (end_in item)
+    ∷ CellKey.Rel (start_in item) (kind_in item) (end_in item)
+    ∷ CellKey.Act (start_in item) (kind_in item) ∷ [])
+    ++ exception_keys (start_in item) (parent_category (kind_in item))
 
--- The relationship is an active direct parent, and the cell is that of the direct parent of one of the first 200 members
--- of its walk, as far as the view knows it.
+-- The relationship is an active direct parent, and the cell is that of the direct parent of one of the first 200
+-- members of its walk, as far as the view knows it.
 pub record IsOfWalk (cells : Cells) (item : Row) (key : CellKey) : Type 0 where
   pub direct : IsTrue (is_direct_parent item)
   pub member : Lei
   pub stands :
-      Contains (members 200 (known (λ lei. cells.active lei RelationType.IsDirectlyConsolidatedBy)) (end_in item)) member
+      Contains (members 200 (known (λ lei. cells.active lei RelationType.IsDirectlyConsolidatedBy))
+      (end_in item)) member
   pub is : key ≡ CellKey.Act member RelationType.IsDirectlyConsolidatedBy
 
 -- A relationship needs a cell: it names it, or the cell is of its walk.

@@ -2,8 +2,8 @@
 use Rattle.std.specs.Prelude.{Bool, true, false, Option, Some, None}
 use Rattle.lei_shapes.specs.declared.lists.RelationRegistration.{RelationRegistration}
 
--- A row of the table of statuses has a column for each status that an item may have: ISSUED, PUBLISHED, LAPSED, RETIRED,
--- ANNULLED.
+-- A row of the table of statuses has a column for each status that an item may have: ISSUED, PUBLISHED, LAPSED,
+-- RETIRED, ANNULLED.
 abbrev pub Columns : Type 0
 Columns = Bool × Bool × Bool × Bool × Bool
 

@@ -19,15 +19,16 @@ use lei_records::{CellKey, ExceptionItem, RecCell, Seen, View};
 use lei_shapes::{ExceptionCategory, RelationType};
 
 /// The checks C50 to C53 of an exception, or of its withdrawal, that an issuer uploads, beside what the view answers:
-/// the first that fails. `Missing` where none fails before one that asks for a cell that the view lacks, with the key of
-/// the first such cell: the record of its LEI, and then the active parent of its category with a put, and the
+/// the first that fails. `Missing` where none fails before one that asks for a cell that the view lacks, with the key
+/// of the first such cell: the record of its LEI, and then the active parent of its category with a put, and the
 /// exception itself with a withdrawal.
 pub fn exception_check<V: View>(view: &V, issuer: &Lei, item: &ExceptionItem) -> Checked
     ensures answers { result ≡ Checking.check_exception (V.cells view.now) issuer.now item.now }
 
     // A cell that is told missing is one that the view lacks and the item names.
     ensures lacking { (key : CellKey) → result ≡ Checked.Missing key → IsTrue (lacks (V.cells view.now) key) }
-    ensures named { (key : CellKey) → result ≡ Checked.Missing key → Contains (exception_names item.now.0) key }
+    ensures named { (key : CellKey) → result ≡ Checked.Missing key
+        → Contains (exception_names item.now.0) key }
 
     // Over the cells of a sound table: the first that fails of all checks, each asked over all rows.
     ensures over_tables { (table : Table) → IsSound table → V.cells view.now ≡ cells_of table

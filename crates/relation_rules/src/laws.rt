@@ -25,12 +25,14 @@ pub fn exceptions_keep_tables_sound()
 /// A relationship that passes its checks on a sound table leaves each chain of direct parents with an end.
 pub fn accepted_relations_keep_parents()
     ensures { (table : Table) (issuer : Lei) (row : Row) → IsSound table → ParentChainsEnd table
-        → first_failing (relation_checks table issuer row) ≡ None → ParentChainsEnd (put table (Item.Relation row)) }
+        → first_failing (relation_checks table issuer row) ≡ None
+        → ParentChainsEnd (put table (Item.Relation row)) }
 {}
 
 /// A record and an exception leave the chains of direct parents as they are, and a record the exceptions too.
 pub fn records_and_exceptions_keep_parents()
-    ensures records { (table : Table) (row : Row) → ParentChainsEnd table → ParentChainsEnd (put table (Item.Record row)) }
+    ensures records { (table : Table) (row : Row) → ParentChainsEnd table
+        → ParentChainsEnd (put table (Item.Record row)) }
     ensures apart { (table : Table) (row : Row) → AreApart table → AreApart (put table (Item.Record row)) }
     ensures exceptions { (table : Table) (item : Row × Bool)
         → ParentChainsEnd table → ParentChainsEnd (put table (Item.Exception item)) }
@@ -41,5 +43,6 @@ pub fn accepted_items_keep_apart()
     ensures relations { (table : Table) (issuer : Lei) (row : Row) → IsSound table → AreApart table
         → first_failing (relation_checks table issuer row) ≡ None → AreApart (put table (Item.Relation row)) }
     ensures exceptions { (table : Table) (issuer : Lei) (item : Row × Bool) → AreApart table
-        → first_failing (exception_checks table issuer item) ≡ None → AreApart (put table (Item.Exception item)) }
+        → first_failing (exception_checks table issuer item) ≡ None
+        → AreApart (put table (Item.Exception item)) }
 {}

@@ -52,7 +52,8 @@ struct DirectParents<'a, V> {
 }
 
 impl<'a, V: View> Chain for DirectParents<'a, V> {
-    ghost answers = { λ parents lei. (V.cells parents.view.now).active lei RelationType.IsDirectlyConsolidatedBy };
+    ghost answers = { λ parents lei. (V.cells parents.view.now).active lei
+        RelationType.IsDirectlyConsolidatedBy };
 
     ghost cell = { λ parents lei. CellKey.Act lei RelationType.IsDirectlyConsolidatedBy };
 
@@ -66,7 +67,8 @@ impl<'a, V: View> Chain for DirectParents<'a, V> {
     }
 }
 
-// The walk of an entity whose LEI is `start`: it begins at its parent `first`, and goes on to the direct parent of each.
+// The walk of an entity whose LEI is `start`: it begins at its parent `first`, and goes on to the direct parent of
+// each.
 pub fn walk<V: View>(view: &V, start: &Lei, first: &Lei) -> Walked
     ensures { result ≡ Checking.walk_parents (V.cells view.now) start.now first.now }
 {

@@ -34,7 +34,8 @@ pub fn relation_check<V: View>(view: &V, issuer: &Lei, item: &Relation) -> Check
 
     // A cell that is told missing is one that the view lacks and the item needs.
     ensures lacking { (key : CellKey) → result ≡ Checked.Missing key → IsTrue (lacks (V.cells view.now) key) }
-    ensures needed { (key : CellKey) → result ≡ Checked.Missing key → IsNeeded (V.cells view.now) item.now key }
+    ensures needed { (key : CellKey) → result ≡ Checked.Missing key
+        → IsNeeded (V.cells view.now) item.now key }
 
     // Over the cells of a sound table: the first that fails of all checks, each asked over all rows.
     ensures over_tables { (table : Table) → IsSound table → V.cells view.now ≡ cells_of table
@@ -109,7 +110,8 @@ fn check_active<V: View>(view: &V, item: &Relation) -> Checked
 // C37 of an active item, with the end of the active relationship of its start and type, and the checks behind it.
 fn check_end<V: View>(view: &V, item: &Relation, end: Lei) -> Checked
     ensures { Relations.is_active item.now ≡ true
-        → (key : CellKey) → result ≡ Checking.on_seen (unless_own (Relations.end_in item.now) (Seen.Held end)) key
+        → (key : CellKey) → result
+        ≡ Checking.on_seen (unless_own (Relations.end_in item.now) (Seen.Held end)) key
         (Checking.check_other_end (V.cells view.now) item.now) }
 {
     if end != item.end() {
@@ -120,7 +122,8 @@ fn check_end<V: View>(view: &V, item: &Relation, end: Lei) -> Checked
 
 // From C38 on, of an active item: only a direct parent is followed.
 fn check_parents<V: View>(view: &V, item: &Relation) -> Checked
-    ensures { Relations.is_active item.now ≡ true → result ≡ Checking.check_parents (V.cells view.now) item.now }
+    ensures { Relations.is_active item.now ≡ true
+        → result ≡ Checking.check_parents (V.cells view.now) item.now }
 {
     if !is_direct(item.kind()) {
         return check_exception(view, item);

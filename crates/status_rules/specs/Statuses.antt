@@ -47,8 +47,8 @@ is_null _ = false
 abbrev pub only_with : Bool → Bool → Bool
 only_with first second = not first || second
 
--- A record of this status may stand beside this status of its entity: ISSUED goes with ACTIVE alone, RETIRED with INACTIVE
--- alone, and NULL with DUPLICATE and ANNULLED alone. Every other pair is allowed.
+-- A record of this status may stand beside this status of its entity: ISSUED goes with ACTIVE alone, RETIRED with
+-- INACTIVE alone, and NULL with DUPLICATE and ANNULLED alone. Every other pair is allowed.
 abbrev pub entity_fits : RecordStatus → EntityStatus → Bool
 entity_fits status entity =
     only_with (is_issued status) (is_active entity)

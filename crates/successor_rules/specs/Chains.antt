@@ -24,7 +24,8 @@ Leads (suc n) nexts from to = (next : Lei) × Contains (nexts from) next × Lead
 -- Each way from an LEI ends before so many were met, and none of them is the start.
 abbrev pub EndsClear : ℕ → Nexts → Lei → Lei → Type 0
 EndsClear zero nexts start lei = ⊥
-EndsClear (suc n) nexts start lei = (lei ≢ start) × ((next : Lei) → Contains (nexts lei) next → EndsClear n nexts start next)
+EndsClear (suc n) nexts start lei = (lei ≢ start)
+    × ((next : Lei) → Contains (nexts lei) next → EndsClear n nexts start next)
 
 -- One LEI names other next ones than before, and each other the same.
 pub record IsTurned (before after : Nexts) (start : Lei) (targets : List Lei) : Type 0 where

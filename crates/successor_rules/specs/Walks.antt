@@ -6,8 +6,8 @@ use Rattle.lei_records.specs.declared.view.Seen.{Seen}
 use Rattle.lei_records.specs.Walks.{Next, is_long, is_met, members}
 use Rattle.successor_rules.specs.declared.walks.Walked.{Walked}
 
--- What becomes of a walk from the member `first`, for an entity whose own LEI is `start`: it comes back to the start, or it
--- is too long, or it ends.
+-- What becomes of a walk from the member `first`, for an entity whose own LEI is `start`: it comes back to the start,
+-- or it is too long, or it ends.
 abbrev pub walked : Next → Lei → Lei → Walked
 walked next start first =
     if is_met next start first then Walked.Meets else if is_long next first then Walked.Long else Walked.Ends
@@ -43,9 +43,10 @@ abbrev pub unless_lacking : (Lei → CellKey) → Option Lei → Walked → Walk
 unless_lacking key (Some lei) walked = Walked.Missing (key lei)
 unless_lacking key None walked = walked
 
--- What becomes of a walk over a view: it comes back to its start where the members that are known have it; else the key of
--- the first cell that the view lacks is told; and where it lacks none, the walk is too long or it ends.
+-- What becomes of a walk over a view: it comes back to its start where the members that are known have it; else the key
+-- of the first cell that the view lacks is told; and where it lacks none, the walk is too long or it ends.
 abbrev pub walk_over : SeenNext → (Lei → CellKey) → Lei → Lei → Walked
 walk_over answers key start first =
     if is_met (known answers) start first then Walked.Meets
-    else unless_lacking key (lacking answers first) (if is_long (known answers) first then Walked.Long else Walked.Ends)
+    else unless_lacking key (lacking answers first)
+    (if is_long (known answers) first then Walked.Long else Walked.Ends)

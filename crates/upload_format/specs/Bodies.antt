@@ -82,7 +82,8 @@ items_in members =
 -- The items that a value lists: it is an object that has no other member. It has no reading where it is no upload.
 abbrev pub items_of : Data → Option (List RawItem)
 items_of value =
-    option_and_then (λ members. if list_all is_list_name (member_names members) then items_in members else None)
+    option_and_then (λ members. if list_all is_list_name (member_names members) then items_in
+    members else None)
     (as_object value)
 
 -- an upload has at most 5,000 items
@@ -92,7 +93,8 @@ item_limit = 5_000
 -- from 1 item to as many as an upload may have
 abbrev pub counted : List RawItem → Result (List RawItem) Malformed
 counted items =
-    if length items == 0 then Err NoItems else (if nat_lt item_limit (length items) then Err TooManyItems else Ok items)
+    if length items == 0 then Err NoItems else
+    (if nat_lt item_limit (length items) then Err TooManyItems else Ok items)
 
 -- the items if they are an upload's, and else the fault
 abbrev pub of_items : Option (List RawItem) → Result (List RawItem) Malformed

@@ -1,5 +1,5 @@
-// The items of a body, read from its tokens: no value of it becomes a tree. What is read so is an upload whose items have
-// their names in byte order.
+// The items of a body, read from its tokens: no value of it becomes a tree. What is read so is an upload whose items
+// have their names in byte order.
 ghost use Rattle.std.specs.Prelude.{◌≡◌, ◌++◌, ◌∷◌, [], ℕ, List as Listed, IfOk, IfSome, IsTrue, Some, option_and_then};
 ghost use Rattle.json.specs.Find.{InItems, InMembers};
 ghost use Rattle.json.specs.Json as spec;

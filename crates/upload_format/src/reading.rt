@@ -22,8 +22,8 @@ pub const MAX_ITEMS: usize = 5000;
 
 /// Reads the body of an upload, an RFC 8259 text of an object with the lists `records`, `relationships` and
 /// `exceptions`, or some of them. Each lists objects of texts. A repeated name in an object has its last value. There
-/// are from 1 to [`MAX_ITEMS`] items in all: first the records, then the relationships, then the exceptions, and each in
-/// the order in which they were sent. Names and texts move out of the JSON value and aren't copied.
+/// are from 1 to [`MAX_ITEMS`] items in all: first the records, then the relationships, then the exceptions, and each
+/// in the order in which they were sent. Names and texts move out of the JSON value and aren't copied.
 pub fn read_upload(alloc: Global, body: &[u8]) -> Result<Upload, UploadFault>
     ensures { Gives (λ read. read.items) result (upload body.now) }
 {
@@ -31,8 +31,8 @@ pub fn read_upload(alloc: Global, body: &[u8]) -> Result<Upload, UploadFault>
     reader.read(alloc, body)
 }
 
-/// Reads bodies one after the other, in memory that it keeps: about five bytes for each byte of the longest one. So none
-/// of it is asked for and cleared anew for a body that is no longer than those before.
+/// Reads bodies one after the other, in memory that it keeps: about five bytes for each byte of the longest one. So
+/// none of it is asked for and cleared anew for a body that is no longer than those before.
 #[derive(Drop)]
 pub struct Reader {
     scratch: Scratch,
@@ -150,7 +150,8 @@ fn lists_of(mut members: Map<String, Value>) -> Lists
 fn take_member(members: &mut Map<String, Value>, name: &str) -> Option<Value>
     ensures value { option_map view result ≡ get_member name.now (members_view members.old.entries) }
     ensures others { (other : List ℕ) → bytes_eq other name.now ≡ false
-        → get_member other (members_view members.new.entries) ≡ get_member other (members_view members.old.entries) }
+        → get_member other (members_view members.new.entries)
+        ≡ get_member other (members_view members.old.entries) }
 {
     members.remove(name)
 }
@@ -174,7 +175,8 @@ fn read_list(
     kind: Kind,
     list: Option<Value>,
 ) -> Result<Vec<RawItem>, UploadFault>
-    ensures { Gives (λ read. read.items) result (found (behind (Some items.items) (listed kind (option_map view list)))) }
+    ensures { Gives (λ read. read.items) result
+        (found (behind (Some items.items) (listed kind (option_map view list)))) }
 {
     match list {
         None => Ok(items),
@@ -189,7 +191,8 @@ fn read_values(
     kind: Kind,
     values: Vec<Value>,
 ) -> Result<Vec<RawItem>, UploadFault>
-    ensures { Gives (λ read. read.items) result (found (behind (Some items.items) (list_of kind (items_view values.items)))) }
+    ensures { Gives (λ read. read.items) result
+        (found (behind (Some items.items) (list_of kind (items_view values.items)))) }
 {
     items.reserve(values.len())?;
     for value in values {

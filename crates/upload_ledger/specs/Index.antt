@@ -53,6 +53,7 @@ pub record HasRoom (index : Index) (issuer : Lei) : Type 0 where
 
 -- nothing that is kept of an issuer was changed, and each that had room has it still
 pub record IsSame (old new : Index) : Type 0 where
-  pub accreditation : (issuer : Lei) → accreditation_in (places_of new issuer) ≡ accreditation_in (places_of old issuer)
+  pub accreditation : (issuer : Lei)
+      → accreditation_in (places_of new issuer) ≡ accreditation_in (places_of old issuer)
   pub uploads : (issuer : Lei) → uploads_in (places_of new issuer) ≡ uploads_in (places_of old issuer)
   pub room : (issuer : Lei) → HasRoom old issuer → HasRoom new issuer

@@ -36,7 +36,8 @@ impl Model for Ledger {
 
     ghost use Rattle.upload_ledger.specs.Ledgers.{IsKept};
 
-    ghost view = { λ ledger. record { entries = ledger.entries.items; room = option_map (λ s. s.value) ledger.room } };
+    ghost view = { λ ledger. record
+        { entries = ledger.entries.items; room = option_map (λ s. s.value) ledger.room } };
 
     ghost invariant = { IsKept };
 }
@@ -188,7 +189,8 @@ impl Ledger {
 fn note_publication(publications: &mut Vec<usize>, entry: &KeptEntry, place: usize)
     requires spare { vec_len publications.old < vec_capacity publications.old }
     ensures { publications.new.items
-        ≡ (if is_publication entry.now then publications.old.items ++ place ∷ [] else publications.old.items) }
+        ≡ (if is_publication entry.now then publications.old.items
+        ++ place ∷ [] else publications.old.items) }
 {
     if entry.kind == PUBLISH {
         publications.push_reserved(place);

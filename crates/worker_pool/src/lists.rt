@@ -20,7 +20,8 @@ pub fn map_list<
     R: Threads + Sync,
 >(rt: &R, alloc: Global, list: &[T], work: F, steps: &mut Steps<L>) -> Result<Vec<U>, NoMemory>
     requires { F.IsAlwaysCallable work }
-    ensures answers { IfOk result (λ made. AllZip (λ x u. FnReturnsAt F.Fn work x (Ok u)) list.now made.items) }
+    ensures answers { IfOk result
+        (λ made. AllZip (λ x u. FnReturnsAt F.Fn work x (Ok u)) list.now made.items) }
     ensures steps { steps.new ≡ steps.old + length list.now }
 {
     steps.add(list.len() as u64);
