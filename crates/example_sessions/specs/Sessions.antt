@@ -24,6 +24,11 @@ pub record RunState : Type 0 where
   pub expected : List ℕ
   pub status : ℕ
 
+-- the numbers from a first to a last one
+pub record RangeState : Type 0 where
+  pub first : ℕ
+  pub last : ℕ
+
 -- some runs, and what they show
 pub record SessionState : Type 0 where
   pub title : List ℕ

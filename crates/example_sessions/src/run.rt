@@ -24,6 +24,24 @@ pub struct Change {
     pub answer: Bytes,
 }
 
+// The numbers that a line is repeated for: from the first to the last, which is at most 1,000,000.
+#[derive(Drop)]
+struct NumberRange {
+    first: u32,
+    last: u32,
+}
+
+impl Model for NumberRange {
+    ghost use Rattle.std.specs.Prelude.{◌≤◌};
+    ghost use Rattle.example_sessions.specs.Sessions.{RangeState};
+
+    ghost Value = { RangeState };
+
+    ghost view = { λ r. record { first = r.first; last = r.last } };
+
+    ghost invariant = { λ r. r.last ≤ 1000000 };
+}
+
 /// A run of the program: its words, what is changed of its store before it, the moments of its clock, the numbers of the
 /// calls that its keeper refuses, the bytes that are sent, those of a second file, the bytes that must come back, and the
 /// status that it must end with.
@@ -274,24 +292,23 @@ impl Run {
         else {
             return Err(Fault::Form);
         };
-        self.with_repeated(alloc, known, first, last, sign, text)
+        self.with_repeated(alloc, known, NumberRange { first, last }, sign, text)
     }
 
     fn with_repeated(
         self,
         alloc: Global,
         known: &[Named],
-        first: u32,
-        last: u32,
+        numbers: NumberRange,
         sign: &str,
         text: &str,
     ) -> Result<Self, Fault>
-        requires { last ≤ 1000000 }
-        ensures { Gives (λ run. run) result (Sessions.with_repeated known.now self first last sign.now text.now) }
+        ensures { Gives (λ run. run) result
+            (Sessions.with_repeated known.now self numbers.first numbers.last sign.now text.now) }
     {
         let names = number_names(alloc)?;
         let parts = text_parts(alloc, known, &names, front_of(text))?;
-        let bytes = repeated(alloc, &parts, end_of(text), first, last)?;
+        let bytes = repeated(alloc, &parts, end_of(text), numbers.first, numbers.last)?;
         self.with_bytes(sign, &bytes)
     }
 }
