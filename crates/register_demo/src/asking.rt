@@ -1,5 +1,5 @@
 // Requests, put to an office one after the other.
-ghost use Rattle.std.specs.Prelude.{◌≡◌, ◌↔◌, ◌≤◌, ◌+◌, ◌++◌, count_by, IfOk, IsTrue, OnOk};
+ghost use Rattle.std.specs.Prelude.{◌≡◌, ◌↔◌, ◌≤◌, ◌+◌, ◌-◌, ◌++◌, count_by, IfOk, IsTrue, OnOk};
 ghost use Rattle.register_history.specs.Legal.{Legal};
 ghost use Rattle.register_words.specs.Requests.{IsNumbered};
 ghost use Rattle.register_history.specs.Replies.{next, reply};
@@ -9,7 +9,7 @@ ghost use Rattle.register_demo.specs.Session.{is_told, text_of, texts_of};
 
 use crate::bodies::block_body;
 use crate::codes::issuer_of;
-use crate::plan::{Group, block_count, request_count, upload_number};
+use crate::plan::{Group, Uploads, block_count, request_count, upload_number};
 use crate::progress::Progress;
 use lei_office::{Call, Office, Refusal, Reply, Request};
 use lei_outside::{NoMemory, SureKeeper};
@@ -84,58 +84,57 @@ fn is_no_memory(reply: &Reply) -> bool
     matches!(reply, Reply::Words(Refusal::NoMemory))
 }
 
-// Sends the upload of a block behind so many requests, and puts the text of its answer behind the others. Says whether
-// one was told.
+// Sends the upload of a block, and puts the text of its answer after the others. Says whether one was told.
 fn send_block<R: Threads + Sync>(
     rt: &R,
     alloc: Global,
     office: &mut Office<SureKeeper>,
-    n: u32,
-    group: Group,
+    uploads: Uploads,
     block: u32,
-    count: u32,
     answers: &mut Vec<u8>,
 ) -> Result<bool, NoMemory>
-    requires least { 2 ≤ n }
-    requires most { n ≤ 100_000 }
+    requires least { 2 ≤ uploads.n }
+    requires most { uploads.n ≤ 100_000 }
+    requires few { uploads.count ≤ 10_000 }
     requires counted { 1 ≤ block }
-    requires within { block ≤ block_count n }
+    requires within { block ≤ block_count uploads.n }
     ensures answers { OnOk result (answers.new.items ≡ answers.old.items
-        ++ text_of (reply office.old.office (upload_of group n block) (moment_behind count))) }
-    ensures told { IfOk result (λ told. told ≡ is_told (reply office.old.office (upload_of group n block) (moment_behind count))) }
-    ensures office { OnOk result (office.new.office ≡ next office.old.office (upload_of group n block) (moment_behind count)) }
+        ++ text_of (reply office.old.office (upload_of uploads.group uploads.n block)
+        (moment_behind (uploads.count + block - 1)))) }
+    ensures told { IfOk result (λ told. told ≡ is_told (reply office.old.office
+        (upload_of uploads.group uploads.n block) (moment_behind (uploads.count + block - 1)))) }
+    ensures office { OnOk result (office.new.office ≡ next office.old.office
+        (upload_of uploads.group uploads.n block) (moment_behind (uploads.count + block - 1))) }
 {
-    let request = upload_of(alloc, group, n, block)?;
-    let reply = ask(rt, office, &request, count)?;
+    let request = upload_of(alloc, uploads.group, uploads.n, block)?;
+    let reply = ask(rt, office, &request, uploads.count + block - 1)?;
     answers.extend_from_slice(text_of(&reply))?;
     Ok(reply.status_code() == 200)
 }
 
-/// Sends the uploads of a group behind so many requests, and puts the texts of the answers behind the others. Says how
-/// many were told.
+/// Sends the uploads of a group, and puts the texts of the answers after the others. Says how many were told.
 pub fn send_uploads<R: Threads + Sync, P: Progress>(
     rt: &R,
     alloc: Global,
     office: &mut Office<SureKeeper>,
-    n: u32,
-    group: Group,
-    count: u32,
+    uploads: Uploads,
     answers: &mut Vec<u8>,
     progress: &mut P,
 ) -> Result<u32, NoMemory>
-    requires least { 2 ≤ n }
-    requires most { n ≤ 100_000 }
-    requires few { count ≤ 10_000 }
+    requires least { 2 ≤ uploads.n }
+    requires most { uploads.n ≤ 100_000 }
+    requires few { uploads.count ≤ 10_000 }
     ensures answers { OnOk result (answers.new.items ≡ answers.old.items
-        ++ texts_of (replies_from office.old.office count (uploads_of group n))) }
-    ensures told { IfOk result (λ told. told ≡ count_by is_told (replies_from office.old.office count (uploads_of group n))) }
-    ensures office { OnOk result (office.new.office ≡ office_from office.old.office count (uploads_of group n)) }
+        ++ texts_of (replies_from office.old.office uploads.count (uploads_of uploads.group uploads.n))) }
+    ensures told { IfOk result (λ told. told
+        ≡ count_by is_told (replies_from office.old.office uploads.count (uploads_of uploads.group uploads.n))) }
+    ensures office { OnOk result (office.new.office
+        ≡ office_from office.old.office uploads.count (uploads_of uploads.group uploads.n)) }
 {
     let mut told = 0;
-    for block in 1..block_count(n) + 1 {
-        let at = count + block - 1;
-        told += u32::from(send_block(rt, alloc, office, n, group, block, at, answers)?);
-        progress.tell(count + block, request_count(n));
+    for block in 1..block_count(uploads.n) + 1 {
+        told += u32::from(send_block(rt, alloc, office, uploads, block, answers)?);
+        progress.tell(uploads.count + block, request_count(uploads.n));
     }
     Ok(told)
 }

@@ -12,6 +12,14 @@ pub enum Group {
     Relationships,
 }
 
+/// The uploads of a group of a register of `n` records, one a block, which come after `count` other requests.
+#[derive(Clone, Copy)]
+pub struct Uploads {
+    pub group: Group,
+    pub n: u32,
+    pub count: u32,
+}
+
 /// How many blocks a register of so many records has.
 pub fn block_count(n: u32) -> u32
     requires { n ≤ 100_000 }

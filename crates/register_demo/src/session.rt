@@ -9,7 +9,7 @@ ghost use Rattle.register_demo.specs.Session.{IsPatchedSize, IsTold, MakesRecord
 use crate::asking::{ask, send_uploads, text_of};
 use crate::codes::issuer_of;
 use crate::marks::rows_in;
-use crate::plan::{Group, block_count};
+use crate::plan::{Group, Uploads, block_count};
 use crate::progress::Progress;
 use crate::summary::Told;
 use delta_apply::{ApplyFault, apply};
@@ -87,7 +87,12 @@ fn make_records<R: Threads + Sync, P: Progress>(
         MakesRecords n office.old.office office.new.office answers.old.items answers.new.items told.0 told.1) }
 {
     accredit(rt, office)?;
-    send_uploads(rt, alloc, office, n, Group::Records, 2, answers, progress)?;
+    let uploads = Uploads {
+        group: Group::Records,
+        n,
+        count: 2,
+    };
+    send_uploads(rt, alloc, office, uploads, answers, progress)?;
     let told = publish_records(rt, office, block_count(n) + 2)?;
     Ok(told)
 }
@@ -107,16 +112,12 @@ fn make_relationships<R: Threads + Sync, P: Progress>(
         MakesRelationships n office.old.office office.new.office answers.old.items answers.new.items published) }
 {
     let blocks = block_count(n);
-    send_uploads(
-        rt,
-        alloc,
-        office,
+    let uploads = Uploads {
+        group: Group::Relationships,
         n,
-        Group::Relationships,
-        blocks + 5,
-        answers,
-        progress,
-    )?;
+        count: blocks + 5,
+    };
+    send_uploads(rt, alloc, office, uploads, answers, progress)?;
     let published = ask(rt, office, &Request::Publish(2), 2 * blocks + 5)?;
     Ok(published)
 }
@@ -134,17 +135,13 @@ fn repeat_records<R: Threads + Sync, P: Progress>(
     ensures { IfOk result (λ found. Repeats n office.old.office office.new.office found.0 found.1.0 found.1.1) }
 {
     let blocks = block_count(n);
-    let mut answers = Vec::new(alloc);
-    let told = send_uploads(
-        rt,
-        alloc,
-        office,
+    let uploads = Uploads {
+        group: Group::Records,
         n,
-        Group::Records,
-        2 * blocks + 6,
-        &mut answers,
-        progress,
-    )?;
+        count: 2 * blocks + 6,
+    };
+    let mut answers = Vec::new(alloc);
+    let told = send_uploads(rt, alloc, office, uploads, &mut answers, progress)?;
     let deltas = ask_for_deltas(rt, office, 3 * blocks + 6)?;
     Ok((told, deltas))
 }
