@@ -21,7 +21,8 @@ pub record DocumentState : Type 0 where
 abbrev pub known_with : List Named → List (List ℕ) → List ℕ → Option (List Named)
 known_with known [] text = None
 known_with known (name ∷ parameters) text = if is_some (text_named known name (length parameters)) then None
-    else option_map (λ parts. known ++ record { name = name; parameters = length parameters; parts = parts } ∷ [])
+    else option_map (λ parts. known
+    ++ record { name = name; parameters = length parameters; parts = parts } ∷ [])
     (text_parts known parameters text)
 
 -- the same of a line that was cut at its `=`
@@ -55,8 +56,10 @@ at_place document places.Outside line = Some (record document { place = begun li
 at_place document places.Texts line = if is_end line then Some (record document { place = places.Outside })
     else option_map (λ known. record document { known = known }) (known_after document.known line)
 at_place document (places.Session session) line =
-    if is_end line then Some (record document { sessions = document.sessions ++ session ∷ []; place = places.Outside })
-    else option_map (λ new. record document { place = places.Session new }) (session_with document.known session line)
+    if is_end line then Some (record document
+    { sessions = document.sessions ++ session ∷ []; place = places.Outside })
+    else option_map (λ new. record document { place = places.Session new })
+    (session_with document.known session line)
 
 -- what was read after one more line
 unfoldable pub after_line : DocumentState → List ℕ → Option DocumentState
@@ -65,7 +68,8 @@ after_line document line = at_place document document.place line
 -- what was read after these lines
 abbrev pub after_lines : DocumentState → List (List ℕ) → Option DocumentState
 after_lines document [] = Some document
-after_lines document (line ∷ others) = option_and_then (λ after. after_lines after others) (after_line document line)
+after_lines document (line ∷ others) = option_and_then (λ after. after_lines after others)
+    (after_line document line)
 
 -- nothing was read yet, and these texts are known
 abbrev pub unread : List Named → DocumentState

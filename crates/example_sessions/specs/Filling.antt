@@ -21,7 +21,8 @@ hole_or parts (Some index) = Hole index ∷ []
 
 -- an argument: the hole of the parameter of that name, the known text of that name, or the word itself
 abbrev pub argument_parts : List Named → List (List ℕ) → List ℕ → List Part
-argument_parts known parameters word = hole_or (parts_or word (text_named known word 0)) (index_of parameters word)
+argument_parts known parameters word = hole_or (parts_or word (text_named known word 0))
+    (index_of parameters word)
 
 -- the parts of an argument that is given, and none of one that isn't
 abbrev pub given_parts : List Named → List (List ℕ) → Option (List ℕ) → List Part
@@ -45,9 +46,11 @@ byte_parts name (text ∷ []) =
 byte_parts name (text ∷ other ∷ others) = None
 
 -- what a name with arguments stands for: a known text, or else a byte
-abbrev pub parts_of_text : List Named → List (List ℕ) → List ℕ → List (List ℕ) → Option Named → Option (List Part)
+abbrev pub parts_of_text : List Named → List (List ℕ) → List ℕ → List (List ℕ) → Option Named
+    → Option (List Part)
 parts_of_text known parameters name arguments None = byte_parts name arguments
-parts_of_text known parameters name arguments (Some text) = Some (parts_with known parameters arguments text.parts)
+parts_of_text known parameters name arguments (Some text) = Some
+    (parts_with known parameters arguments text.parts)
 
 -- the hole of a parameter, and else these parts
 abbrev pub hole_or_text : Option (List Part) → Option ℕ → Option (List Part)
@@ -70,7 +73,8 @@ meant known parameters (name ∷ word ∷ words) =
 -- the parts of a piece that was cut at its `>`
 abbrev pub piece_cut : List Named → List (List ℕ) → Option (List ℕ × List ℕ) → Option (List Part)
 piece_cut known parameters None = None
-piece_cut known parameters (Some parts) = behind (meant known parameters (pieces 32 parts.0)) (Some (Plain parts.1 ∷ []))
+piece_cut known parameters (Some parts) = behind (meant known parameters (pieces 32 parts.0))
+    (Some (Plain parts.1 ∷ []))
 
 -- a piece behind a `<`: the words before the first `>`, and the text behind it
 abbrev pub piece_parts : List Named → List (List ℕ) → List ℕ → Option (List Part)
@@ -85,7 +89,8 @@ pieces_parts known parameters (piece ∷ others) =
 -- the parts of a text that was cut at each `<`: the plain text before the first, and then the pieces
 abbrev pub parts_from : List Named → List (List ℕ) → List (List ℕ) → Option (List Part)
 parts_from known parameters [] = Some []
-parts_from known parameters (first ∷ others) = behind (Some (Plain first ∷ [])) (pieces_parts known parameters others)
+parts_from known parameters (first ∷ others) = behind (Some (Plain first ∷ []))
+    (pieces_parts known parameters others)
 
 -- the parts of a text with these parameters, where these texts are known
 unfoldable pub text_parts : List Named → List (List ℕ) → List ℕ → Option (List Part)

@@ -6,7 +6,8 @@ use Rattle.std.specs.Char.{is_ascii_digit}
 unfoldable pub number_after : ℕ → ℕ → List ℕ → Option ℕ
 number_after most n [] = Some n
 number_after most n (c ∷ cs) =
-    if is_ascii_digit c && nat_le (n * 10 + (c - 48)) most then number_after most (n * 10 + (c - 48)) cs else None
+    if is_ascii_digit c && nat_le (n * 10 + (c - 48)) most then number_after most
+    (n * 10 + (c - 48)) cs else None
 
 -- the number that a text of decimal digits writes, where it is at most this. The empty text writes 0.
 abbrev pub number : ℕ → List ℕ → Option ℕ

@@ -12,8 +12,8 @@ use Rattle.example_sessions.specs.declared.texts.Part.{Part}
 use Rattle.example_sessions.specs.declared.texts.Named.{Named}
 
 -- A run of the program: its words, what is changed of its store before it, the moments of its clock, the numbers of the
--- calls that its keeper refuses, the bytes that are sent, those of a second file, the bytes that must come back, and the
--- status that it must end with.
+-- calls that its keeper refuses, the bytes that are sent, those of a second file, the bytes that must come back, and
+-- the status that it must end with.
 pub record RunState : Type 0 where
   pub words : List (List ℕ)
   pub changes : List Change
@@ -44,7 +44,17 @@ word_of text = if bytes_eq text (codes "\"\"") then [] else text
 abbrev pub run_of_words : List (List ℕ) → Option RunState
 run_of_words [] = None
 run_of_words (program ∷ words) = if bytes_eq program (codes "./leireg")
-    then Some (record { words = map word_of words; changes = []; moments = []; refused = []; sent = []; second = []; expected = []; status = 0 })
+    then Some (record {
+      words = map word_of words;
+      changes = [];
+      moments = [];
+      refused = [];
+      sent = [];
+      second
+          = [];
+      expected = [];
+      status = 0;
+    })
     else None
 
 -- `$ ./leireg WORD ..`: a run with these words, in which nothing is sent
@@ -59,7 +69,8 @@ with_change run rest = option_and_then (λ parts.
 
 -- `at MOMENT`: the next moment of the clock
 abbrev pub with_moment : RunState → List ℕ → Option RunState
-with_moment run text = option_map (λ moment. record run { moments = run.moments ++ moment ∷ [] }) (read_moment text)
+with_moment run text = option_map (λ moment. record run { moments = run.moments ++ moment ∷ [] })
+    (read_moment text)
 
 -- `refuses N`: the N-th call of the keeper fails
 abbrev pub with_refused : RunState → List ℕ → Option RunState
@@ -90,7 +101,8 @@ end_of text = if goes_on text then [] else 10 ∷ []
 -- `> TEXT`, `+ TEXT` or `< TEXT`
 abbrev pub with_text : List Named → RunState → List ℕ → List ℕ → Option RunState
 with_text known run sign text =
-    option_and_then (λ parts. with_bytes run sign (filled [] parts ++ end_of text)) (text_parts known [] (front_of text))
+    option_and_then (λ parts. with_bytes run sign (filled [] parts ++ end_of text))
+    (text_parts known [] (front_of text))
 
 -- the names by which a repeated line speaks of its number, and what they stand for: the number, its code, and the code
 -- of the number before it
@@ -153,4 +165,5 @@ by_cut known session line (Some parts) = by_word known session parts.0 parts.1
 
 -- a line of a session; an empty one says nothing
 unfoldable pub session_with : List Named → SessionState → List ℕ → Option SessionState
-session_with known session line = if length line == 0 then Some session else by_cut known session line (cut 32 line)
+session_with known session line = if length line == 0 then Some session else by_cut known session
+    line (cut 32 line)

@@ -14,7 +14,8 @@ pub struct Came {
 impl Came {
     /// Whether it is what was wanted.
     pub fn is(&self, wanted: &Run) -> bool
-        ensures { IsTrue result ↔ ((self.now.written ≡ wanted.now.expected) × (self.now.status ≡ wanted.now.status)) }
+        ensures { IsTrue result ↔
+            ((self.now.written ≡ wanted.now.expected) × (self.now.status ≡ wanted.now.status)) }
     {
         self.status == wanted.status() && self.written.as_slice() == wanted.expected()
     }

@@ -42,9 +42,9 @@ impl Model for NumberRange {
     ghost invariant = { λ r. r.last ≤ 1000000 };
 }
 
-/// A run of the program: its words, what is changed of its store before it, the moments of its clock, the numbers of the
-/// calls that its keeper refuses, the bytes that are sent, those of a second file, the bytes that must come back, and the
-/// status that it must end with.
+/// A run of the program: its words, what is changed of its store before it, the moments of its clock, the numbers of
+/// the calls that its keeper refuses, the bytes that are sent, those of a second file, the bytes that must come back,
+/// and the status that it must end with.
 #[derive(Drop)]
 pub struct Run {
     words: Vec<String>,
@@ -64,7 +64,16 @@ impl Model for Run {
 
     ghost Value = { RunState };
 
-    ghost view = { λ r. record { words = map string_bytes r.words.items; changes = r.changes.items; moments = r.moments.items; refused = r.refused.items; sent = r.sent.items; second = r.second.items; expected = r.expected.items; status = r.status } };
+    ghost view = { λ r. record {
+      words = map string_bytes r.words.items;
+      changes = r.changes.items;
+      moments = r.moments.items;
+      refused = r.refused.items;
+      sent = r.sent.items;
+      second = r.second.items;
+      expected = r.expected.items;
+      status = r.status;
+    } };
 
     ghost invariant = { λ r. All IsClockMoment r.moments.items };
 }
@@ -356,7 +365,8 @@ fn repeated(
     last: u32,
 ) -> Result<Vec<u8>, NoMemory>
     requires { last ≤ 1000000 }
-    ensures { IfOk result (λ bytes. bytes.items ≡ Sessions.repeated parts.now end.now (Sessions.numbers_between first last)) }
+    ensures { IfOk result (λ bytes. bytes.items
+        ≡ Sessions.repeated parts.now end.now (Sessions.numbers_between first last)) }
 {
     let mut bytes = Vec::new(alloc);
     for number in first..last + 1 {
@@ -372,7 +382,8 @@ fn put_number(
     parts: &[Part],
     number: u32,
 ) -> Result<Vec<u8>, NoMemory>
-    ensures { IfOk result (λ made. made.items ≡ bytes.items ++ Texts.filled (Sessions.number_texts number) parts.now) }
+    ensures { IfOk result (λ made. made.items
+        ≡ bytes.items ++ Texts.filled (Sessions.number_texts number) parts.now) }
 {
     let texts = number_texts(alloc, number)?;
     put_filled(bytes, parts, &texts)

@@ -72,7 +72,8 @@ fields_of_relationship start parent manager =
 abbrev pub item_text : Group → Lei → ℕ → Text
 item_text Records manager i =
     object_text (fields_of_record (decimal i) (decimal (authority_id i)) (demo_code i) manager)
-item_text Relationships manager i = object_text (fields_of_relationship (demo_code i) (demo_code (i / 2)) manager)
+item_text Relationships manager i = object_text
+    (fields_of_relationship (demo_code i) (demo_code (i / 2)) manager)
 
 -- what a body begins with
 abbrev pub opening : Group → Text
@@ -86,5 +87,6 @@ from_to first last = range_with_len first (last + 1 - first)
 -- the body that brings the items of a block
 unfoldable pub block_body : Group → ℕ → ℕ → Body
 block_body group n block =
-    opening group ++ (elements (map (item_text group (manager block)) (from_to (first_item group block) (last_item n block)))
+    opening group ++ (elements
+    (map (item_text group (manager block)) (from_to (first_item group block) (last_item n block)))
     ++ codes "]}")

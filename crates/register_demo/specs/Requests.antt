@@ -20,7 +20,12 @@ use Rattle.register_demo.specs.declared.plan.Group.TheVariants.{Records, Relatio
 -- the upload that brings the records of a block, or their relationships
 abbrev pub upload_of : Group → ℕ → ℕ → Request
 upload_of group n block =
-    Upload (record { office = manager block; number = upload_number group n block; body = block_body group n block })
+    Upload (record {
+      office = manager block;
+      number = upload_number group n block;
+      body = block_body
+          group n block;
+    })
 
 -- the same of each block from one on, so many of them
 abbrev pub uploads_from : Group → ℕ → ℕ → ℕ → List Request
@@ -65,7 +70,8 @@ abbrev pub office_from : OfficeState → ℕ → List Request → OfficeState
 office_from office count requests = office_after office requests (moments_of count requests)
 
 -- These are the replies to requests, of which the first comes behind so many others, and this is the office after them.
-pub record Answers (office : OfficeState) (count : ℕ) (requests : List Request) (replies : List Reply) (after : OfficeState) : Type 0 where
+pub record Answers (office : OfficeState) (count : ℕ) (requests : List Request) (replies : List Reply)
+    (after : OfficeState) : Type 0 where
   pub told : replies ≡ replies_from office count requests
   pub leads : after ≡ office_from office count requests
 
@@ -73,11 +79,12 @@ pub record Answers (office : OfficeState) (count : ℕ) (requests : List Request
 abbrev pub deltas : List Request
 deltas = Delta (Number 1) Lei Csv ∷ Delta (Number 1) Rr Csv ∷ []
 
--- all requests: the issuers are accredited, the records are sent and published, then the relationships, the records are sent
--- once more, and the deltas are asked for
+-- all requests: the issuers are accredited, the records are sent and published, then the relationships, the records are
+-- sent once more, and the deltas are asked for
 abbrev pub demo_requests : ℕ → List Request
 demo_requests n =
-    accreditations ++ (uploads_of Records n ++ (first_publication ++ (uploads_of Relationships n ++ (second_publication
+    accreditations ++ (uploads_of Records n
+    ++ (first_publication ++ (uploads_of Relationships n ++ (second_publication
     ++ (uploads_of Records n ++ deltas)))))
 
 -- how many they are

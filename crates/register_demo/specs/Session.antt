@@ -37,8 +37,9 @@ texts_of replies = flat_map text_of replies
 
 -- ---- the replies, step by step
 
--- The replies to the requests that make a register: to the accreditations, to the uploads of records, to the publication
--- and the copies, to the uploads of relationships, to the second publication, to the repeated uploads, and to the deltas.
+-- The replies to the requests that make a register: to the accreditations, to the uploads of records, to the
+-- publication and the copies, to the uploads of relationships, to the second publication, to the repeated uploads, and
+-- to the deltas.
 pub record DemoReplies : Type 0 where
   pub first_issuer : Reply
   pub second_issuer : Reply
@@ -55,11 +56,13 @@ pub record DemoReplies : Type 0 where
 -- all of them, in order
 abbrev pub in_order : DemoReplies → List Reply
 in_order told =
-    (told.first_issuer ∷ told.second_issuer ∷ []) ++ (told.records ++ ((told.first_publication ∷ told.lei_copy ∷ told.rr_copy ∷ [])
-    ++ (told.relationships ++ ((told.second_publication ∷ []) ++ (told.repeats ++ (told.lei_delta ∷ told.rr_delta ∷ []))))))
+    (told.first_issuer ∷ told.second_issuer ∷ [])
+    ++ (told.records ++ ((told.first_publication ∷ told.lei_copy ∷ told.rr_copy ∷ [])
+    ++ (told.relationships ++
+    ((told.second_publication ∷ []) ++ (told.repeats ++ (told.lei_delta ∷ told.rr_delta ∷ []))))))
 
--- These are the replies of an office to the requests that make a register of n records: one to each upload of a block, and all
--- of them in the order of the requests.
+-- These are the replies of an office to the requests that make a register of n records: one to each upload of a block,
+-- and all of them in the order of the requests.
 pub record AreReplies (office : OfficeState) (n : ℕ) (told : DemoReplies) : Type 0 where
   pub all : in_order told ≡ replies_from office 0 (demo_requests n)
   pub records : length told.records ≡ block_count n
@@ -83,16 +86,18 @@ entries_after office n = length (office_from office 0 (demo_requests n)).history
 
 -- ---- the summary
 
--- The summary of these replies of an office, where the patched copy has so many bytes: the verdicts are counted in the answers
--- to the uploads of records and of relationships alone.
+-- The summary of these replies of an office, where the patched copy has so many bytes: the verdicts are counted in the
+-- answers to the uploads of records and of relationships alone.
 abbrev pub summary_text : OfficeState → ℕ → DemoReplies → ℕ → Text
 summary_text office n told applied = lines_text (
     verdict_lines (entries_after office n) (texts_of (told.records ++ told.relationships))
-    ++ (publication_lines (count_by is_told told.repeats) (count_by is_made (told.first_publication ∷ told.second_publication ∷ []))
+    ++ (publication_lines (count_by is_told told.repeats)
+    (count_by is_made (told.first_publication ∷ told.second_publication ∷ []))
     (text_of told.second_publication)
     ++ delta_lines (rows_in (text_of told.lei_delta)) (rows_in (text_of told.rr_delta)) applied))
 
--- The text is the summary of a register of n records, made by an office that took nothing before and has the standard limits.
+-- The text is the summary of a register of n records, made by an office that took nothing before and has the standard
+-- limits.
 pub record IsSummary (n : ℕ) (text : Text) : Type 0 where
   pub told : DemoReplies
   pub are : AreReplies (opened standard) n told
@@ -103,7 +108,8 @@ pub record IsSummary (n : ℕ) (text : Text) : Type 0 where
 -- ---- the parts of a session
 
 -- The records were sent and published, with this reply and this copy of relationships.
-pub record MakesRecords (n : ℕ) (office after : OfficeState) (old new : Text) (publication copy : Reply) : Type 0 where
+pub record MakesRecords (n : ℕ) (office after : OfficeState) (old new : Text)
+    (publication copy : Reply) : Type 0 where
   pub first : Reply
   pub second : Reply
   pub records : List Reply
@@ -114,7 +120,8 @@ pub record MakesRecords (n : ℕ) (office after : OfficeState) (old new : Text) 
   pub texts : new ≡ old ++ texts_of records
 
 -- The relationships were sent and published, with this reply.
-pub record MakesRelationships (n : ℕ) (office after : OfficeState) (old new : Text) (publication : Reply) : Type 0 where
+pub record MakesRelationships (n : ℕ) (office after : OfficeState) (old new : Text)
+    (publication : Reply) : Type 0 where
   pub relationships : List Reply
   pub answers : Answers office (block_count n + 5) (uploads_of Relationships n ++ second_publication)
       (relationships ++ (publication ∷ [])) after
@@ -124,7 +131,8 @@ pub record MakesRelationships (n : ℕ) (office after : OfficeState) (old new : 
 -- The records were sent once more, of which so many were told, and these deltas were asked for.
 pub record Repeats (n : ℕ) (office after : OfficeState) (told : ℕ) (lei_delta rr_delta : Reply) : Type 0 where
   pub replies : List Reply
-  pub answers : Answers office (2 * block_count n + 6) (uploads_of Records n ++ deltas) (replies ++ (lei_delta ∷ rr_delta ∷ [])) after
+  pub answers : Answers office (2 * block_count n + 6) (uploads_of Records n ++ deltas)
+      (replies ++ (lei_delta ∷ rr_delta ∷ [])) after
   pub each : length replies ≡ block_count n
   pub count : told ≡ count_by is_told replies
   pub legal : Legal after
@@ -137,7 +145,8 @@ pub record IsTold (n : ℕ) (office after : OfficeState) (told : Told) : Type 0 
   pub legal : Legal after
   pub answers : told.answers.items ≡ texts_of (replies.records ++ replies.relationships)
   pub repeats : told.repeats ≡ count_by is_told replies.repeats
-  pub publications : told.publications ≡ count_by is_made (replies.first_publication ∷ replies.second_publication ∷ [])
+  pub publications : told.publications
+      ≡ count_by is_made (replies.first_publication ∷ replies.second_publication ∷ [])
   pub published : told.published ≡ text_of replies.second_publication
   pub records : told.records ≡ rows_in (text_of replies.lei_delta)
   pub relationships : told.relationships ≡ rows_in (text_of replies.rr_delta)
@@ -146,4 +155,5 @@ pub record IsTold (n : ℕ) (office after : OfficeState) (told : Told) : Type 0 
 -- the summary of a register with so many entries, of which this was told
 abbrev pub told_text : ℕ → Told → Text
 told_text entries told = lines_text (verdict_lines entries told.answers.items
-    ++ (publication_lines told.repeats told.publications told.published ++ delta_lines told.records told.relationships told.applied))
+    ++ (publication_lines told.repeats told.publications told.published
+    ++ delta_lines told.records told.relationships told.applied))

@@ -66,8 +66,10 @@ pub fn ask<R: Threads + Sync>(
     count: u32,
 ) -> Result<Reply, NoMemory>
     requires { IsNumbered request.now }
-    ensures reply { IfOk result (λ answered. answered ≡ reply office.old.office request.now (moment_behind count)) }
-    ensures next { OnOk result (office.new.office ≡ next office.old.office request.now (moment_behind count)) }
+    ensures reply { IfOk result
+        (λ answered. answered ≡ reply office.old.office request.now (moment_behind count)) }
+    ensures next { OnOk result
+        (office.new.office ≡ next office.old.office request.now (moment_behind count)) }
     ensures legal { Legal office.new.office }
 {
     let reply = office.answer(rt, request, moment_behind(count));
@@ -127,7 +129,8 @@ pub fn send_uploads<R: Threads + Sync, P: Progress>(
     ensures answers { OnOk result (answers.new.items ≡ answers.old.items
         ++ texts_of (replies_from office.old.office uploads.count (uploads_of uploads.group uploads.n))) }
     ensures told { IfOk result (λ told. told
-        ≡ count_by is_told (replies_from office.old.office uploads.count (uploads_of uploads.group uploads.n))) }
+        ≡ count_by is_told (replies_from office.old.office uploads.count
+        (uploads_of uploads.group uploads.n))) }
     ensures office { OnOk result (office.new.office
         ≡ office_from office.old.office uploads.count (uploads_of uploads.group uploads.n)) }
 {

@@ -95,7 +95,9 @@ fn authority_id(i: u32) -> u32
 
 // Puts the record of a number, up to its LEI.
 fn put_names(out: &mut Vec<u8>, i: u32) -> Result<(), NoMemory>
-    ensures { OnOk result (out.new.items ≡ out.old.items ++ (TO_NAME.now ++ (decimal i ++ (TO_AUTHORITY_ID.now ++ (decimal (authority_id i) ++ TO_LEI.now))))) }
+    ensures { OnOk result (out.new.items
+        ≡ out.old.items ++ (TO_NAME.now
+        ++ (decimal i ++ (TO_AUTHORITY_ID.now ++ (decimal (authority_id i) ++ TO_LEI.now))))) }
 {
     let (mut number, mut at_authority) = (Buffer::new(), Buffer::new());
     let number = number.format(i);
@@ -147,7 +149,8 @@ fn put_items(
     last: u32,
 ) -> Result<(), NoMemory>
     requires { first ≤ last }
-    ensures { OnOk result (out.new.items ≡ out.old.items ++ elements (map (item_text group manager.now) (from_to first last))) }
+    ensures { OnOk result (out.new.items
+        ≡ out.old.items ++ elements (map (item_text group manager.now) (from_to first last))) }
 {
     for i in first..last {
         put_item(out, group, manager, i)?;

@@ -29,8 +29,8 @@ fn accredit<R: Threads + Sync>(rt: &R, office: &mut Office<SureKeeper>) -> Resul
     Ok(())
 }
 
-// Publishes the records behind so many requests, and asks for the copies of records and of relationships. What tells the
-// publication is answered, and the second copy.
+// Publishes the records behind so many requests, and asks for the copies of records and of relationships. What tells
+// the publication is answered, and the second copy.
 fn publish_records<R: Threads + Sync>(
     rt: &R,
     office: &mut Office<SureKeeper>,
@@ -53,7 +53,8 @@ fn ask_for_deltas<R: Threads + Sync>(
     count: u32,
 ) -> Result<(Reply, Reply), NoMemory>
     requires { count ≤ 10_000 }
-    ensures answers { IfOk result (λ told. Answers office.old.office count deltas (told.0 ∷ told.1 ∷ []) office.new.office) }
+    ensures answers { IfOk result
+        (λ told. Answers office.old.office count deltas (told.0 ∷ told.1 ∷ []) office.new.office) }
     ensures legal { OnOk result (Legal office.new.office) }
 {
     let base = Base::Number(1);
@@ -132,7 +133,8 @@ fn repeat_records<R: Threads + Sync, P: Progress>(
 ) -> Result<(u32, (Reply, Reply)), NoMemory>
     requires least { 2 ≤ n }
     requires most { n ≤ 100_000 }
-    ensures { IfOk result (λ found. Repeats n office.old.office office.new.office found.0 found.1.0 found.1.1) }
+    ensures { IfOk result (λ found. Repeats n office.old.office office.new.office found.0
+        found.1.0 found.1.1) }
 {
     let blocks = block_count(n);
     let uploads = Uploads {

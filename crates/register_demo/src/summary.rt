@@ -64,7 +64,8 @@ fn put_publications(
     publications: u32,
     answer: &[u8],
 ) -> Result<(), NoMemory>
-    ensures { OnOk result (out.new.items ≡ out.old.items ++ lines_text (publication_lines repeats publications answer.now)) }
+    ensures { OnOk result (out.new.items
+        ≡ out.old.items ++ lines_text (publication_lines repeats publications answer.now)) }
 {
     put_number(out, "repeats", u64::from(repeats))?;
     put_number(out, "publications", u64::from(publications))?;
@@ -80,7 +81,8 @@ fn put_deltas(
     relationships: usize,
     applied: usize,
 ) -> Result<(), NoMemory>
-    ensures { OnOk result (out.new.items ≡ out.old.items ++ lines_text (delta_lines records relationships applied)) }
+    ensures { OnOk result (out.new.items
+        ≡ out.old.items ++ lines_text (delta_lines records relationships applied)) }
 {
     put_number(out, "delta lei", records as u64)?;
     put_number(out, "delta rr", relationships as u64)?;

@@ -32,7 +32,8 @@ fn summary_with(
     keeper: SureKeeper,
     told: Result<Told, NoMemory>,
 ) -> Result<Bytes, NoMemory>
-    ensures { IfOk result (λ text. (found : Found) × (told ≡ Ok found) × (text ≡ told_text (last_number (tables_of keeper)) found)) }
+    ensures { IfOk result (λ text. (found : Found) × (told ≡ Ok found)
+        × (text ≡ told_text (last_number (tables_of keeper)) found)) }
 {
     let told = told?;
     let entries = entries_in(keeper)?;
@@ -58,7 +59,8 @@ fn demo_by<R: Threads + Sync, P: Progress>(
     Ok(text)
 }
 
-/// Makes a register of so many records, by an office of its own in memory, and says the summary, or that memory was wanting.
+/// Makes a register of so many records, by an office of its own in memory, and says the summary, or that memory was
+/// wanting.
 pub fn demo<R: Threads + Sync, P: Progress>(
     rt: &R,
     alloc: Global,

@@ -1,6 +1,6 @@
-//! The program of the register over memory alone, for a first look: it has no store and no connections, and so is compiled
-//! in less than half the time. Where the first word is `sessions`, it runs the worked examples of the files that the others
-//! name.
+//! The program of the register over memory alone, for a first look: it has no store and no connections, and so is
+//! compiled in less than half the time. Where the first word is `sessions`, it runs the worked examples of the files
+//! that the others name.
 #![tactic(auto)]
 
 mod commands;

@@ -25,8 +25,8 @@ impl Count {
     }
 }
 
-/// Runs the sessions of these files one after the other, and tells what comes of each. The status is 0 where all passed. The
-/// runtime is handed on as one that reads files and may start threads, and as the host.
+/// Runs the sessions of these files one after the other, and tells what comes of each. The status is 0 where all
+/// passed. The runtime is handed on as one that reads files and may start threads, and as the host.
 pub fn run_files<R: Print + Files + AllocGlobal + Threads + Sync>(
     rt: &R,
     host: &HostRuntime,
