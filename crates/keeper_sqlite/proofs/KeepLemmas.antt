@@ -12,29 +12,39 @@ use Rattle.store_tables.proofs.CrashLemmas.{found_settled, kept_tells}
 use Rattle.store_tables.proofs.TransactionLemmas.{undone_now}
 use Rattle.keeper_sqlite.specs.Transactions.{Ends, HasKept, MayKeep}
 
-tells : (s : State) (t : KeptTables) → IsReady s → IsTrue s.is_open → told_by s.now.schema s.now.trees ≡ Some t → Tells s.now.schema s.now.trees t
+tells : (s : State) (t : KeptTables) → IsReady s → IsTrue s.is_open
+    → told_by s.now.schema s.now.trees ≡ Some t → Tells s.now.schema s.now.trees t
 tells s t ready live told = record { both = ready.both; sound = ready.sound live; told = told }
 
 abbrev Law : State → Type 0
 Law s = IsTrue s.is_open → (db : Trees) → s.may_leave db → db ≡ s.committed.trees
 
-kept_ends : (batch : Batch) (old new : State) → IsReady old → Law new → HasKept batch old new → (t : KeptTables) → IsNext batch.entry t → told_by old.now.schema old.now.trees ≡ Some t
-    → (told_by new.now.schema new.now.trees ≡ Some (with_batch batch t)) × ((left : Option KeptTables) → IsFound new left → left ≡ Some (with_batch batch t))
+kept_ends : (batch : Batch) (old new : State) → IsReady old → Law new → HasKept batch old new
+    → (t : KeptTables) → IsNext batch.entry t → told_by old.now.schema old.now.trees ≡ Some t
+    → (told_by new.now.schema new.now.trees ≡ Some (with_batch batch t))
+    × ((left : Option KeptTables) → IsFound new left → left ≡ Some (with_batch batch t))
 kept_ends batch old new ready law kept t next told =
     let after = kept.told t next (tells old t ready kept.was_open told) in
     (after.told, found_settled new (with_batch batch t) (law kept.is_open) kept.settled after)
 
-module _ (batch : Batch) (old new : State) (law : Law new) (survives : Survives old new (IsKept batch old)) (ready : HasCleanDisk old → IsReady old) (mode : new.in_transaction ≡ false) where
+module _ (batch : Batch) (old new : State) (law : Law new) (survives : Survives old new (IsKept batch old))
+    (ready : HasCleanDisk old → IsReady old) (mode : new.in_transaction ≡ false) where
   earlier : HasCleanDisk new → HasCleanDisk old
   earlier clean = omega (arith, survives.clean, clean)
 
-  found : HasCleanDisk new → (left : Option KeptTables) → IsFound new left → IsFound old left ⊎ (IsSeen old left ⊎ MayKeep batch old left)
+  found : HasCleanDisk new → (left : Option KeptTables) → IsFound new left
+      → IsFound old left ⊎ (IsSeen old left ⊎ MayKeep batch old left)
   found clean left it = elim (survives.crash clean it.0 it.2) [
     | inl was ↦ inl (it.0, it.1, was, it.3, it.4)
-    | inr kept ↦ inr (inr (kept.0, λ t next told. kept_tells batch old it.0 it.1 left t kept it.3 it.4 next (tells old t (ready (earlier clean)) kept.0 told)))
+    | inr kept ↦ inr (inr (
+      kept.0,
+      λ t next told. kept_tells batch old it.0 it.1 left t kept it.3 it.4 next
+          (tells old t (ready (earlier clean)) kept.0 told),
+    ))
   ]
 
-  pub keep_ends : {E : Type 0} (r : Result (Unit {0}) E) → (HasCleanDisk new → OnOk r (HasKept batch old new)) → (HasCleanDisk new → OnErr r (IsUndone old new)) → Ends batch r old new
+  pub keep_ends : {E : Type 0} (r : Result (Unit {0}) E) → (HasCleanDisk new → OnOk r (HasKept batch old new))
+      → (HasCleanDisk new → OnErr r (IsUndone old new)) → Ends batch r old new
   keep_ends (Ok x) kept undone = record {
     clean = survives.clean;
     mode = λ _. mode;
@@ -48,7 +58,8 @@ module _ (batch : Batch) (old new : State) (law : Law new) (survives : Survives 
     mode = λ _. mode;
     was_open = λ clean live. (undone clean).was_open live;
     kept = λ clean. tt;
-    undone = λ clean live. ap (λ (d : Database). told_by d.schema d.trees) (undone_now old new (ready (earlier clean)).settled (undone clean) live);
+    undone = λ clean live. ap (λ (d : Database). told_by d.schema d.trees)
+        (undone_now old new (ready (earlier clean)).settled (undone clean) live);
     crash = found;
   }
 
@@ -72,17 +83,29 @@ refused_ends batch e a b one = record {
 }
 
 -- a steady call, and then one that commits
-pub steady_ends : {E : Type 0} (batch : Batch) (r : Result (Unit {0}) E) (a b c : State) → IsSteady a b → Ends batch r b c → Ends batch r a c
+pub steady_ends : {E : Type 0} (batch : Batch) (r : Result (Unit {0}) E) (a b c : State) → IsSteady a b
+    → Ends batch r b c → Ends batch r a c
 steady_ends batch r a b c one two = record {
   clean = omega (arith, one.clean, two.clean);
   mode = λ h. two.mode (one.mode h);
   was_open = λ clean live. one.was_open (earlier clean) (two.was_open clean live);
-  kept = λ clean. on_ok r _ _ (λ kept. (kept.0, λ t next told. kept.1 t next (one.told (earlier clean) (two.was_open clean kept.0) ∙ told))) (two.kept clean);
-  undone = λ clean. on_err r _ _ (λ same live. same live ∙ one.told (earlier clean) (two.was_open clean live)) (two.undone clean);
+  kept = λ clean. on_ok r _ _
+      (λ kept. (
+        kept.0,
+        λ t next told. kept.1 t next
+            (one.told (earlier clean) (two.was_open clean kept.0) ∙ told),
+      )) (two.kept clean);
+  undone = λ clean. on_err r _ _ (λ same live. same live ∙ one.told (earlier clean) (two.was_open clean live))
+      (two.undone clean);
   crash = λ clean left it. elim (two.crash clean left it) [
-    | inl found ↦ elim (one.crash (earlier clean) left found) [ inl was ↦ inl was | inr seen ↦ inr (inl seen) ]
-    | inr (inl seen) ↦ inr (inl (one.was_open (earlier clean) seen.0, seen.1 ∙ one.told (earlier clean) seen.0))
-    | inr (inr may) ↦ inr (inr (one.was_open (earlier clean) may.0, λ t next told. may.1 t next (one.told (earlier clean) may.0 ∙ told)))
+    | inl found ↦ elim (one.crash (earlier clean) left found)
+        [ inl was ↦ inl was | inr seen ↦ inr (inl seen) ]
+    | inr (inl seen) ↦ inr (inl
+        (one.was_open (earlier clean) seen.0, seen.1 ∙ one.told (earlier clean) seen.0))
+    | inr (inr may) ↦ inr (inr (
+      one.was_open (earlier clean) may.0,
+      λ t next told. may.1 t next (one.told (earlier clean) may.0 ∙ told),
+    ))
   ];
 }
   where

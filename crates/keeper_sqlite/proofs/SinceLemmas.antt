@@ -27,18 +27,23 @@ settled_is s h = record {
   mode = not_true _ (right_of _ _ (right_of _ _ h));
 }
 
-settled_back : (s : State) → HasCleanDisk s → IsTrue s.is_open → s.in_transaction ≡ false → is_settled s ≡ true
+settled_back : (s : State) → HasCleanDisk s → IsTrue s.is_open → s.in_transaction ≡ false
+    → is_settled s ≡ true
 settled_back s clean live mode = both_of _ _ (clean_of s.is_clean clean) (both_of _ _ live (ap not mode))
 
-cond_some : (b : Bool) (o : Option KeptTables) (t : KeptTables) → cond b o None ≡ Some t → (b ≡ true) × (o ≡ Some t)
+cond_some : (b : Bool) (o : Option KeptTables) (t : KeptTables) → cond b o None ≡ Some t
+    → (b ≡ true) × (o ≡ Some t)
 cond_some true o t h = (refl, h)
 cond_some false o t h = absurd (cc)
 
-told_is : (s : State) (t : KeptTables) → told_in s ≡ Some t → Settled s × (told_by s.now.schema s.now.trees ≡ Some t)
+told_is : (s : State) (t : KeptTables) → told_in s ≡ Some t
+    → Settled s × (told_by s.now.schema s.now.trees ≡ Some t)
 told_is s t h = let it = cond_some (is_settled s) _ t h in (settled_is s it.0, it.1)
 
-told_now : (s : State) → HasCleanDisk s → IsTrue s.is_open → s.in_transaction ≡ false → told_in s ≡ told_by s.now.schema s.now.trees
-told_now s clean live mode = ap (λ b. cond b (told_by s.now.schema s.now.trees) None) (settled_back s clean live mode)
+told_now : (s : State) → HasCleanDisk s → IsTrue s.is_open → s.in_transaction ≡ false
+    → told_in s ≡ told_by s.now.schema s.now.trees
+told_now s clean live mode = ap (λ b. cond b (told_by s.now.schema s.now.trees) None)
+    (settled_back s clean live mode)
 
 some_of : (o : Option KeptTables) → IsTrue (is_some o) → (t : KeptTables) × (o ≡ Some t)
 some_of None h = absurd (cc)
@@ -54,7 +59,8 @@ one_some s t e = cc
 
 module _ (adopted old new : State) (was : IsTrue (is_some (told_in adopted))) (on : KeepsOn adopted old) where
   -- what is told of an open connection whose disk is clean
-  told_old : HasCleanDisk old → IsTrue old.is_open → (t : KeptTables) × (told_in old ≡ Some t) × (told_by old.now.schema old.now.trees ≡ Some t)
+  told_old : HasCleanDisk old → IsTrue old.is_open
+      → (t : KeptTables) × (told_in old ≡ Some t) × (told_by old.now.schema old.now.trees ≡ Some t)
   told_old clean live =
       let it = some_of (told_in old) (on.told was clean live) in
       (it.0, it.1, sym (told_now old clean live (on.mode was)) ∙ it.1)
@@ -74,17 +80,20 @@ module _ (adopted old new : State) (on : KeepsOn adopted old) (one : IsSteady ol
     mode = λ was. one.mode (on.mode was);
     told = λ was clean live.
         let it = told_old adopted old new was on (earlier clean) (one.was_open clean live) in
-        is_some_of (told_in new) it.0 (told_now new clean live (one.mode (on.mode was)) ∙ (one.told clean live ∙ it.2));
+        is_some_of (told_in new) it.0
+        (told_now new clean live (one.mode (on.mode was)) ∙ (one.told clean live ∙ it.2));
   }
 
   -- what is told was told before
-  same_told : IsTrue (is_some (told_in adopted)) → (t : KeptTables) → told_in new ≡ Some t → told_in old ≡ Some t
+  same_told : IsTrue (is_some (told_in adopted)) → (t : KeptTables) → told_in new ≡ Some t
+      → told_in old ≡ Some t
   same_told was t told =
       let it = told_is new t told in
       let before = told_old adopted old new was on (earlier it.0.clean) (one.was_open it.0.clean it.0.live) in
       before.1 ∙ (sym before.2 ∙ (sym (one.told it.0.clean it.0.live) ∙ it.1))
 
-  leaves_before : IsTrue (is_some (told_in adopted)) → (left : Option KeptTables) → leaves_in new left → leaves_in old left
+  leaves_before : IsTrue (is_some (told_in adopted)) → (left : Option KeptTables) → leaves_in new left
+      → leaves_in old left
   leaves_before was left (clean, inl told) =
       let it = some_of left told.0 in
       let same = same_told was it.0 (sym told.1 ∙ it.1) in
@@ -100,23 +109,28 @@ stays_by None (Some t) same = let e = same t refl in absurd (cc)
 stays_by (Some s) None same = tt
 stays_by (Some s) (Some t) same = one_some t s (sym (same t refl))
 
-since_some : (b : Bool) (o : Option KeptTables) (t : KeptTables) → cond b o None ≡ Some t → (b ≡ true) × (o ≡ Some t)
+since_some : (b : Bool) (o : Option KeptTables) (t : KeptTables) → cond b o None ≡ Some t
+    → (b ≡ true) × (o ≡ Some t)
 since_some true o t h = (refl, h)
 since_some false o t h = absurd (cc)
 
 since_true : (b : Bool) (o : Option KeptTables) → b ≡ true → cond b o None ≡ o
 since_true b o h = rw h refl
 
-pub steady_stays : (adopted old new : State) → KeepsOn adopted old → IsSteady old new → Stays (told_since adopted old) (told_since adopted new)
+pub steady_stays : (adopted old new : State) → KeepsOn adopted old → IsSteady old new
+    → Stays (told_since adopted old) (told_since adopted new)
 steady_stays adopted old new on one = stays_by _ _ (λ t told.
     let it = since_some (is_some (told_in adopted)) (told_in new) t told in
     since_true (is_some (told_in adopted)) (told_in old) it.0 ∙ same_told adopted old new on one it.0 t it.1)
 
-pub steady_leaves : (adopted old new : State) → KeepsOn adopted old → IsSteady old new → LeavesNoMore (leaves_since adopted old) (leaves_since adopted new)
-steady_leaves adopted old new on one left after was = leaves_before adopted old new on one was left (after was)
+pub steady_leaves : (adopted old new : State) → KeepsOn adopted old → IsSteady old new
+    → LeavesNoMore (leaves_since adopted old) (leaves_since adopted new)
+steady_leaves adopted old new on one left after was = leaves_before adopted old new on one was left
+    (after was)
 
 -- what a call answers of what is told afterwards
-pub since_told : (adopted s : State) (t : KeptTables) → told_since adopted s ≡ Some t → HasCleanDisk s × (told_by s.now.schema s.now.trees ≡ Some t)
+pub since_told : (adopted s : State) (t : KeptTables) → told_since adopted s ≡ Some t
+    → HasCleanDisk s × (told_by s.now.schema s.now.trees ≡ Some t)
 since_told adopted s t told =
     let it = since_some (is_some (told_in adopted)) (told_in s) t told in
     let now = told_is s t it.1 in
@@ -124,68 +138,94 @@ since_told adopted s t told =
 
 -- ---- a commit
 
-becomes_by : (change : KeptTables → KeptTables) (a b : Option KeptTables) → ((t : KeptTables) → b ≡ Some t → (s : KeptTables) × (a ≡ Some s) × (t ≡ change s)) → Becomes change a b
+becomes_by : (change : KeptTables → KeptTables) (a b : Option KeptTables)
+    → ((t : KeptTables) → b ≡ Some t → (s : KeptTables) × (a ≡ Some s) × (t ≡ change s)) → Becomes change a b
 becomes_by change None None same = tt
 becomes_by change None (Some t) same = let e = (same t refl).1 in absurd (cc)
 becomes_by change (Some s) None same = tt
-becomes_by change (Some s) (Some t) same = let it = same t refl in it.2 ∙ ap change (one_some it.0 s (sym it.1))
+becomes_by change (Some s) (Some t) same = let it = same t refl in it.2
+    ∙ ap change (one_some it.0 s (sym it.1))
 
-pub told_by_is : (o : Option KeptTables) (P : KeptTables → Type 0) → ((t : KeptTables) → o ≡ Some t → P t) → IfSome o P
+pub told_by_is : (o : Option KeptTables) (P : KeptTables → Type 0) → ((t : KeptTables) → o ≡ Some t → P t)
+    → IfSome o P
 told_by_is None P each = tt
 told_by_is (Some t) P each = each t refl
 
-next_of : (o : Option KeptTables) (batch : Batch) (t : KeptTables) → IsNextOf o batch → o ≡ Some t → IsNext batch.entry t
+next_of : (o : Option KeptTables) (batch : Batch) (t : KeptTables) → IsNextOf o batch → o ≡ Some t
+    → IsNext batch.entry t
 next_of None batch t next e = absurd (cc)
 next_of (Some s) batch t next e = subst (IsNext batch.entry) (one_some s t e) next
 
-module _ {E : Type 0} (batch : Batch) (r : Result (Unit {0}) E) (adopted old new : State) (on : KeepsOn adopted old) (next : IsNextOf (told_since adopted old) batch) (it : Ends batch r old new) where
-  was_clean : HasCleanDisk new → HasCleanDisk old
-  was_clean clean = omega (arith, it.clean, clean)
+module _ {E : Type 0} (batch : Batch) (r : Result (Unit {0}) E) (adopted old new : State)
+    (on : KeepsOn adopted old) (next : IsNextOf (told_since adopted old) batch) (it : Ends batch r old new)
+  where
+    was_clean : HasCleanDisk new → HasCleanDisk old
+    was_clean clean = omega (arith, it.clean, clean)
 
-  next_is : IsTrue (is_some (told_in adopted)) → (t : KeptTables) → told_in old ≡ Some t → IsNext batch.entry t
-  next_is was t told = next_of (told_since adopted old) batch t next (since_true (is_some (told_in adopted)) (told_in old) was ∙ told)
+    next_is : IsTrue (is_some (told_in adopted)) → (t : KeptTables) → told_in old ≡ Some t
+        → IsNext batch.entry t
+    next_is was t told = next_of (told_since adopted old) batch t next
+        (since_true (is_some (told_in adopted)) (told_in old) was ∙ told)
 
-  -- an open connection whose disk is clean told its tables, and the batch's entry is the next
-  before : IsTrue (is_some (told_in adopted)) → HasCleanDisk new → IsTrue old.is_open
-      → (t : KeptTables) × (told_in old ≡ Some t) × (told_by old.now.schema old.now.trees ≡ Some t) × IsNext batch.entry t
-  before was clean live =
-      let x = told_old adopted old new was on (was_clean clean) live in
-      (x.0, x.1, x.2, next_is was x.0 x.1)
+    -- an open connection whose disk is clean told its tables, and the batch's entry is the next
+    before : IsTrue (is_some (told_in adopted)) → HasCleanDisk new → IsTrue old.is_open
+        → (t : KeptTables) × (told_in old ≡ Some t) × (told_by old.now.schema old.now.trees ≡ Some t)
+        × IsNext batch.entry t
+    before was clean live =
+        let x = told_old adopted old new was on (was_clean clean) live in
+        (x.0, x.1, x.2, next_is was x.0 x.1)
 
-pub ends_on : {E : Type 0} (batch : Batch) (r : Result (Unit {0}) E) (adopted old new : State) → KeepsOn adopted old → IsNextOf (told_since adopted old) batch → Ends batch r old new → KeepsOn adopted new
+pub ends_on : {E : Type 0} (batch : Batch) (r : Result (Unit {0}) E) (adopted old new : State)
+    → KeepsOn adopted old → IsNextOf (told_since adopted old) batch → Ends batch r old new
+    → KeepsOn adopted new
 ends_on batch (Ok x) adopted old new on next it = record {
   mode = λ was. it.mode (on.mode was);
   told = λ was clean live.
       let t = before batch (Ok x) adopted old new on next it was clean (it.was_open clean live) in
-      is_some_of (told_in new) (with_batch batch t.0) (told_now new clean live (it.mode (on.mode was)) ∙ ((it.kept clean).1 t.0 t.3 t.2).0);
+      is_some_of (told_in new) (with_batch batch t.0)
+      (told_now new clean live (it.mode (on.mode was)) ∙ ((it.kept clean).1 t.0 t.3 t.2).0);
 }
 ends_on batch (Err e) adopted old new on next it = record {
   mode = λ was. it.mode (on.mode was);
   told = λ was clean live.
       let t = before batch (Err e) adopted old new on next it was clean (it.was_open clean live) in
-      is_some_of (told_in new) t.0 (told_now new clean live (it.mode (on.mode was)) ∙ (it.undone clean live ∙ t.2));
+      is_some_of (told_in new) t.0
+      (told_now new clean live (it.mode (on.mode was)) ∙ (it.undone clean live ∙ t.2));
 }
 
-pub ends_commits : {E : Type 0} (batch : Batch) (r : Result (Unit {0}) E) (adopted old new : State) → KeepsOn adopted old → IsNextOf (told_since adopted old) batch → Ends batch r old new
+pub ends_commits : {E : Type 0} (batch : Batch) (r : Result (Unit {0}) E) (adopted old new : State)
+    → KeepsOn adopted old → IsNextOf (told_since adopted old) batch → Ends batch r old new
     → Commits batch r (told_since adopted old) (told_since adopted new)
 ends_commits batch (Ok x) adopted old new on next it = becomes_by (with_batch batch) _ _ (λ t told.
     let since = since_some (is_some (told_in adopted)) (told_in new) t told in
     let now = told_is new t since.1 in
-    let was = before batch (Ok x) adopted old new on next it since.0 now.0.clean (it.was_open now.0.clean now.0.live) in
-    (was.0, since_true (is_some (told_in adopted)) (told_in old) since.0 ∙ was.1, one_some _ _ (sym now.1 ∙ ((it.kept now.0.clean).1 was.0 was.3 was.2).0)))
+    let was = before batch (Ok x) adopted old new on next it since.0 now.0.clean
+    (it.was_open now.0.clean now.0.live) in (
+      was.0,
+      since_true (is_some (told_in adopted)) (told_in old) since.0
+          ∙ was.1,
+      one_some _ _ (sym now.1 ∙ ((it.kept now.0.clean).1 was.0 was.3 was.2).0),
+    ))
 ends_commits batch (Err e) adopted old new on next it = stays_by _ _ (λ t told.
     let since = since_some (is_some (told_in adopted)) (told_in new) t told in
     let now = told_is new t since.1 in
-    let was = before batch (Err e) adopted old new on next it since.0 now.0.clean (it.was_open now.0.clean now.0.live) in
-    since_true (is_some (told_in adopted)) (told_in old) since.0 ∙ (was.1 ∙ (sym was.2 ∙ (sym (it.undone now.0.clean now.0.live) ∙ now.1))))
+    let was = before batch (Err e) adopted old new on next it since.0 now.0.clean
+    (it.was_open now.0.clean now.0.live) in
+    since_true (is_some (told_in adopted)) (told_in old) since.0
+    ∙ (was.1 ∙ (sym was.2 ∙ (sym (it.undone now.0.clean now.0.live) ∙ now.1))))
 
 -- what a crash may leave after a commit that was refused
-left_either : {E : Type 0} (batch : Batch) (e : E) (adopted old new : State) → KeepsOn adopted old → IsNextOf (told_since adopted old) batch → Ends batch (Err e) old new
-    → (b : Bool) → is_some (told_in adopted) ≡ b → LeavesEither batch (told_since adopted old) (leaves_since adopted old) (leaves_since adopted new)
-left_either batch e adopted old new on next it false none left after = inl (λ was. absurd (true≢false (sym was ∙ none)))
+left_either : {E : Type 0} (batch : Batch) (e : E) (adopted old new : State) → KeepsOn adopted old
+    → IsNextOf (told_since adopted old) batch → Ends batch (Err e) old new
+    → (b : Bool) → is_some (told_in adopted) ≡ b
+    → LeavesEither batch (told_since adopted old) (leaves_since adopted old) (leaves_since adopted new)
+left_either batch e adopted old new on next it false none left after = inl
+    (λ was. absurd (true≢false (sym was ∙ none)))
 left_either batch e adopted old new on next it true was left after = go (after was)
   where
-    go : leaves_in new left → leaves_since adopted old left ⊎ ((tables : KeptTables) × (told_since adopted old ≡ Some tables) × (left ≡ Some (with_batch batch tables)))
+    go : leaves_in new left → leaves_since adopted old left
+        ⊎ ((tables : KeptTables) × (told_since adopted old ≡ Some tables)
+        × (left ≡ Some (with_batch batch tables)))
     go (clean, inl told) =
         let some = some_of left told.0 in
         let now = told_is new some.0 (sym told.1 ∙ some.1) in
@@ -194,24 +234,30 @@ left_either batch e adopted old new on next it true was left after = go (after w
         inl (λ _. (was_clean batch (Err e) adopted old new on next it clean, inl (told.0, some.1 ∙ sym same)))
     go (clean, inr found) = elim (it.crash clean left found) [
       | inl was_found ↦ inl (λ _. (was_clean batch (Err e) adopted old new on next it clean, inr was_found))
-      | inr (inl seen) ↦ inl (λ _. seen_told adopted old new was on (was_clean batch (Err e) adopted old new on next it clean) left seen)
+      | inr (inl seen) ↦ inl (λ _. seen_told adopted old new was on
+          (was_clean batch (Err e) adopted old new on next it clean) left seen)
       | inr (inr may) ↦
           let x = before batch (Err e) adopted old new on next it was clean may.0 in
           inr (x.0, since_true (is_some (told_in adopted)) (told_in old) was ∙ x.1, may.1 x.0 x.3 x.2)
     ]
 
-pub ends_leaves : {E : Type 0} (batch : Batch) (r : Result (Unit {0}) E) (adopted old new : State) → KeepsOn adopted old → IsNextOf (told_since adopted old) batch → Ends batch r old new
-    → CommitLeaves batch r (told_since adopted old) (told_since adopted new) (leaves_since adopted old) (leaves_since adopted new)
-ends_leaves batch (Ok x) adopted old new on next it = told_by_is (told_since adopted new) _ (λ t told left after.
+pub ends_leaves : {E : Type 0} (batch : Batch) (r : Result (Unit {0}) E) (adopted old new : State)
+    → KeepsOn adopted old → IsNextOf (told_since adopted old) batch → Ends batch r old new
+    → CommitLeaves batch r (told_since adopted old) (told_since adopted new) (leaves_since adopted old)
+    (leaves_since adopted new)
+ends_leaves batch (Ok x) adopted old new on next it = told_by_is (told_since adopted new) _
+    (λ t told left after.
     let since = since_some (is_some (told_in adopted)) (told_in new) t told in
     let now = told_is new t since.1 in
-    let was = before batch (Ok x) adopted old new on next it since.0 now.0.clean (it.was_open now.0.clean now.0.live) in
+    let was = before batch (Ok x) adopted old new on next it since.0 now.0.clean
+    (it.was_open now.0.clean now.0.live) in
     let kept = (it.kept now.0.clean).1 was.0 was.3 was.2 in
     elim (after since.0).1 [
       | inl same ↦ same.1 ∙ since.1
       | inr found ↦ kept.1 left found ∙ (sym kept.0 ∙ now.1)
     ])
-ends_leaves batch (Err e) adopted old new on next it = left_either batch e adopted old new on next it (is_some (told_in adopted)) refl
+ends_leaves batch (Err e) adopted old new on next it = left_either batch e adopted old new on next it
+    (is_some (told_in adopted)) refl
 
 pub always_ok : {X E : Type 0} (r : Result X E) (P : Type 0) → P → OnOk r P
 always_ok (Ok x) P h = h

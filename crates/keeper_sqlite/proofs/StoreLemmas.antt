@@ -14,20 +14,26 @@ use Rattle.store_tables.specs.Told.{told_by}
 use Rattle.store_tables.proofs.TransactionLemmas.{made_steady}
 use Rattle.keeper_sqlite.specs.Transactions.{HasMade}
 
-went : {E : Type 0} (old new : State) (r : Result (Unit {0}) E) → OnOk r (HasMade old new) → OnErr r (IsUndone old new)
-    → IsUndone old new ⊎ (IsTrue old.is_open × (told_by new.now.schema new.now.trees ≡ told_by old.now.schema old.now.trees))
+went : {E : Type 0} (old new : State) (r : Result (Unit {0}) E) → OnOk r (HasMade old new)
+    → OnErr r (IsUndone old new)
+    → IsUndone old new ⊎ (IsTrue old.is_open
+    × (told_by new.now.schema new.now.trees ≡ told_by old.now.schema old.now.trees))
 went old new (Ok x) made undone = inr (made.was_open, made.told)
 went old new (Err e) made undone = inl undone
 
-pub make_steady : {E : Type 0} (old new : State) (r : Result (Unit {0}) E) → (IsTrue old.is_open → old.now ≡ old.committed) → new.in_transaction ≡ false
-    → (HasCleanDisk new → OnOk r (HasMade old new)) → (HasCleanDisk new → OnErr r (IsUndone old new)) → Survives old new (IsMade old) → IsSteady old new
+pub make_steady : {E : Type 0} (old new : State) (r : Result (Unit {0}) E)
+    → (IsTrue old.is_open → old.now ≡ old.committed) → new.in_transaction ≡ false
+    → (HasCleanDisk new → OnOk r (HasMade old new)) → (HasCleanDisk new → OnErr r (IsUndone old new))
+    → Survives old new (IsMade old) → IsSteady old new
 make_steady old new r settled mode made undone survives =
-    made_steady old new (λ _. settled) (λ _. mode) (λ clean. went old new r (made clean) (undone clean)) survives
+    made_steady old new (λ _. settled) (λ _. mode) (λ clean. went old new r (made clean) (undone clean))
+    survives
 
 pub made_ready : (old new : State) → HasMade old new → IsReady new
 made_ready old new made = record { both = made.both; settled = λ _. made.settled; sound = λ _. made.sound }
 
-pub is_ready : (s : State) → s.now.schema ≡ both_schema → (IsTrue s.is_open → s.now ≡ s.committed) → IsLive s → IsReady s
+pub is_ready : (s : State) → s.now.schema ≡ both_schema → (IsTrue s.is_open → s.now ≡ s.committed) → IsLive s
+    → IsReady s
 is_ready s both settled live = record { both = both; settled = settled; sound = λ h. (live h).0 }
 
 -- ---- what is read
@@ -41,15 +47,20 @@ unfolding number_in
 number_same m n e = ap (λ (row : Row). number_in (column row 0)) e
 
 -- the last number, by its rows
-pub number_is : (n : ℕ) (row : Row) (rows : List Row) (t : KeptTables) → row ≡ Int (pos n) ∷ [] → slice_get rows 0 ≡ Some row → rows ≡ last_rows t → n ≡ last_number t
-number_is n row rows t is first all = go (slice_get t.entries (length t.entries - 1)) (sym first ∙ ap (λ xs. slice_get xs 0) all)
+pub number_is : (n : ℕ) (row : Row) (rows : List Row) (t : KeptTables) → row ≡ Int (pos n) ∷ []
+    → slice_get rows 0 ≡ Some row → rows ≡ last_rows t → n ≡ last_number t
+number_is n row rows t is first all = go (slice_get t.entries (length t.entries - 1))
+    (sym first ∙ ap (λ xs. slice_get xs 0) all)
   where
     go : (o : Option KeptEntry) → Some row ≡ slice_get (number_row o) 0 → n ≡ number_of o
     go None e = absurd (cc)
-    go (Some entry) e = let same : row ≡ Int (pos entry.seq) ∷ [] = cc in number_same n entry.seq (sym is ∙ same)
+    go (Some entry) e = let same : row
+        ≡ Int (pos entry.seq) ∷ [] = cc in number_same n entry.seq (sym is ∙ same)
 
-pub none_is : (rows : List Row) (t : KeptTables) → slice_get rows 0 ≡ None → rows ≡ last_rows t → 0 ≡ last_number t
-none_is rows t first all = go (slice_get t.entries (length t.entries - 1)) (sym first ∙ ap (λ xs. slice_get xs 0) all)
+pub none_is : (rows : List Row) (t : KeptTables) → slice_get rows 0 ≡ None → rows ≡ last_rows t
+    → 0 ≡ last_number t
+none_is rows t first all = go (slice_get t.entries (length t.entries - 1))
+    (sym first ∙ ap (λ xs. slice_get xs 0) all)
   where
     go : (o : Option KeptEntry) → None ≡ slice_get (number_row o) 0 → 0 ≡ number_of o
     go None e = refl
@@ -76,14 +87,21 @@ entry_in row = record {
 }
 
 cell_in : Row → KeptCell
-cell_in row = record { kind = number_in (column row 0); name = bytes (column row 1); touched = number_in (column row 2); row = blob_in (column row 3) }
+cell_in row = record {
+  kind = number_in (column row 0);
+  name = bytes (column row 1);
+  touched = number_in
+      (column row 2);
+  row = blob_in (column row 3);
+}
 
 entries_back : (list : List KeptEntry) → map entry_in (map entry_row list) ≡ list
 unfolding entry_in number_in signed_in
 entries_back [] = refl
 entries_back (e ∷ list) = ap (λ xs. e ∷ xs) (entries_back list)
 
-blob_back : (c : KeptCell) (o : Option (List ℕ)) → cell_in (cell_row (record c { row = o })) ≡ record c { row = o }
+blob_back : (c : KeptCell) (o : Option (List ℕ))
+    → cell_in (cell_row (record c { row = o })) ≡ record c { row = o }
 unfolding cell_in number_in blob_in
 blob_back c None = refl
 blob_back c (Some b) = refl
@@ -93,8 +111,11 @@ cells_back [] = refl
 cells_back (c ∷ list) = ap₂ ◌∷◌ (blob_back c c.row) (cells_back list)
 
 -- entries and cells are known by their rows
-pub same_entries : (rows : List Row) (list other : List KeptEntry) → rows ≡ map entry_row list → rows ≡ map entry_row other → list ≡ other
-same_entries rows list other p q = sym (entries_back list) ∙ (ap (map entry_in) (sym p ∙ q) ∙ entries_back other)
+pub same_entries : (rows : List Row) (list other : List KeptEntry) → rows ≡ map entry_row list
+    → rows ≡ map entry_row other → list ≡ other
+same_entries rows list other p q = sym (entries_back list)
+    ∙ (ap (map entry_in) (sym p ∙ q) ∙ entries_back other)
 
-pub same_cells : (rows : List Row) (list other : List KeptCell) → rows ≡ map cell_row list → rows ≡ map cell_row other → list ≡ other
+pub same_cells : (rows : List Row) (list other : List KeptCell) → rows ≡ map cell_row list
+    → rows ≡ map cell_row other → list ≡ other
 same_cells rows list other p q = sym (cells_back list) ∙ (ap (map cell_in) (sym p ∙ q) ∙ cells_back other)

@@ -23,12 +23,14 @@ pub record KeeperState (S : Type 0) : Type 0 where
 
 -- What is seen of a store, as a code.
 abbrev pub store_code : {S : Type 0} → Coded S → Coded (StoreState S)
-store_code {S} s = code_by (Held S × Held S) (coded× (held_code s) (held_code s)) (λ x. (x.conn, x.adopted)) (λ p. record { conn = p.0; adopted = p.1 }) (λ _. refl)
+store_code {S} s = code_by (Held S × Held S) (coded× (held_code s) (held_code s)) (λ x. (x.conn, x.adopted))
+    (λ p. record { conn = p.0; adopted = p.1 }) (λ _. refl)
 
 -- What is seen of a keeper, as a code.
 abbrev pub keeper_code : {S : Type 0} → Coded S → Coded (KeeperState S)
 keeper_code {S} s =
-    code_by (Option (StoreState S) × ℕ) (coded× (coded_option (store_code s)) coded_ℕ) (λ x. (x.store, x.faults)) (λ p. record { store = p.0; faults = p.1 }) (λ _. refl)
+    code_by (Option (StoreState S) × ℕ) (coded× (coded_option (store_code s)) coded_ℕ)
+    (λ x. (x.store, x.faults)) (λ p. record { store = p.0; faults = p.1 }) (λ _. refl)
 
 -- The tables that a connection tells, if it told its tables when it was adopted.
 abbrev pub told_since : State → State → Option KeptTables
@@ -38,10 +40,12 @@ told_since adopted now = if is_some (told_in adopted) then told_in now else None
 abbrev pub leaves_since : State → State → Option KeptTables → Type 0
 leaves_since adopted now left = IsTrue (is_some (told_in adopted)) → leaves_in now left
 
--- A connection that told its tables when it was adopted tells them between transactions while it is open and its disk is clean.
+-- A connection that told its tables when it was adopted tells them between transactions while it is open and
+-- its disk is clean.
 pub record KeepsOn (adopted now : State) : Type 0 where
   pub mode : IsTrue (is_some (told_in adopted)) → now.in_transaction ≡ false
-  pub told : IsTrue (is_some (told_in adopted)) → HasCleanDisk now → IsTrue now.is_open → IsTrue (is_some (told_in now))
+  pub told : IsTrue (is_some (told_in adopted)) → HasCleanDisk now → IsTrue now.is_open
+      → IsTrue (is_some (told_in now))
 
 module _ {S : Type 0} (g : Ghosts S) where
   -- The tables of a store, and of a keeper that has one or none.
@@ -62,22 +66,30 @@ module _ {S : Type 0} (g : Ghosts S) where
 
 -- ---- what is told may be left
 
-clean_told : (b : Bool) (o : Option KeptTables) (c : Bool) (t : KeptTables) → (if c && b then o else None) ≡ Some t → doubt c ≡ 0
+clean_told : (b : Bool) (o : Option KeptTables) (c : Bool) (t : KeptTables)
+    → (if c && b then o else None) ≡ Some t → doubt c ≡ 0
 clean_told b o true t h = no_doubt true refl
 clean_told b o false t h = absurd (not_some t (ap is_some h))
   where
     not_some : (t : KeptTables) → false ≡ true → ⊥
     not_some t e = true≢false (sym e)
 
-may_stay_since : (b : Bool) (adopted now : State) → is_some (told_in adopted) ≡ b → IfSome (if b then told_in now else None) (λ t. leaves_since adopted now (Some t))
+may_stay_since : (b : Bool) (adopted now : State) → is_some (told_in adopted) ≡ b
+    → IfSome (if b then told_in now else None) (λ t. leaves_since adopted now (Some t))
 may_stay_since false adopted now is = tt
 may_stay_since true adopted now is = go (told_in now) refl
   where
     go : (o : Option KeptTables) → told_in now ≡ o → IfSome o (λ t. leaves_since adopted now (Some t))
     go None e = tt
-    go (Some t) e = λ _. (clean_told (now.is_open && not now.in_transaction) (told_by now.now.schema now.now.trees) now.is_clean t e, inl (refl, sym e))
+    go (Some t) e = λ _. (
+      clean_told (now.is_open && not now.in_transaction)
+          (told_by now.now.schema now.now.trees) now.is_clean t e,
+      inl (refl, sym e),
+    )
 
 -- The tables that a keeper tells may be left.
-pub may_stay : {S : Type 0} (g : Ghosts S) (o : Option (StoreState S)) → IfSome (tables_in g o) (λ t. leaves_from g o (Some t))
+pub may_stay : {S : Type 0} (g : Ghosts S) (o : Option (StoreState S))
+    → IfSome (tables_in g o) (λ t. leaves_from g o (Some t))
 may_stay g None = tt
-may_stay g (Some s) = may_stay_since (is_some (told_in (state g s.adopted))) (state g s.adopted) (state g s.conn) refl
+may_stay g (Some s) = may_stay_since (is_some (told_in (state g s.adopted))) (state g s.adopted)
+    (state g s.conn) refl

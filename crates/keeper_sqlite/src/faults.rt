@@ -9,18 +9,21 @@ use std::fmt;
 /// Why a call of a keeper failed.
 #[derive(Clone, Copy, Debug, PartialEq, Eq)]
 pub enum Cause {
-    /// The file couldn't be opened: it isn't there and can't be made, may not be read and written, or another program has it.
+    /// The file couldn't be opened: it isn't there and can't be made, may not be read and written, or another
+    /// program has it.
     Unopened,
     /// The database has other tables than those of a keeper.
     Tables,
     /// A row isn't that of an entry or a cell.
     Row,
+    /// The connection is inside a transaction that isn't the keeper's.
+    Transaction,
     /// The database reports this.
     Database(ErrorCode),
 }
 
 impl Cause {
-    // Notes an error of the database, and says what it is to a caller.
+    // Notes an error of the database, and returns what it is to a caller.
     pub fn note(&mut self, error: Error) -> KeepFault
         ensures { (result ≡ KeepFault.NoMemory) ↔ (error ≡ Error.SqliteFailure ErrorCode.OutOfMemory) }
     {
@@ -40,6 +43,7 @@ impl fmt::Display for Cause {
             ),
             Cause::Tables => f.write_str("it has other tables than those of this program"),
             Cause::Row => f.write_str("it has a row that this program doesn't write"),
+            Cause::Transaction => f.write_str("it is inside a transaction of another caller"),
             Cause::Database(code) => write!(f, "{code}"),
         }
     }

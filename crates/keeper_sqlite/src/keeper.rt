@@ -11,12 +11,13 @@ use sqlite::{Alter, Connection, File, FileStore};
 use std::alloc::Global;
 use std::marker::Model;
 
-/// A keeper over a database of SQLite, by its two tables `entry` and `cell`. It tells the rows of both, field by field,
-/// between its calls, while the database is open and its disk is clean, if the connection told them when the keeper
-/// adopted it: it had no table yet, or the tables of this keeper and nothing else, with rows of entries and cells alone. A
-/// call fails where the database couldn't be opened, where it has any other schema, where it fails or refuses a statement,
-/// and where a value is stored that doesn't fit its field, as a kind above 255 or a negative number. Contracts see the
-/// connection, what it was when it was adopted, and the number of calls that have failed.
+/// A keeper over a database of SQLite, by its two tables `entry` and `cell`. It tells the rows of both, field
+/// by field, between its calls, while the database is open and its disk is clean, if the connection told them
+/// when the keeper adopted it: it had no table yet, or the tables of this keeper and nothing else, with rows
+/// of entries and cells alone. A call fails where the database couldn't be opened, where it has any other
+/// schema, where it fails or refuses a statement, and where a value is stored that doesn't fit its field, as
+/// a kind above 255 or a negative number. Contracts see the connection, what it was when it was adopted, and
+/// the number of calls that have failed.
 #[derive(Drop)]
 pub struct SqliteKeeper<S: Alter> {
     // None where the file couldn't be opened.
@@ -35,9 +36,10 @@ impl<S: Alter> Model for SqliteKeeper<S> {
 }
 
 impl SqliteKeeper<FileStore<File>> {
-    /// A keeper over the file at this path, which is made where there is none. Beside it stands a second file, with
-    /// `-wal` behind its name, and the two are kept together. No other program may have the file open meanwhile. Where it
-    /// can't be opened, each call fails. Nothing is known of what a real file holds, so that the keeper need not tell it.
+    /// A keeper over the file at this path, which is made where there is none. Beside it stands a second
+    /// file, with `-wal` behind its name, and the two are kept together. No other program may have the file
+    /// open meanwhile. Where it can't be opened, each call fails. Nothing is known of what a real file holds,
+    /// so that the keeper need not tell it.
     pub fn on_file(rt: &HostRuntime, path: &str) -> SqliteKeeper<FileStore<File>>
         ensures { result.faults ≡ 0 }
     {
@@ -52,9 +54,11 @@ impl SqliteKeeper<FileStore<File>> {
 }
 
 impl<S: Alter> SqliteKeeper<S> {
-    /// A keeper over a connection, which it adopts as it is. Tables that aren't there are made at the first call.
+    /// A keeper over a connection, which it adopts as it is. Tables that aren't there are made at the first
+    /// call.
     pub fn over(alloc: Global, connection: Connection<S>) -> SqliteKeeper<S>
-        ensures { result ≡ record { store = Some (record { conn = connection; adopted = connection }); faults = 0 } }
+        ensures { result ≡ record
+            { store = Some (record { conn = connection; adopted = connection }); faults = 0 } }
     {
         SqliteKeeper {
             store: Some(Store::new(alloc, connection)),
@@ -73,8 +77,10 @@ impl<S: Alter> SqliteKeeper<S> {
         }
     }
 
-    /// Why the last call that failed did so. Before the first one it says nothing.
-    pub fn cause(&self) -> Cause {
+    /// Why the last call failed. After a call that didn't fail, and before the first one, it says nothing.
+    pub fn cause(&self) -> Cause
+        ensures { self.now.store ≡ None → result ≡ Cause.Unopened }
+    {
         match &self.store {
             Some(store) => store.cause(),
             None => Cause::Unopened,
@@ -91,7 +97,8 @@ impl<S: Alter> SqliteKeeper<S> {
 
 // The calls on a store that may be absent, where each fails.
 fn last_of<S: Alter>(store: &mut Option<Store<S>>) -> Result<u64, KeepFault>
-    ensures answer { IfSome (tables_in S.Store store.new) (λ told. IfOk result (λ number. number ≡ last_number told)) }
+    ensures answer { IfSome (tables_in S.Store store.new)
+        (λ told. IfOk result (λ number. number ≡ last_number told)) }
     ensures kept { OnOk result (IfSome (tables_in S.Store store.new) AreKept) }
     ensures same { Stays (tables_in S.Store store.old) (tables_in S.Store store.new) }
     ensures crash { LeavesNoMore (leaves_from S.Store store.old) (leaves_from S.Store store.new) }
@@ -107,7 +114,8 @@ fn entries_of<S: Alter>(
     after: u64,
     upto: u64,
 ) -> Result<List<KeptEntry>, KeepFault>
-    ensures answer { IfSome (tables_in S.Store store.new) (λ told. IfOk result (λ list. list ≡ entries_between after upto told)) }
+    ensures answer { IfSome (tables_in S.Store store.new)
+        (λ told. IfOk result (λ list. list ≡ entries_between after upto told)) }
     ensures same { Stays (tables_in S.Store store.old) (tables_in S.Store store.new) }
     ensures crash { LeavesNoMore (leaves_from S.Store store.old) (leaves_from S.Store store.new) }
 {
@@ -122,7 +130,8 @@ fn cells_of<S: Alter>(
     after: u64,
     upto: u64,
 ) -> Result<List<KeptCell>, KeepFault>
-    ensures answer { IfSome (tables_in S.Store store.new) (λ told. IfOk result (λ list. list ≡ cells_between after upto told)) }
+    ensures answer { IfSome (tables_in S.Store store.new)
+        (λ told. IfOk result (λ list. list ≡ cells_between after upto told)) }
     ensures same { Stays (tables_in S.Store store.old) (tables_in S.Store store.new) }
     ensures crash { LeavesNoMore (leaves_from S.Store store.old) (leaves_from S.Store store.new) }
 {
@@ -136,7 +145,8 @@ fn commit_in<S: Alter>(store: &mut Option<Store<S>>, batch: &Batch) -> Result<()
     requires batch { IsBatch batch.now }
     requires next { IsNextOf (tables_in S.Store store.old) batch.now }
     ensures tables { Commits batch.now result (tables_in S.Store store.old) (tables_in S.Store store.new) }
-    ensures crash { CommitLeaves batch.now result (tables_in S.Store store.old) (tables_in S.Store store.new) (leaves_from S.Store store.old) (leaves_from S.Store store.new) }
+    ensures crash { CommitLeaves batch.now result (tables_in S.Store store.old) (tables_in S.Store store.new)
+        (leaves_from S.Store store.old) (leaves_from S.Store store.new) }
 {
     match store {
         Some(store) => store.commit(batch),
@@ -153,7 +163,18 @@ impl<S: Alter> Keeper for SqliteKeeper<S> {
 
     ghost leaves = { λ k. leaves_from S.Store k.store };
 
-    ghost may_stay = { λ k. may_stay (record { view = S.Store.view; faults = S.Store.faults; recovers = S.Store.recovers; is_shielded = S.Store.is_shielded; is_step = S.Store.is_step; blamed = S.Store.blamed; names = S.Store.names }) k.store };
+    ghost may_stay = { λ k. may_stay
+        (record {
+          view = S.Store.view;
+          faults = S.Store.faults;
+          recovers = S.Store.recovers;
+          is_shielded =
+              S.Store.is_shielded;
+          is_step = S.Store.is_step;
+          blamed = S.Store.blamed;
+          names = S.Store.names;
+        })
+        k.store };
 
     fn last(&mut self) -> Result<u64, KeepFault> {
         let answer = last_of(&mut self.store);

@@ -21,8 +21,8 @@ const MAKE_ENTRIES: &'static str = "CREATE TABLE IF NOT EXISTS entry (
   answer BLOB NOT NULL
 ) STRICT";
 
-// A cell a row, by its kind and its name, and beside that in the order of the entries that touched them last, so that the
-// cells of a few entries are found without looking at all.
+// A cell a row, by its kind and its name, and beside that in the order of the entries that touched them last,
+// so that the cells of a few entries are found without looking at all.
 const MAKE_CELLS: &'static str = "CREATE TABLE IF NOT EXISTS cell (
   kind INTEGER NOT NULL,
   name TEXT NOT NULL,
@@ -35,11 +35,15 @@ const MAKE_CELLS: &'static str = "CREATE TABLE IF NOT EXISTS cell (
 // Makes the table of entries.
 fn make_entries<S: Alter>(tx: &mut Transaction<'_, S>) -> Result<usize, Error>
     ensures same_reference { tx.new.conn.ghost_name ≡ tx.old.conn.ghost_name }
-    ensures inside { HasCleanDisk (state S.Store tx.new.conn.now) → IsTrue (state S.Store tx.old.conn.now).in_transaction
+    ensures inside { HasCleanDisk (state S.Store tx.new.conn.now)
+        → IsTrue (state S.Store tx.old.conn.now).in_transaction
         → OnOk result (IsInside (state S.Store tx.old.conn.now) (state S.Store tx.new.conn.now)) }
-    ensures makes { HasCleanDisk (state S.Store tx.new.conn.now) → IsTrue (state S.Store tx.old.conn.now).in_transaction
-        → IsBegun (state S.Store tx.old.conn.now).now.schema → OnOk result (Makes entry_schema (state S.Store tx.old.conn.now) (state S.Store tx.new.conn.now)) }
-    ensures keeps { HasCleanDisk (state S.Store tx.new.conn.now) → IsTrue (state S.Store tx.old.conn.now).in_transaction
+    ensures makes { HasCleanDisk (state S.Store tx.new.conn.now)
+        → IsTrue (state S.Store tx.old.conn.now).in_transaction
+        → IsBegun (state S.Store tx.old.conn.now).now.schema
+        → OnOk result (Makes entry_schema (state S.Store tx.old.conn.now) (state S.Store tx.new.conn.now)) }
+    ensures keeps { HasCleanDisk (state S.Store tx.new.conn.now)
+        → IsTrue (state S.Store tx.old.conn.now).in_transaction
         → KeepsCommit (state S.Store tx.old.conn.now) (state S.Store tx.new.conn.now) }
     ensures survives { Survives (state S.Store tx.old.conn.now) (state S.Store tx.new.conn.now) (λ _. ⊥) }
 {
@@ -49,12 +53,16 @@ fn make_entries<S: Alter>(tx: &mut Transaction<'_, S>) -> Result<usize, Error>
 // Makes the table of cells.
 fn make_cells<S: Alter>(tx: &mut Transaction<'_, S>) -> Result<usize, Error>
     ensures same_reference { tx.new.conn.ghost_name ≡ tx.old.conn.ghost_name }
-    ensures inside { HasCleanDisk (state S.Store tx.new.conn.now) → IsTrue (state S.Store tx.old.conn.now).in_transaction
+    ensures inside { HasCleanDisk (state S.Store tx.new.conn.now)
+        → IsTrue (state S.Store tx.old.conn.now).in_transaction
         → OnOk result (IsInside (state S.Store tx.old.conn.now) (state S.Store tx.new.conn.now)) }
-    ensures makes { HasCleanDisk (state S.Store tx.new.conn.now) → IsTrue (state S.Store tx.old.conn.now).in_transaction
+    ensures makes { HasCleanDisk (state S.Store tx.new.conn.now)
+        → IsTrue (state S.Store tx.old.conn.now).in_transaction
         → (state S.Store tx.old.conn.now).now.schema ≡ entry_schema
-        → OnOk result (Makes both_schema (state S.Store tx.old.conn.now) (state S.Store tx.new.conn.now) × IsDatabase (state S.Store tx.new.conn.now).now) }
-    ensures keeps { HasCleanDisk (state S.Store tx.new.conn.now) → IsTrue (state S.Store tx.old.conn.now).in_transaction
+        → OnOk result (Makes both_schema (state S.Store tx.old.conn.now) (state S.Store tx.new.conn.now)
+        × IsDatabase (state S.Store tx.new.conn.now).now) }
+    ensures keeps { HasCleanDisk (state S.Store tx.new.conn.now)
+        → IsTrue (state S.Store tx.old.conn.now).in_transaction
         → KeepsCommit (state S.Store tx.old.conn.now) (state S.Store tx.new.conn.now) }
     ensures survives { Survives (state S.Store tx.old.conn.now) (state S.Store tx.new.conn.now) (λ _. ⊥) }
 {
@@ -64,12 +72,16 @@ fn make_cells<S: Alter>(tx: &mut Transaction<'_, S>) -> Result<usize, Error>
 // Makes what isn't there of both.
 fn make_both<S: Alter>(tx: &mut Transaction<'_, S>) -> Result<(), Error>
     ensures same_reference { tx.new.conn.ghost_name ≡ tx.old.conn.ghost_name }
-    ensures inside { HasCleanDisk (state S.Store tx.new.conn.now) → IsTrue (state S.Store tx.old.conn.now).in_transaction
+    ensures inside { HasCleanDisk (state S.Store tx.new.conn.now)
+        → IsTrue (state S.Store tx.old.conn.now).in_transaction
         → OnOk result (IsInside (state S.Store tx.old.conn.now) (state S.Store tx.new.conn.now)) }
-    ensures makes { HasCleanDisk (state S.Store tx.new.conn.now) → IsTrue (state S.Store tx.old.conn.now).in_transaction
+    ensures makes { HasCleanDisk (state S.Store tx.new.conn.now)
+        → IsTrue (state S.Store tx.old.conn.now).in_transaction
         → IsBegun (state S.Store tx.old.conn.now).now.schema
-        → OnOk result (Makes both_schema (state S.Store tx.old.conn.now) (state S.Store tx.new.conn.now) × IsDatabase (state S.Store tx.new.conn.now).now) }
-    ensures keeps { HasCleanDisk (state S.Store tx.new.conn.now) → IsTrue (state S.Store tx.old.conn.now).in_transaction
+        → OnOk result (Makes both_schema (state S.Store tx.old.conn.now) (state S.Store tx.new.conn.now)
+        × IsDatabase (state S.Store tx.new.conn.now).now) }
+    ensures keeps { HasCleanDisk (state S.Store tx.new.conn.now)
+        → IsTrue (state S.Store tx.old.conn.now).in_transaction
         → KeepsCommit (state S.Store tx.old.conn.now) (state S.Store tx.new.conn.now) }
     ensures survives { Survives (state S.Store tx.old.conn.now) (state S.Store tx.new.conn.now) (λ _. ⊥) }
 {
@@ -84,8 +96,10 @@ pub fn make_tables<S: Alter>(conn: &mut Connection<S>) -> Result<(), Error>
     ensures mode { conn.new.in_transaction ≡ false }
     ensures made { HasCleanDisk (state S.Store conn.new) → IsBegun (state S.Store conn.old).now.schema
         → OnOk result (HasMade (state S.Store conn.old) (state S.Store conn.new)) }
-    ensures undone { HasCleanDisk (state S.Store conn.new) → OnErr result (IsUndone (state S.Store conn.old) (state S.Store conn.new)) }
-    ensures survives { IsBegun (state S.Store conn.old).now.schema → Survives (state S.Store conn.old) (state S.Store conn.new) (IsMade (state S.Store conn.old)) }
+    ensures undone { HasCleanDisk (state S.Store conn.new)
+        → OnErr result (IsUndone (state S.Store conn.old) (state S.Store conn.new)) }
+    ensures survives { IsBegun (state S.Store conn.old).now.schema
+        → Survives (state S.Store conn.old) (state S.Store conn.new) (IsMade (state S.Store conn.old)) }
 {
     let mut tx = conn.transaction();
     make_both(&mut tx)?;

@@ -21,7 +21,8 @@ use store_statements::{Stage, stage_of};
 fn make<S: Alter>(conn: &mut Connection<S>, cause: &mut Cause) -> Result<(), KeepFault>
     requires mode { conn.old.in_transaction ≡ false }
     requires begun { IsBegun (state S.Store conn.old).now.schema }
-    requires settled { IsTrue (state S.Store conn.old).is_open → (state S.Store conn.old).now ≡ (state S.Store conn.old).committed }
+    requires settled { IsTrue (state S.Store conn.old).is_open
+        → (state S.Store conn.old).now ≡ (state S.Store conn.old).committed }
     ensures steady { IsSteady (state S.Store conn.old) (state S.Store conn.new) }
     ensures mode { conn.new.in_transaction ≡ false }
     ensures ready { HasCleanDisk (state S.Store conn.new) → OnOk result (IsReady (state S.Store conn.new)) }
@@ -32,13 +33,17 @@ fn make<S: Alter>(conn: &mut Connection<S>, cause: &mut Cause) -> Result<(), Kee
     }
 }
 
-// Makes the tables where they aren't there. A store with any other schema isn't touched, nor is one inside a transaction.
+// Makes the tables where they aren't there. A store with any other schema isn't touched, nor is one inside a
+// transaction.
 pub fn prepare<S: Alter>(conn: &mut Connection<S>, cause: &mut Cause) -> Result<(), KeepFault>
     ensures steady { IsSteady (state S.Store conn.old) (state S.Store conn.new) }
     ensures mode { OnOk result (conn.new.in_transaction ≡ false) }
     ensures ready { HasCleanDisk (state S.Store conn.new) → OnOk result (IsReady (state S.Store conn.new)) }
 {
+    // A failure of which nothing else is noted is one of a row.
+    *cause = Cause::Row;
     if !conn.is_autocommit() {
+        *cause = Cause::Transaction;
         return Err(KeepFault::Failed);
     }
     match stage_of(conn.schema()) {
@@ -66,7 +71,8 @@ fn number_in(rows: &[Row]) -> Result<u64, KeepFault>
 pub fn last<S: Alter>(conn: &mut Connection<S>, cause: &mut Cause) -> Result<u64, KeepFault>
     ensures steady { IsSteady (state S.Store conn.old) (state S.Store conn.new) }
     ensures answer { HasCleanDisk (state S.Store conn.new) → IfOk result (λ number.
-        (t : KeptTables) → told_by (state S.Store conn.new).now.schema (state S.Store conn.new).now.trees ≡ Some t → number ≡ last_number t) }
+        (t : KeptTables) → told_by (state S.Store conn.new).now.schema (state S.Store conn.new).now.trees
+        ≡ Some t → number ≡ last_number t) }
 {
     prepare(conn, cause)?;
     match read_last(conn) {
@@ -85,7 +91,8 @@ pub fn entries<S: Alter>(
 ) -> Result<List<KeptEntry>, KeepFault>
     ensures steady { IsSteady (state S.Store conn.old) (state S.Store conn.new) }
     ensures answer { HasCleanDisk (state S.Store conn.new) → IfOk result (λ list.
-        (t : KeptTables) → told_by (state S.Store conn.new).now.schema (state S.Store conn.new).now.trees ≡ Some t → list ≡ entries_between after upto t) }
+        (t : KeptTables) → told_by (state S.Store conn.new).now.schema (state S.Store conn.new).now.trees
+        ≡ Some t → list ≡ entries_between after upto t) }
 {
     prepare(conn, cause)?;
     match read_entries(conn, after, upto) {
@@ -94,8 +101,8 @@ pub fn entries<S: Alter>(
     }
 }
 
-// The cells that an entry touched last whose number is greater than `after` and at most `upto`, in the order of kinds and
-// names.
+// The cells that an entry touched last whose number is greater than `after` and at most `upto`, in the order
+// of kinds and names.
 pub fn cells<S: Alter>(
     conn: &mut Connection<S>,
     alloc: Global,
@@ -105,7 +112,8 @@ pub fn cells<S: Alter>(
 ) -> Result<List<KeptCell>, KeepFault>
     ensures steady { IsSteady (state S.Store conn.old) (state S.Store conn.new) }
     ensures answer { HasCleanDisk (state S.Store conn.new) → IfOk result (λ list.
-        (t : KeptTables) → told_by (state S.Store conn.new).now.schema (state S.Store conn.new).now.trees ≡ Some t → list ≡ cells_between after upto t) }
+        (t : KeptTables) → told_by (state S.Store conn.new).now.schema (state S.Store conn.new).now.trees
+        ≡ Some t → list ≡ cells_between after upto t) }
 {
     prepare(conn, cause)?;
     match read_cells(conn, after, upto) {

@@ -29,7 +29,8 @@ pub fn read_last<S: Alter>(conn: &mut Connection<S>) -> Result<Vec<Row>, Error>
     requires ready { HasCleanDisk (state S.Store conn.old) → IsReady (state S.Store conn.old) }
     ensures steady { IsSteady (state S.Store conn.old) (state S.Store conn.new) }
     ensures answer { HasCleanDisk (state S.Store conn.new) → IfOk result (λ rows.
-        (t : KeptTables) → told_by (state S.Store conn.new).now.schema (state S.Store conn.new).now.trees ≡ Some t → rows.items ≡ last_rows t) }
+        (t : KeptTables) → told_by (state S.Store conn.new).now.schema (state S.Store conn.new).now.trees
+        ≡ Some t → rows.items ≡ last_rows t) }
 {
     conn.query_all(LAST, &[])
 }
@@ -43,14 +44,15 @@ pub fn read_entries<S: Alter>(
     requires ready { HasCleanDisk (state S.Store conn.old) → IsReady (state S.Store conn.old) }
     ensures steady { IsSteady (state S.Store conn.old) (state S.Store conn.new) }
     ensures answer { HasCleanDisk (state S.Store conn.new) → IfOk result (λ rows.
-        (t : KeptTables) → told_by (state S.Store conn.new).now.schema (state S.Store conn.new).now.trees ≡ Some t
+        (t : KeptTables) → told_by (state S.Store conn.new).now.schema (state S.Store conn.new).now.trees
+        ≡ Some t
         → rows.items ≡ map entry_row (entries_between after upto t)) }
 {
     conn.query_all(ENTRIES, &[number(after), number(upto)])
 }
 
-// The rows of the cells that an entry touched last whose number is greater than `after` and at most `upto`, in the order
-// of kinds and names.
+// The rows of the cells that an entry touched last whose number is greater than `after` and at most `upto`,
+// in the order of kinds and names.
 pub fn read_cells<S: Alter>(
     conn: &mut Connection<S>,
     after: u64,
@@ -59,13 +61,15 @@ pub fn read_cells<S: Alter>(
     requires ready { HasCleanDisk (state S.Store conn.old) → IsReady (state S.Store conn.old) }
     ensures steady { IsSteady (state S.Store conn.old) (state S.Store conn.new) }
     ensures answer { HasCleanDisk (state S.Store conn.new) → IfOk result (λ rows.
-        (t : KeptTables) → told_by (state S.Store conn.new).now.schema (state S.Store conn.new).now.trees ≡ Some t
+        (t : KeptTables) → told_by (state S.Store conn.new).now.schema (state S.Store conn.new).now.trees
+        ≡ Some t
         → rows.items ≡ map cell_row (cells_between after upto t)) }
 {
     conn.query_all(CELLS, &[number(after), number(upto)])
 }
 
-// A number as a value to compare with. One that is greater than all that are kept is taken as the greatest of these.
+// A number as a value to compare with. One that is greater than all that are kept is taken as the greatest of
+// these.
 fn number(number: u64) -> ValueRef<'static>
     ensures { bound_value (owned result) ≡ Int (pos (min number 9223372036854775807)) }
 {

@@ -77,7 +77,8 @@ fn row_value<'a>(row: &'a Option<Shared>) -> ValueRef<'a>
     }
 }
 
-// The entry that a row has. A row that has none, as where a kind is above 255 or a number is negative, is a failure.
+// The entry that a row has. A row that has none, as where a kind is above 255 or a number is negative, is a
+// failure.
 pub fn entry_of(alloc: Global, row: &Row) -> Result<KeptEntry, KeepFault>
     ensures ok { IfOk result (λ e. row.now ≡ entry_row e) }
     ensures err { IsErrOf result KeepFault.Failed → ¬ (IsEntryRow row.now) }
@@ -215,7 +216,8 @@ fn blob_at(row: &Row, at: usize) -> Result<&[u8], KeepFault>
 fn blob_or_null_at(alloc: Global, row: &Row, at: usize) -> Result<Option<Shared>, KeepFault>
     requires { at < length row.now }
     ensures ok { IfOk result (λ bytes. column row.now at ≡ or_null Blob bytes) }
-    ensures err { IsErrOf result KeepFault.Failed → (column row.now at ≢ Null) × ((bytes : List ℕ) → column row.now at ≢ Blob bytes) }
+    ensures err { IsErrOf result KeepFault.Failed
+        → (column row.now at ≢ Null) × ((bytes : List ℕ) → column row.now at ≢ Blob bytes) }
 {
     match row.get_ref(at) {
         Ok(ValueRef::Null) => Ok(None),

@@ -17,7 +17,7 @@ pub struct Store<S: Alter> {
     conn: Connection<S>,
     // What the connection was when it was adopted, for contracts alone.
     adopted: Snapshot<Connection<S>>,
-    // Why the last call that failed did so.
+    // Why the last call failed, if it did.
     cause: Cause,
 }
 
@@ -55,14 +55,15 @@ impl<S: Alter> Store<S> {
         conn
     }
 
-    // Why the last call that failed did so.
+    // Why the last call failed, if it did.
     pub fn cause(&self) -> Cause {
         self.cause
     }
 
     // The greatest number of an entry, 0 where there is none.
     pub fn last(&mut self) -> Result<u64, KeepFault>
-        ensures answer { IfSome (tables_of S.Store self.new) (λ told. IfOk result (λ number. number ≡ last_number told)) }
+        ensures answer { IfSome (tables_of S.Store self.new)
+            (λ told. IfOk result (λ number. number ≡ last_number told)) }
         ensures kept { OnOk result (IfSome (tables_of S.Store self.new) AreKept) }
         ensures same { Stays (tables_of S.Store self.old) (tables_of S.Store self.new) }
         ensures crash { LeavesNoMore (leaves_of S.Store self.old) (leaves_of S.Store self.new) }
@@ -71,7 +72,8 @@ impl<S: Alter> Store<S> {
     }
 
     pub fn entries(&mut self, after: u64, upto: u64) -> Result<List<KeptEntry>, KeepFault>
-        ensures answer { IfSome (tables_of S.Store self.new) (λ told. IfOk result (λ list. list ≡ entries_between after upto told)) }
+        ensures answer { IfSome (tables_of S.Store self.new)
+            (λ told. IfOk result (λ list. list ≡ entries_between after upto told)) }
         ensures same { Stays (tables_of S.Store self.old) (tables_of S.Store self.new) }
         ensures crash { LeavesNoMore (leaves_of S.Store self.old) (leaves_of S.Store self.new) }
     {
@@ -79,7 +81,8 @@ impl<S: Alter> Store<S> {
     }
 
     pub fn cells(&mut self, after: u64, upto: u64) -> Result<List<KeptCell>, KeepFault>
-        ensures answer { IfSome (tables_of S.Store self.new) (λ told. IfOk result (λ list. list ≡ cells_between after upto told)) }
+        ensures answer { IfSome (tables_of S.Store self.new)
+            (λ told. IfOk result (λ list. list ≡ cells_between after upto told)) }
         ensures same { Stays (tables_of S.Store self.old) (tables_of S.Store self.new) }
         ensures crash { LeavesNoMore (leaves_of S.Store self.old) (leaves_of S.Store self.new) }
     {
@@ -91,7 +94,8 @@ impl<S: Alter> Store<S> {
         requires batch { IsBatch batch.now }
         requires next { IsNextOf (tables_of S.Store self.old) batch.now }
         ensures tables { Commits batch.now result (tables_of S.Store self.old) (tables_of S.Store self.new) }
-        ensures crash { CommitLeaves batch.now result (tables_of S.Store self.old) (tables_of S.Store self.new) (leaves_of S.Store self.old) (leaves_of S.Store self.new) }
+        ensures crash { CommitLeaves batch.now result (tables_of S.Store self.old)
+            (tables_of S.Store self.new) (leaves_of S.Store self.old) (leaves_of S.Store self.new) }
     {
         over::commit(&mut self.conn, batch, &mut self.cause)
     }

@@ -25,9 +25,12 @@ pub fn insert_entry<S: Alter>(
 ) -> Result<usize, Error>
     requires { entry.now.seq ≤ 9223372036854775807 }
     ensures same_reference { tx.new.conn.ghost_name ≡ tx.old.conn.ghost_name }
-    ensures adds { HasCleanDisk (state S.Store tx.new.conn.now) → IsTrue (state S.Store tx.old.conn.now).in_transaction
-        → OnOk result (Turns (with_entry entry.now) (IsNext entry.now) (state S.Store tx.old.conn.now) (state S.Store tx.new.conn.now)) }
-    ensures keeps { HasCleanDisk (state S.Store tx.new.conn.now) → IsTrue (state S.Store tx.old.conn.now).in_transaction
+    ensures adds { HasCleanDisk (state S.Store tx.new.conn.now)
+        → IsTrue (state S.Store tx.old.conn.now).in_transaction
+        → OnOk result (Turns (with_entry entry.now) (IsNext entry.now) (state S.Store tx.old.conn.now)
+        (state S.Store tx.new.conn.now)) }
+    ensures keeps { HasCleanDisk (state S.Store tx.new.conn.now)
+        → IsTrue (state S.Store tx.old.conn.now).in_transaction
         → KeepsCommit (state S.Store tx.old.conn.now) (state S.Store tx.new.conn.now) }
     ensures survives { Survives (state S.Store tx.old.conn.now) (state S.Store tx.new.conn.now) (λ _. ⊥) }
 {
@@ -38,9 +41,12 @@ pub fn insert_entry<S: Alter>(
 pub fn put_cell<S: Alter>(tx: &mut Transaction<'_, S>, cell: &KeptCell) -> Result<usize, Error>
     requires { cell.now.touched ≤ 9223372036854775807 }
     ensures same_reference { tx.new.conn.ghost_name ≡ tx.old.conn.ghost_name }
-    ensures puts { HasCleanDisk (state S.Store tx.new.conn.now) → IsTrue (state S.Store tx.old.conn.now).in_transaction
-        → OnOk result (Turns (with_cell cell.now) (λ _. 1 ≤ cell.now.touched) (state S.Store tx.old.conn.now) (state S.Store tx.new.conn.now)) }
-    ensures keeps { HasCleanDisk (state S.Store tx.new.conn.now) → IsTrue (state S.Store tx.old.conn.now).in_transaction
+    ensures puts { HasCleanDisk (state S.Store tx.new.conn.now)
+        → IsTrue (state S.Store tx.old.conn.now).in_transaction
+        → OnOk result (Turns (with_cell cell.now) (λ _. 1 ≤ cell.now.touched) (state S.Store tx.old.conn.now)
+        (state S.Store tx.new.conn.now)) }
+    ensures keeps { HasCleanDisk (state S.Store tx.new.conn.now)
+        → IsTrue (state S.Store tx.old.conn.now).in_transaction
         → KeepsCommit (state S.Store tx.old.conn.now) (state S.Store tx.new.conn.now) }
     ensures survives { Survives (state S.Store tx.old.conn.now) (state S.Store tx.new.conn.now) (λ _. ⊥) }
 {
@@ -51,9 +57,14 @@ pub fn put_cell<S: Alter>(tx: &mut Transaction<'_, S>, cell: &KeptCell) -> Resul
 fn put_cells<S: Alter>(tx: &mut Transaction<'_, S>, cells: &[KeptCell]) -> Result<(), Error>
     requires { AllByRecursion (λ cell. cell.touched ≤ 9223372036854775807) cells.now }
     ensures same_reference { tx.new.conn.ghost_name ≡ tx.old.conn.ghost_name }
-    ensures puts { HasCleanDisk (state S.Store tx.new.conn.now) → IsTrue (state S.Store tx.old.conn.now).in_transaction → IsTrue (state S.Store tx.old.conn.now).is_open
-        → OnOk result (Turns (with_cells cells.now) (λ _. AllByRecursion (λ cell. 1 ≤ cell.touched) cells.now) (state S.Store tx.old.conn.now) (state S.Store tx.new.conn.now)) }
-    ensures keeps { HasCleanDisk (state S.Store tx.new.conn.now) → IsTrue (state S.Store tx.old.conn.now).in_transaction → IsTrue (state S.Store tx.old.conn.now).is_open
+    ensures puts { HasCleanDisk (state S.Store tx.new.conn.now)
+        → IsTrue (state S.Store tx.old.conn.now).in_transaction
+        → IsTrue (state S.Store tx.old.conn.now).is_open
+        → OnOk result (Turns (with_cells cells.now) (λ _. AllByRecursion (λ cell. 1 ≤ cell.touched) cells.now)
+        (state S.Store tx.old.conn.now) (state S.Store tx.new.conn.now)) }
+    ensures keeps { HasCleanDisk (state S.Store tx.new.conn.now)
+        → IsTrue (state S.Store tx.old.conn.now).in_transaction
+        → IsTrue (state S.Store tx.old.conn.now).is_open
         → KeepsCommit (state S.Store tx.old.conn.now) (state S.Store tx.new.conn.now) }
     ensures survives { Survives (state S.Store tx.old.conn.now) (state S.Store tx.new.conn.now) (λ _. ⊥) }
 {
@@ -67,9 +78,12 @@ fn put_cells<S: Alter>(tx: &mut Transaction<'_, S>, cells: &[KeptCell]) -> Resul
 fn put_batch<S: Alter>(tx: &mut Transaction<'_, S>, batch: &Batch) -> Result<(), Error>
     requires { IsBatch batch.now }
     ensures same_reference { tx.new.conn.ghost_name ≡ tx.old.conn.ghost_name }
-    ensures puts { HasCleanDisk (state S.Store tx.new.conn.now) → IsTrue (state S.Store tx.old.conn.now).in_transaction
-        → OnOk result (Turns (with_batch batch.now) (IsNext batch.now.entry) (state S.Store tx.old.conn.now) (state S.Store tx.new.conn.now)) }
-    ensures keeps { HasCleanDisk (state S.Store tx.new.conn.now) → IsTrue (state S.Store tx.old.conn.now).in_transaction
+    ensures puts { HasCleanDisk (state S.Store tx.new.conn.now)
+        → IsTrue (state S.Store tx.old.conn.now).in_transaction
+        → OnOk result (Turns (with_batch batch.now) (IsNext batch.now.entry) (state S.Store tx.old.conn.now)
+        (state S.Store tx.new.conn.now)) }
+    ensures keeps { HasCleanDisk (state S.Store tx.new.conn.now)
+        → IsTrue (state S.Store tx.old.conn.now).in_transaction
         → KeepsCommit (state S.Store tx.old.conn.now) (state S.Store tx.new.conn.now) }
     ensures survives { Survives (state S.Store tx.old.conn.now) (state S.Store tx.new.conn.now) (λ _. ⊥) }
 {
@@ -83,9 +97,12 @@ pub fn write<S: Alter>(conn: &mut Connection<S>, batch: &Batch) -> Result<(), Er
     requires batch { IsBatch batch.now }
     requires mode { conn.old.in_transaction ≡ false }
     ensures mode { conn.new.in_transaction ≡ false }
-    ensures kept { HasCleanDisk (state S.Store conn.new) → OnOk result (HasKept batch.now (state S.Store conn.old) (state S.Store conn.new)) }
-    ensures undone { HasCleanDisk (state S.Store conn.new) → OnErr result (IsUndone (state S.Store conn.old) (state S.Store conn.new)) }
-    ensures survives { Survives (state S.Store conn.old) (state S.Store conn.new) (IsKept batch.now (state S.Store conn.old)) }
+    ensures kept { HasCleanDisk (state S.Store conn.new)
+        → OnOk result (HasKept batch.now (state S.Store conn.old) (state S.Store conn.new)) }
+    ensures undone { HasCleanDisk (state S.Store conn.new)
+        → OnErr result (IsUndone (state S.Store conn.old) (state S.Store conn.new)) }
+    ensures survives { Survives (state S.Store conn.old) (state S.Store conn.new)
+        (IsKept batch.now (state S.Store conn.old)) }
 {
     let mut tx = conn.transaction();
     put_batch(&mut tx, batch)?;

@@ -20,19 +20,26 @@ pub cell_table_is : table_defined_by cell_table_text ≡ Ok (record cell_table {
 unfolding understood everything
 cell_table_is = refl
 
-pub schemas_are : (created no_schema entry_table ≡ entry_schema) × (created entry_schema (record cell_table { tree = 0 }) ≡ both_schema)
+pub schemas_are : (created no_schema entry_table ≡ entry_schema)
+    × (created entry_schema (record cell_table { tree = 0 }) ≡ both_schema)
 unfolding understood everything
 schemas_are = (refl, refl)
 
-pub entries_is : (command_of (understood both_schema entries_text) ≡ Select (alone entries_query) (codes "seq" ∷ codes "kind" ∷ codes "office" ∷ codes "number" ∷ codes "moment" ∷ codes "rules" ∷ codes "body" ∷ codes "answer" ∷ [])) × (reads_listing both_schema entries_text ≡ false)
+pub entries_is : (command_of (understood both_schema entries_text)
+    ≡ Select (alone entries_query)
+    (codes "seq" ∷ codes "kind" ∷ codes "office" ∷ codes "number" ∷ codes "moment" ∷ codes "rules"
+    ∷ codes "body" ∷ codes "answer" ∷ [])) × (reads_listing both_schema entries_text ≡ false)
 unfolding understood everything
 entries_is = (refl, refl)
 
-pub cells_is : (command_of (understood both_schema cells_text) ≡ Select (alone cells_query) (codes "kind" ∷ codes "name" ∷ codes "touched" ∷ codes "row" ∷ [])) × (reads_listing both_schema cells_text ≡ false)
+pub cells_is : (command_of (understood both_schema cells_text)
+    ≡ Select (alone cells_query) (codes "kind" ∷ codes "name" ∷ codes "touched" ∷ codes "row" ∷ []))
+    × (reads_listing both_schema cells_text ≡ false)
 unfolding understood everything
 cells_is = (refl, refl)
 
-pub last_is : (command_of (understood both_schema last_text) ≡ Select (alone last_query) (codes "seq" ∷ [])) × (reads_listing both_schema last_text ≡ false)
+pub last_is : (command_of (understood both_schema last_text) ≡ Select (alone last_query) (codes "seq" ∷ []))
+    × (reads_listing both_schema last_text ≡ false)
 unfolding understood everything
 last_is = (refl, refl)
 
@@ -40,7 +47,8 @@ pub insert_is : command_of (understood both_schema insert_text) ≡ Insert 0 (Va
 unfolding understood everything
 insert_is = refl
 
-pub put_is : command_of (understood both_schema put_text) ≡ InsertOr 1 Abort (Values put_terms 5) (put_clause ∷ [])
+pub put_is : command_of (understood both_schema put_text)
+    ≡ InsertOr 1 Abort (Values put_terms 5) (put_clause ∷ [])
 unfolding understood everything
 put_is = refl
 
@@ -64,11 +72,13 @@ pub put_plain : IsPlain (understood both_schema put_text)
 unfolding understood everything
 put_plain = (refl, refl)
 
-pub make_entries_is : (command_of (understood no_schema entry_table_text) ≡ CreateTable) × (statement_of entry_table_text (understood no_schema entry_table_text) ≡ entry_table_text)
+pub make_entries_is : (command_of (understood no_schema entry_table_text) ≡ CreateTable)
+    × (statement_of entry_table_text (understood no_schema entry_table_text) ≡ entry_table_text)
 unfolding understood everything
 make_entries_is = (refl, refl)
 
-pub make_cells_is : (command_of (understood entry_schema cell_table_text) ≡ CreateTable) × (statement_of cell_table_text (understood entry_schema cell_table_text) ≡ cell_table_text)
+pub make_cells_is : (command_of (understood entry_schema cell_table_text) ≡ CreateTable)
+    × (statement_of cell_table_text (understood entry_schema cell_table_text) ≡ cell_table_text)
 unfolding understood everything
 make_cells_is = (refl, refl)
 

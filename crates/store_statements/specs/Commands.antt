@@ -20,7 +20,8 @@ down = record { collation = Binary; descending = true }
 
 -- The value at this place of a row is greater than the first parameter and at most the second.
 abbrev pub within : ℕ → List Term
-within place = op2 (Compare Gt Binary) (col 1 place) (col 0 0) ∷ op2 (Compare Le Binary) (col 1 place) (col 0 1) ∷ []
+within place = op2 (Compare Gt Binary) (col 1 place) (col 0 0)
+    ∷ op2 (Compare Le Binary) (col 1 place) (col 0 1) ∷ []
 
 -- No limit and no offset.
 abbrev pub no_limit : Term
@@ -84,8 +85,8 @@ insert_terms = col 0 0 ∷ lit Null ∷ col 0 1 ∷ col 0 2 ∷ col 0 3 ∷ col 
 abbrev pub put_terms : List Term
 put_terms = lit Null ∷ col 0 0 ∷ col 0 1 ∷ col 0 2 ∷ col 0 3 ∷ []
 
--- The row with the id of the fifth parameter, with the entry and the row of the cell that was to be put. The last five parameters
--- are the id and the columns of that cell.
+-- The row with the id of the fifth parameter, with the entry and the row of the cell that was to be put. The
+-- last five parameters are the id and the columns of that cell.
 abbrev pub put_query : Query
 put_query = record {
   from = inner 1 end;

@@ -17,7 +17,15 @@ use Rattle.sqlite_schema.specs.declared.schema.Schema.{Schema}
 -- A column of a STRICT table that has no default, and whether it refuses NULL.
 abbrev pub column_of : List ℕ → Kind → Bool → Column
 column_of name kind not_null =
-    record { name = name; kind = kind; is_strict = true; not_null = not_null; default = Null; collation = Binary }
+    record {
+      name = name;
+      kind = kind;
+      is_strict = true;
+      not_null = not_null;
+      default = Null;
+      collation =
+          Binary;
+    }
 
 -- The value at this place of a row is at least 1.
 abbrev pub at_least_one : ℕ → Term
@@ -32,8 +40,10 @@ abbrev pub entry_table : Table
 entry_table = record {
   name = codes "entry";
   tree = 0;
-  columns = column_of (codes "seq") Integer false ∷ column_of (codes "kind") Integer true ∷ column_of (codes "office") Text true
-      ∷ column_of (codes "number") Integer true ∷ column_of (codes "moment") Integer true ∷ column_of (codes "rules") Integer true
+  columns = column_of (codes "seq") Integer false ∷ column_of (codes "kind") Integer true
+      ∷ column_of (codes "office") Text true
+      ∷ column_of (codes "number") Integer true ∷ column_of (codes "moment") Integer true
+      ∷ column_of (codes "rules") Integer true
       ∷ column_of (codes "body") Blob true ∷ column_of (codes "answer") Blob true ∷ [];
   key = Some 0;
   primary = 0 ∷ [];
@@ -51,7 +61,8 @@ abbrev pub cell_table : Table
 cell_table = record {
   name = codes "cell";
   tree = 1;
-  columns = column_of (codes "kind") Integer true ∷ column_of (codes "name") Text true ∷ column_of (codes "touched") Integer true
+  columns = column_of (codes "kind") Integer true ∷ column_of (codes "name") Text true
+      ∷ column_of (codes "touched") Integer true
       ∷ column_of (codes "row") Blob false ∷ [];
   key = None;
   primary = 1 ∷ 2 ∷ [];

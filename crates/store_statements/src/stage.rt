@@ -1,10 +1,12 @@
 // Which tables a store has.
-ghost use Rattle.std.specs.Prelude.{◌≡◌, ◌∷◌, [], pos, Bool, true, false, IsTrue, Some, codes};
+ghost use Rattle.std.specs.Prelude.{◌≡◌, ◌↔◌, ◌∷◌, [], pos, Bool, true, false, IsTrue, Some, codes};
 ghost use Rattle.sqlite_value.specs.declared.value.Value.TheVariants.{Int};
 ghost use Rattle.sqlite_value.specs.declared.keys.Collation.TheVariants.{Binary};
 ghost use Rattle.sqlite_sql.specs.declared.ops.BinaryOp.TheVariants.{Compare};
 ghost use Rattle.sqlite_sql.specs.declared.ops.CompareOp.TheVariants.{Ge};
 ghost use Rattle.sqlite_value.specs.Keys.{plain};
+ghost use Rattle.sqlite_schema.specs.Code.{term_in};
+ghost use Rattle.store_statements.specs.Checks.{node_at};
 ghost use Rattle.store_statements.specs.Schemas.{at_least_one, both_schema, by_entry, by_name, cell_table, column_of, entry_schema, entry_table, index_of, no_schema, no_stamps};
 
 use sqlite_items::Items;
@@ -29,7 +31,7 @@ pub enum Stage {
 
 // A column of this name and type, which has no default and takes NULL or doesn't.
 fn is_column(column: &Column, name: &[u8], kind: Kind, not_null: bool) -> bool
-    ensures { IsTrue result → column.now ≡ column_of name.now kind not_null }
+    ensures { IsTrue result ↔ (column.now ≡ column_of name.now kind not_null) }
 {
     if column.name.as_slice() != name || column.kind != kind {
         return false;
@@ -40,51 +42,48 @@ fn is_column(column: &Column, name: &[u8], kind: Kind, not_null: bool) -> bool
     matches!(column.default, Value::Null) && column.collation == Collation::Binary
 }
 
-// The value at this place of a row.
-fn is_place(op: &Op, place: usize) -> bool
-    ensures { IsTrue result → op.now ≡ Op.Column 1 place }
+// The node at this index is the value at a place of a row.
+fn is_place_at(nodes: &[Op], index: usize, place: usize) -> bool
+    ensures { IsTrue result ↔ (node_at nodes.now index ≡ Op.Column 1 place) }
 {
-    match op {
-        Op::Column(1, at) => *at == place,
+    match nodes.get(index) {
+        Some(Op::Column(1, at)) => *at == place,
         _ => false,
     }
 }
 
-fn is_one(op: &Op) -> bool
-    ensures { IsTrue result → op.now ≡ Op.Literal (Int (pos 1)) }
+// The node at this index is the number 1.
+fn is_one_at(nodes: &[Op], index: usize) -> bool
+    ensures { IsTrue result ↔ (node_at nodes.now index ≡ Op.Literal (Int (pos 1))) }
 {
-    matches!(op, Op::Literal(Value::Int(1)))
+    matches!(nodes.get(index), Some(Op::Literal(Value::Int(1))))
 }
 
-// The first of two operands is at least the second.
-fn is_at_least(op: &Op) -> bool
-    ensures { IsTrue result → op.now ≡ Op.Binary (Compare Ge Binary) 0 1 }
+// The node at this index tests that the value at a place of a row is at least 1.
+fn is_test_at(nodes: &[Op], index: usize, place: usize) -> bool
+    ensures { IsTrue result ↔ (term_in nodes.now index ≡ at_least_one place) }
 {
-    match op {
-        Op::Binary(BinaryOp::Compare(CompareOp::Ge, Collation::Binary), 0, 1) => true,
+    match nodes.get(index) {
+        Some(Op::Binary(BinaryOp::Compare(CompareOp::Ge, Collation::Binary), value, one)) => {
+            is_place_at(nodes, *value, place) && is_one_at(nodes, *one)
+        }
         _ => false,
     }
-}
-
-fn are_check_nodes(nodes: &[Op], place: usize) -> bool
-    ensures { IsTrue result → nodes.now ≡ Op.Column 1 place ∷ Op.Literal (Int (pos 1)) ∷ Op.Binary (Compare Ge Binary) 0 1 ∷ [] }
-{
-    let [value, one, test] = nodes else {
-        return false;
-    };
-    is_place(value, place) && is_one(one) && is_at_least(test)
 }
 
 // The one check is that the value at this place of a row is at least 1.
 fn is_check(checks: &Terms, place: usize) -> bool
-    ensures { IsTrue result → checks.now ≡ at_least_one place ∷ [] }
+    ensures { IsTrue result ↔ (checks.now ≡ at_least_one place ∷ []) }
 {
-    are_check_nodes(checks.nodes.as_slice(), place) && checks.roots.as_slice() == [2].as_slice()
+    match checks.roots.as_slice() {
+        [root] => is_test_at(checks.nodes.as_slice(), *root, place),
+        _ => false,
+    }
 }
 
 // No default reads the time.
 fn is_unstamped(stamps: &Stamps) -> bool
-    ensures { IsTrue result → stamps.now ≡ no_stamps }
+    ensures { IsTrue result ↔ (stamps.now ≡ no_stamps) }
 {
     if !stamps.places.is_empty() || !stamps.formats.is_empty() {
         return false;
@@ -94,7 +93,7 @@ fn is_unstamped(stamps: &Stamps) -> bool
 
 // The columns of the table of entries.
 fn are_entry_columns(columns: &[Column]) -> bool
-    ensures { IsTrue result → columns.now ≡ entry_table.columns }
+    ensures { IsTrue result ↔ (columns.now ≡ entry_table.columns) }
 {
     let [seq, kind, office, number, moment, rules, body, answer] = columns else {
         return false;
@@ -119,7 +118,7 @@ fn are_entry_columns(columns: &[Column]) -> bool
 
 // The columns of the table of cells.
 fn are_cell_columns(columns: &[Column]) -> bool
-    ensures { IsTrue result → columns.now ≡ cell_table.columns }
+    ensures { IsTrue result ↔ (columns.now ≡ cell_table.columns) }
 {
     let [kind, name, touched, row] = columns else {
         return false;
@@ -133,7 +132,7 @@ fn are_cell_columns(columns: &[Column]) -> bool
 }
 
 fn is_entry_table(table: &Table) -> bool
-    ensures { IsTrue result → table.now ≡ entry_table }
+    ensures { IsTrue result ↔ (table.now ≡ entry_table) }
 {
     if table.name.as_slice() != b"entry".as_slice() || table.tree != 0 || table.key != Some(0) {
         return false;
@@ -152,7 +151,7 @@ fn is_entry_table(table: &Table) -> bool
 
 // The keys of the table of cells: kind and name, and entry, kind and name.
 fn are_cell_keys(keys: &[Items<usize>]) -> bool
-    ensures { IsTrue result → keys.now ≡ cell_table.uniques }
+    ensures { IsTrue result ↔ (keys.now ≡ cell_table.uniques) }
 {
     let [first, second] = keys else {
         return false;
@@ -161,7 +160,7 @@ fn are_cell_keys(keys: &[Items<usize>]) -> bool
 }
 
 fn are_plain(orders: &[Order]) -> bool
-    ensures { IsTrue result → orders.now ≡ cell_table.orders }
+    ensures { IsTrue result ↔ (orders.now ≡ cell_table.orders) }
 {
     let [first, second] = orders else {
         return false;
@@ -170,7 +169,7 @@ fn are_plain(orders: &[Order]) -> bool
 }
 
 fn is_cell_table(table: &Table) -> bool
-    ensures { IsTrue result → table.now ≡ cell_table }
+    ensures { IsTrue result ↔ (table.now ≡ cell_table) }
 {
     if table.name.as_slice() != b"cell".as_slice() || table.tree != 1 || table.key.is_some() {
         return false;
@@ -192,7 +191,7 @@ fn is_cell_table(table: &Table) -> bool
 
 // An index of the table of cells, by its name, its tree and its places.
 fn is_index(index: &Index, name: &[u8], tree: u32, places: &[usize]) -> bool
-    ensures { IsTrue result → index.now ≡ index_of name.now tree places.now }
+    ensures { IsTrue result ↔ (index.now ≡ index_of name.now tree places.now) }
 {
     if index.name.as_slice() != name || index.tree != tree || index.table != 1 {
         return false;
@@ -201,7 +200,7 @@ fn is_index(index: &Index, name: &[u8], tree: u32, places: &[usize]) -> bool
 }
 
 fn are_indexes(indexes: &[Index]) -> bool
-    ensures { IsTrue result → indexes.now ≡ both_schema.indexes }
+    ensures { IsTrue result ↔ (indexes.now ≡ both_schema.indexes) }
 {
     let [first, second] = indexes else {
         return false;
@@ -212,9 +211,9 @@ fn are_indexes(indexes: &[Index]) -> bool
 
 /// Which tables a store with this schema has. It looks at nothing but the schema, and takes no memory.
 pub fn stage_of(schema: &Schema) -> Stage
-    ensures nothing { result ≡ Stage.Nothing → schema.now ≡ no_schema }
-    ensures entries { result ≡ Stage.Entries → schema.now ≡ entry_schema }
-    ensures both { result ≡ Stage.Both → schema.now ≡ both_schema }
+    ensures nothing { (result ≡ Stage.Nothing) ↔ (schema.now ≡ no_schema) }
+    ensures entries { (result ≡ Stage.Entries) ↔ (schema.now ≡ entry_schema) }
+    ensures both { (result ≡ Stage.Both) ↔ (schema.now ≡ both_schema) }
 {
     if !schema.views.is_empty() {
         return Stage::Other;

@@ -31,48 +31,67 @@ use Rattle.store_tables.proofs.StepLemmas.{Holds, holds_apart, holds_insert, hol
 
 -- ---- reading
 
-plain_under : (s : Schema) (sql : List ℕ) → s ≡ both_schema → IsPlain (understood both_schema sql) → IsPlain (understood s sql)
+plain_under : (s : Schema) (sql : List ℕ) → s ≡ both_schema → IsPlain (understood both_schema sql)
+    → IsPlain (understood s sql)
 plain_under s sql is plain = subst (λ x. IsPlain (understood x sql)) (sym is) plain
 
 -- what is told after it was told before, of a store that holds it
-held : (old new : State) (t : KeptTables) → IsReady old → IsUnchanged old new → told_by new.now.schema new.now.trees ≡ Some t → Holds old.now t
+held : (old new : State) (t : KeptTables) → IsReady old → IsUnchanged old new
+    → told_by new.now.schema new.now.trees ≡ Some t → Holds old.now t
 held old new t ready same told =
-    told_holds old.now t ready.both (ready.sound same.0.was_open) (subst (λ (d : Database). told_by d.schema d.trees ≡ Some t) same.0.now_is told)
+    told_holds old.now t ready.both (ready.sound same.0.was_open)
+    (subst (λ (d : Database). told_by d.schema d.trees ≡ Some t) same.0.now_is told)
 
-pub last_told : (old new : State) (rows : List Row) (t : KeptTables) → IsReady old → Shown last_text [] old new rows → told_by new.now.schema new.now.trees ≡ Some t → rows ≡ last_rows t
+pub last_told : (old new : State) (rows : List Row) (t : KeptTables) → IsReady old
+    → Shown last_text [] old new rows → told_by new.now.schema new.now.trees ≡ Some t → rows ≡ last_rows t
 last_told old new rows t ready h told =
     let same = shown_unchanged last_text [] old new rows (plain_under _ last_text ready.both last_plain) h in
     let it = held old new t ready same told in
     let a = reads_as last_text [] old new both_schema ready.both _ last_is.0 last_plain last_is.1 rows h in
     last_answer old.now.trees rows it.told.entries (a.answer Null) ∙ ap last_rows (sym it.is)
 
-pub entries_told : (after upto : ℕ) (old new : State) (rows : List Row) (t : KeptTables) → IsReady old → Shown entries_text (range after upto) old new rows
+pub entries_told : (after upto : ℕ) (old new : State) (rows : List Row) (t : KeptTables) → IsReady old
+    → Shown entries_text (range after upto) old new rows
     → told_by new.now.schema new.now.trees ≡ Some t → rows ≡ map entry_row (entries_between after upto t)
 entries_told after upto old new rows t ready h told =
-    let same = shown_unchanged entries_text (range after upto) old new rows (plain_under _ entries_text ready.both entries_plain) h in
+    let same = shown_unchanged entries_text (range after upto) old new rows
+    (plain_under _ entries_text ready.both entries_plain) h in
     let it = held old new t ready same told in
-    let a = reads_as entries_text (range after upto) old new both_schema ready.both _ entries_is.0 entries_plain entries_is.1 rows h in
-    entries_answer after upto old.now.trees rows it.told.entries (a.answer Null) ∙ ap (λ x. map entry_row (entries_between after upto x)) (sym it.is)
+    let a = reads_as entries_text (range after upto) old new both_schema ready.both _ entries_is.0
+    entries_plain entries_is.1 rows h in
+    entries_answer after upto old.now.trees rows it.told.entries (a.answer Null)
+    ∙ ap (λ x. map entry_row (entries_between after upto x)) (sym it.is)
 
-pub cells_told : (after upto : ℕ) (old new : State) (rows : List Row) (t : KeptTables) → IsReady old → Shown cells_text (range after upto) old new rows
+pub cells_told : (after upto : ℕ) (old new : State) (rows : List Row) (t : KeptTables) → IsReady old
+    → Shown cells_text (range after upto) old new rows
     → told_by new.now.schema new.now.trees ≡ Some t → rows ≡ map cell_row (cells_between after upto t)
 cells_told after upto old new rows t ready h told =
-    let same = shown_unchanged cells_text (range after upto) old new rows (plain_under _ cells_text ready.both cells_plain) h in
+    let same = shown_unchanged cells_text (range after upto) old new rows
+    (plain_under _ cells_text ready.both cells_plain) h in
     let it = held old new t ready same told in
-    let a = reads_as cells_text (range after upto) old new both_schema ready.both _ cells_is.0 cells_plain cells_is.1 rows h in
-    cells_answer after upto old.now.trees rows it.told.cells (holds_apart old.now t it) (a.answer Null) ∙ ap (λ x. map cell_row (cells_between after upto x)) (sym it.is)
+    let a = reads_as cells_text (range after upto) old new both_schema ready.both _ cells_is.0 cells_plain
+    cells_is.1 rows h in
+    cells_answer after upto old.now.trees rows it.told.cells (holds_apart old.now t it) (a.answer Null)
+    ∙ ap (λ x. map cell_row (cells_between after upto x)) (sym it.is)
 
 -- ---- inside a transaction
 
-pub ran_inside : (sql : List ℕ) (params : Row) (old new : State) (count : ℕ) → ExecutesInside 0 sql params old new (Ok count) → IsInside old new
-ran_inside sql params old new count h = record { was_open = h.1.was_open; is_open = h.1.is_open; committed = h.1.committed_is; mode = h.1.mode }
+pub ran_inside : (sql : List ℕ) (params : Row) (old new : State) (count : ℕ)
+    → ExecutesInside 0 sql params old new (Ok count) → IsInside old new
+ran_inside sql params old new count h = record
+    { was_open = h.1.was_open; is_open = h.1.is_open; committed = h.1.committed_is; mode = h.1.mode }
 
 -- Also a statement that is refused commits nothing.
-pub keeps_commit : (sql : List ℕ) (params : Row) (old new : State) (r : Result ℕ Error) → ExecutesInside 0 sql params old new r → KeepsCommit old new
-keeps_commit sql params old new (Ok count) h = record { was_open = λ _. h.1.was_open; committed = λ _. h.1.committed_is }
-keeps_commit sql params old new (Err e) (inl (ran, inl same)) = record { was_open = λ _. same.0.was_open; committed = λ _. same.0.committed_is }
-keeps_commit sql params old new (Err e) (inl (ran, inr back)) = record { was_open = back.was_open; committed = λ live. (back.undone live).1 }
-keeps_commit sql params old new (Err e) (inr (ends, is, same)) = record { was_open = λ _. same.0.was_open; committed = λ _. same.0.committed_is }
+pub keeps_commit : (sql : List ℕ) (params : Row) (old new : State) (r : Result ℕ Error)
+    → ExecutesInside 0 sql params old new r → KeepsCommit old new
+keeps_commit sql params old new (Ok count) h = record
+    { was_open = λ _. h.1.was_open; committed = λ _. h.1.committed_is }
+keeps_commit sql params old new (Err e) (inl (ran, inl same)) = record
+    { was_open = λ _. same.0.was_open; committed = λ _. same.0.committed_is }
+keeps_commit sql params old new (Err e) (inl (ran, inr back)) = record
+    { was_open = back.was_open; committed = λ live. (back.undone live).1 }
+keeps_commit sql params old new (Err e) (inr (ends, is, same)) = record
+    { was_open = λ _. same.0.was_open; committed = λ _. same.0.committed_is }
 
 tells_holds : (s : State) (t : KeptTables) → Tells s.now.schema s.now.trees t → Holds s.now t
 tells_holds s t h = told_holds s.now t h.both h.sound h.told
@@ -97,49 +116,78 @@ pub record EntryRanges (e : KeptEntry) : Type 0 where
   pub rules : e.rules < 2 ^ 16
 
 entry_within : (e : KeptEntry) → 1 ≤ e.seq → EntryRanges e → entry_fits e ≡ true
-entry_within e low r = both_of _ _ (number_fits e.seq low r.seq) (both_of _ _ (test_lt e.kind (2 ^ 8) r.kind) (both_of _ _ (test_lt e.number (2 ^ 32) r.number) (test_lt e.rules (2 ^ 16) r.rules)))
+entry_within e low r = both_of _ _ (number_fits e.seq low r.seq)
+    (both_of _ _ (test_lt e.kind (2 ^ 8) r.kind)
+    (both_of _ _ (test_lt e.number (2 ^ 32) r.number) (test_lt e.rules (2 ^ 16) r.rules)))
 
-cell_within : (c : KeptCell) → 1 ≤ c.touched → c.touched ≤ 9223372036854775807 → c.kind < 2 ^ 8 → cell_fits c ≡ true
+cell_within : (c : KeptCell) → 1 ≤ c.touched → c.touched ≤ 9223372036854775807 → c.kind < 2 ^ 8
+    → cell_fits c ≡ true
 cell_within c low high kind = both_of _ _ (number_fits c.touched low high) (test_lt c.kind (2 ^ 8) kind)
 
-pub turns_insert : (old new : State) (e : KeptEntry) (count : ℕ) → EntryRanges e → ExecutesInside 0 insert_text (entry_row e) old new (Ok count)
+pub turns_insert : (old new : State) (e : KeptEntry) (count : ℕ) → EntryRanges e
+    → ExecutesInside 0 insert_text (entry_row e) old new (Ok count)
     → Turns (with_entry e) (IsNext e) old new
 turns_insert old new e count ranges h = record {
   inside = ran_inside insert_text (entry_row e) old new count h;
   told = λ t next tells.
       let it = tells_holds old t tells in
       let fits = entry_within e (omega (arith, next)) ranges in
-      holds_tells new (with_entry e t) (holds_insert old.now new.now t e it (inserts old new e count tells.both h.0) fits next);
+      holds_tells new (with_entry e t)
+      (holds_insert old.now new.now t e it (inserts old new e count tells.both h.0) fits next);
 }
 
-pub turns_put : (old new : State) (c : KeptCell) (count : ℕ) → c.touched ≤ 9223372036854775807 → c.kind < 2 ^ 8 → ExecutesInside 0 put_text (cell_row c) old new (Ok count)
+pub turns_put : (old new : State) (c : KeptCell) (count : ℕ) → c.touched ≤ 9223372036854775807
+    → c.kind < 2 ^ 8 → ExecutesInside 0 put_text (cell_row c) old new (Ok count)
     → Turns (with_cell c) (λ _. 1 ≤ c.touched) old new
 turns_put old new c count high kind h = record {
   inside = ran_inside put_text (cell_row c) old new count h;
   told = λ t low tells.
       let it = tells_holds old t tells in
       let fits = cell_within c low high kind in
-      holds_tells new (with_cell c t) (holds_put old.now new.now t c it (puts old new c count tells.both fits it.told.cells (holds_apart old.now t it) h.0) fits);
+      holds_tells new (with_cell c t)
+      (holds_put old.now new.now t c it
+      (puts old new c count tells.both fits it.told.cells (holds_apart old.now t it) h.0) fits);
 }
 
-pub turns_none : (s : State) (P : KeptTables → Type 0) → IsTrue s.is_open → IsTrue s.in_transaction → Turns (with_cells []) P s s
-turns_none s P live mode = record { inside = record { was_open = live; is_open = live; committed = refl; mode = mode }; told = λ t fits tells. tells }
+pub turns_none : (s : State) (P : KeptTables → Type 0) → IsTrue s.is_open → IsTrue s.in_transaction
+    → Turns (with_cells []) P s s
+turns_none s P live mode = record {
+  inside = record { was_open = live; is_open = live; committed = refl; mode = mode };
+  told = λ t fits
+      tells. tells;
+}
 
-pub turns_then : (f g : KeptTables → KeptTables) (P Q R : KeptTables → Type 0) (a b c : State) → ((t : KeptTables) → R t → P t × Q (f t)) → Turns f P a b → Turns g Q b c → Turns (λ t. g (f t)) R a c
+pub turns_then : (f g : KeptTables → KeptTables) (P Q R : KeptTables → Type 0) (a b c : State)
+    → ((t : KeptTables) → R t → P t × Q (f t)) → Turns f P a b → Turns g Q b c → Turns (λ t. g (f t)) R a c
 turns_then f g P Q R a b c fits one two = record {
-  inside = record { was_open = one.inside.was_open; is_open = two.inside.is_open; committed = two.inside.committed ∙ one.inside.committed; mode = two.inside.mode };
+  inside = record {
+    was_open = one.inside.was_open;
+    is_open = two.inside.is_open;
+    committed =
+        two.inside.committed ∙ one.inside.committed;
+    mode = two.inside.mode;
+  };
   told = λ t r tells. let it = fits t r in two.told (f t) it.1 (one.told t it.0 tells);
 }
 
 -- the cells so far with one more
-pub one_more : (front : List KeptCell) (c : KeptCell) (t : KeptTables) → with_cell c (with_cells front t) ≡ with_cells (front ++ c ∷ []) t
-one_more front c t = ap (λ cells. record { entries = t.entries; cells = cells }) (sym (fold-append put_cell t.cells front (c ∷ [])))
+pub one_more : (front : List KeptCell) (c : KeptCell) (t : KeptTables)
+    → with_cell c (with_cells front t) ≡ with_cells (front ++ c ∷ []) t
+one_more front c t = ap (λ cells. record { entries = t.entries; cells = cells })
+    (sym (fold-append put_cell t.cells front (c ∷ [])))
 
-pub cells_more : (front : List KeptCell) (c : KeptCell) (P : KeptTables → Type 0) (a b d : State) → ((t : KeptTables) → P t → 1 ≤ c.touched)
-    → Turns (with_cells front) P a b → Turns (with_cell c) (λ _. 1 ≤ c.touched) b d → Turns (with_cells (front ++ c ∷ [])) P a d
+pub cells_more : (front : List KeptCell) (c : KeptCell) (P : KeptTables → Type 0) (a b d : State)
+    → ((t : KeptTables) → P t → 1 ≤ c.touched)
+    → Turns (with_cells front) P a b → Turns (with_cell c) (λ _. 1 ≤ c.touched) b d
+    → Turns (with_cells (front ++ c ∷ [])) P a d
 cells_more front c P a b d low one two =
-    let both = turns_then (with_cells front) (with_cell c) P (λ _. 1 ≤ c.touched) P a b d (λ t p. (p, low t p)) one two in
-    record { inside = both.inside; told = λ t p tells. subst (Tells d.now.schema d.now.trees) (one_more front c t) (both.told t p tells) }
+    let both = turns_then (with_cells front) (with_cell c) P (λ _. 1 ≤ c.touched) P a b d
+    (λ t p. (p, low t p)) one two in
+    record {
+      inside = both.inside;
+      told = λ t p tells. subst (Tells d.now.schema d.now.trees)
+          (one_more front c t) (both.told t p tells);
+    }
 
 -- ---- the clauses of the functions that run the statements
 
@@ -147,20 +195,26 @@ pub if_ok : {X E : Type 0} (r : Result X E) (P Q : X → Type 0) → ((x : X) �
 if_ok (Ok x) P Q then h = then x h
 if_ok (Err e) P Q then h = tt
 
-pub ready_steady : {X : Type 0} (sql : List ℕ) (params : Row) (old new : State) (show : X → List Row) (r : Result X Error) → (HasCleanDisk old → IsReady old)
-    → IsPlain (understood both_schema sql) → (old.in_transaction ≡ false → new.in_transaction ≡ false) → (HasCleanDisk new → IfOk r (λ rows. Shown sql params old new (show rows)))
-    → (HasCleanDisk new → IfErr r (FailsToQuery sql params old new)) → Survives old new (CommitsShowing sql params old) → IsSteady old new
+pub ready_steady : {X : Type 0} (sql : List ℕ) (params : Row) (old new : State) (show : X → List Row)
+    (r : Result X Error) → (HasCleanDisk old → IsReady old)
+    → IsPlain (understood both_schema sql) → (old.in_transaction ≡ false → new.in_transaction ≡ false)
+    → (HasCleanDisk new → IfOk r (λ rows. Shown sql params old new (show rows)))
+    → (HasCleanDisk new → IfErr r (FailsToQuery sql params old new))
+    → Survives old new (CommitsShowing sql params old) → IsSteady old new
 ready_steady sql params old new show r ready plain mode ok err survives =
-    query_steady sql params old new show r (λ clean. (ready (earlier clean)).settled) (λ clean. plain_under _ sql (ready (earlier clean)).both plain) mode ok err survives
+    query_steady sql params old new show r (λ clean. (ready (earlier clean)).settled)
+    (λ clean. plain_under _ sql (ready (earlier clean)).both plain) mode ok err survives
   where
     earlier : HasCleanDisk new → HasCleanDisk old
     earlier clean = omega (arith, survives.clean, clean)
 
-pub adds_entry : (old new : State) (e : KeptEntry) (r : Result ℕ Error) → EntryRanges e → ExecutesInside 0 insert_text (entry_row e) old new r → OnOk r (Turns (with_entry e) (IsNext e) old new)
+pub adds_entry : (old new : State) (e : KeptEntry) (r : Result ℕ Error) → EntryRanges e
+    → ExecutesInside 0 insert_text (entry_row e) old new r → OnOk r (Turns (with_entry e) (IsNext e) old new)
 adds_entry old new e (Ok count) ranges h = turns_insert old new e count ranges h
 adds_entry old new e (Err error) ranges h = tt
 
-pub puts_cell : (old new : State) (c : KeptCell) (r : Result ℕ Error) → c.touched ≤ 9223372036854775807 → c.kind < 2 ^ 8 → ExecutesInside 0 put_text (cell_row c) old new r
+pub puts_cell : (old new : State) (c : KeptCell) (r : Result ℕ Error) → c.touched ≤ 9223372036854775807
+    → c.kind < 2 ^ 8 → ExecutesInside 0 put_text (cell_row c) old new r
     → OnOk r (Turns (with_cell c) (λ _. 1 ≤ c.touched) old new)
 puts_cell old new c (Ok count) high kind h = turns_put old new c count high kind h
 puts_cell old new c (Err error) high kind h = tt

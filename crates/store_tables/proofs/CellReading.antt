@@ -31,52 +31,69 @@ module _ (after upto : ℕ) where
   cell_shown = shown 1 (within 3) cells_query.project cells_query.order no_limit (range after upto)
 
   passes_is : (r : Row) → IsCell r → cell_passes r ≡ between after upto (cell_of r).touched
-  passes_is r is = subst (λ x. cell_passes x ≡ between after upto (cell_of r).touched) (sym is.0) (in_range after upto (cell_of r).touched (cell_number (cell_of r) is.1).1)
+  passes_is r is = subst (λ x. cell_passes x ≡ between after upto (cell_of r).touched) (sym is.0)
+      (in_range after upto (cell_of r).touched (cell_number (cell_of r) is.1).1)
 
   shows_is : (r : Row) → IsCell r → (cell_shown r).1 ≡ cell_row (cell_of r)
   shows_is r is = subst (λ x. (cell_shown x).1 ≡ cell_row (cell_of r)) (sym is.0) refl
 
   keys_rise : (m n : ℕ) (s t : List ℕ) → slice_cmp nat_cmp (m ∷ s) (n ∷ t) ≡ Less
-      → ordering_then (value_cmp (Int (pos m)) (Int (pos n))) (ordering_then (value_cmp (Text s) (Text t)) Equal) ≡ Less
+      → ordering_then (value_cmp (Int (pos m)) (Int (pos n)))
+      (ordering_then (value_cmp (Text s) (Text t)) Equal) ≡ Less
   keys_rise m n s t below =
-      ap₂ ordering_then (value_cmp-Int (pos m) (pos n) ∙ pos_cmp m n) (then-Equal (value_cmp (Text s) (Text t)) ∙ value_cmp-Text s t) ∙ below
+      ap₂ ordering_then (value_cmp-Int (pos m) (pos n) ∙ pos_cmp m n)
+      (then-Equal (value_cmp (Text s) (Text t)) ∙ value_cmp-Text s t) ∙ below
 
   -- in the order of kind and name
-  rises : (a b : Row) → IsCell a → IsCell b → before a b → output_cmp cells_query (cell_shown a) (cell_shown b) ≡ Less
+  rises : (a b : Row) → IsCell a → IsCell b → before a b
+      → output_cmp cells_query (cell_shown a) (cell_shown b) ≡ Less
   rises a b p q below =
       subst (λ x. output_cmp cells_query (cell_shown x) (cell_shown b) ≡ Less) (sym p.0)
-      (subst (λ y. output_cmp cells_query (cell_shown (stored_cell (id_in (column a 0)) (cell_of a))) (cell_shown y) ≡ Less) (sym q.0)
+      (subst (λ y. output_cmp cells_query (cell_shown (stored_cell (id_in (column a 0)) (cell_of a)))
+      (cell_shown y) ≡ Less) (sym q.0)
       (keys_rise (cell_of a).kind (cell_of b).kind (cell_of a).name (cell_of b).name below))
 
-  each_rises : (a : Row) (rows : List Row) → IsCell a → AllByRecursion IsCell rows → AllByRecursion (before a) rows
+  each_rises : (a : Row) (rows : List Row) → IsCell a → AllByRecursion IsCell rows
+      → AllByRecursion (before a) rows
       → AllByRecursion (λ b. output_cmp cells_query (cell_shown a) (cell_shown b) ≡ Less) rows
   each_rises a [] is each below = tt
   each_rises a (b ∷ rows) is each below = (rises a b is each.0 below.0, each_rises a rows is each.1 below.1)
 
-  all_rise : (rows : List Row) → AllByRecursion IsCell rows → IsAscending before rows → IsAscending (λ a b. output_cmp cells_query (cell_shown a) (cell_shown b) ≡ Less) rows
+  all_rise : (rows : List Row) → AllByRecursion IsCell rows → IsAscending before rows
+      → IsAscending (λ a b. output_cmp cells_query (cell_shown a) (cell_shown b) ≡ Less) rows
   all_rise [] each up = tt
   all_rise (r ∷ rows) each up = (each_rises r rows each.0 each.1 up.0, all_rise rows each.1 up.1)
 
   shown_rows : (rows : List Row) → AllByRecursion IsCell rows
-      → map (λ o. o.1) (map cell_shown (filter cell_passes rows)) ≡ map cell_row (filter (λ c. between after upto c.touched) (map cell_at (map placed rows)))
+      → map (λ o. o.1) (map cell_shown (filter cell_passes rows))
+      ≡ map cell_row (filter (λ c. between after upto c.touched) (map cell_at (map placed rows)))
   shown_rows [] all = refl
   shown_rows (r ∷ rows) all = go (cell_passes r) (passes_is r all.0) (shown_rows rows all.1)
     where
       go : (b : Bool) → b ≡ between after upto (cell_of r).touched
-          → map (λ (o : Output). o.1) (map cell_shown (filter cell_passes rows)) ≡ map cell_row (filter (λ c. between after upto c.touched) (map cell_at (map placed rows)))
-          → map (λ (o : Output). o.1) (map cell_shown (cond b (r ∷ filter cell_passes rows) (filter cell_passes rows)))
-          ≡ map cell_row (cond (between after upto (cell_of r).touched) (cell_of r ∷ filter (λ c. between after upto c.touched) (map cell_at (map placed rows)))
+          → map (λ (o : Output). o.1) (map cell_shown (filter cell_passes rows))
+          ≡ map cell_row (filter (λ c. between after upto c.touched) (map cell_at (map placed rows)))
+          → map (λ (o : Output). o.1)
+          (map cell_shown (cond b (r ∷ filter cell_passes rows) (filter cell_passes rows)))
+          ≡ map cell_row (cond (between after upto (cell_of r).touched)
+          (cell_of r ∷ filter (λ c. between after upto c.touched) (map cell_at (map placed rows)))
           (filter (λ c. between after upto c.touched) (map cell_at (map placed rows))))
       go true is more = rw (← is) (ap₂ ◌∷◌ (shows_is r all.0) more)
       go false is more = rw (← is) more
 
-  pub cells_answer : (db : Trees) (rows : List Row) → AreCells (db 1) → Apart (db 1) → IsAnswer cells_query (overlay db []) (range after upto) rows
-      → rows ≡ map cell_row (filter (λ c. between after upto c.touched) (map cell_at (entries (from_entries {R = slice_cmp nat_cmp} (map placed (db 1))))))
+  pub cells_answer : (db : Trees) (rows : List Row) → AreCells (db 1) → Apart (db 1)
+      → IsAnswer cells_query (overlay db []) (range after upto) rows
+      → rows ≡ map cell_row (filter (λ c. between after upto c.touched)
+      (map cell_at (entries (from_entries {R = slice_cmp nat_cmp} (map placed (db 1))))))
   cells_answer db rows are apart a =
       let o = in_order (db 1) apart are.each in
       let all = map cell_shown (filter cell_passes o.all) in
       let each = all-filter IsCell cell_passes o.all o.each in
-      let up = ascending-map (λ x y. output_cmp cells_query x y ≡ Less) cell_shown _ (all_rise (filter cell_passes o.all) each (ascending-filter before cell_passes o.all o.up)) in
-      let same = IsPermutation-map cell_shown _ _ (IsPermutation-filter cell_passes o.all (db 1) (IsPermutation-sym _ _ o.same)) in
-      answer_is 1 (within 3) cells_query.project cells_query.order no_limit (range after upto) db rows a all up same IsPermutation-trans
-      ∙ (shown_rows o.all o.each ∙ ap (λ es. map cell_row (filter (λ c. between after upto c.touched) (map cell_at es))) (sym o.are))
+      let up = ascending-map (λ x y. output_cmp cells_query x y ≡ Less) cell_shown _
+      (all_rise (filter cell_passes o.all) each (ascending-filter before cell_passes o.all o.up)) in
+      let same = IsPermutation-map cell_shown _ _
+      (IsPermutation-filter cell_passes o.all (db 1) (IsPermutation-sym _ _ o.same)) in
+      answer_is 1 (within 3) cells_query.project cells_query.order no_limit (range after upto) db rows a all
+      up same IsPermutation-trans
+      ∙ (shown_rows o.all o.each
+      ∙ ap (λ es. map cell_row (filter (λ c. between after upto c.touched) (map cell_at es))) (sym o.are))

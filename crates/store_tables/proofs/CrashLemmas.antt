@@ -16,18 +16,23 @@ use Rattle.store_tables.specs.Told.{told_by}
 pub one_schema : (s t : Schema) (trees : Trees) → IsSound s trees → IsSound t trees → s ≡ t
 one_schema s t trees p q = lists_once (trees catalog_tree) s t p.lists q.lists
 
-told_once : (s t : Schema) (trees : Trees) (left : Option KeptTables) (tables : KeptTables) → IsSound s trees → left ≡ told_by s trees → Tells t trees tables → left ≡ Some tables
-told_once s t trees left tables sound is tells = is ∙ (ap (λ x. told_by x trees) (one_schema s t trees sound tells.sound) ∙ tells.told)
+told_once : (s t : Schema) (trees : Trees) (left : Option KeptTables) (tables : KeptTables) → IsSound s trees
+    → left ≡ told_by s trees → Tells t trees tables → left ≡ Some tables
+told_once s t trees left tables sound is tells = is
+    ∙ (ap (λ x. told_by x trees) (one_schema s t trees sound tells.sound) ∙ tells.told)
 
 -- where a crash leaves the last commit and nothing else
-pub found_settled : (s : State) (t : KeptTables) → ((db : Trees) → s.may_leave db → db ≡ s.committed.trees) → s.now ≡ s.committed → Tells s.now.schema s.now.trees t
+pub found_settled : (s : State) (t : KeptTables) → ((db : Trees) → s.may_leave db → db ≡ s.committed.trees)
+    → s.now ≡ s.committed → Tells s.now.schema s.now.trees t
     → (left : Option KeptTables) → IsFound s left → left ≡ Some t
 found_settled s t settled same tells left found =
     let trees : found.0 ≡ s.now.trees = settled found.0 found.2 ∙ ap (λ (d : Database). d.trees) (sym same) in
-    told_once found.1 s.now.schema s.now.trees left t (subst (IsSound found.1) trees found.3) (found.4 ∙ ap (told_by found.1) trees) tells
+    told_once found.1 s.now.schema s.now.trees left t (subst (IsSound found.1) trees found.3)
+    (found.4 ∙ ap (told_by found.1) trees) tells
 
 -- trees that a transaction of a batch commits tell the tables with the batch
-pub kept_tells : (batch : Batch) (s : State) (trees : Trees) (schema : Schema) (left : Option KeptTables) (t : KeptTables) → IsKept batch s trees → IsSound schema trees → left ≡ told_by schema trees
+pub kept_tells : (batch : Batch) (s : State) (trees : Trees) (schema : Schema) (left : Option KeptTables)
+    (t : KeptTables) → IsKept batch s trees → IsSound schema trees → left ≡ told_by schema trees
     → IsNext batch.entry t → Tells s.now.schema s.now.trees t → left ≡ Some (with_batch batch t)
 kept_tells batch s trees schema left t kept sound is next tells =
     let it = kept.1 t next tells in

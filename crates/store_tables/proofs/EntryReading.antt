@@ -51,9 +51,11 @@ two_tests false b = refl
 -- a number passes where it is within the range
 pub in_range : (after upto n : ℕ) → n ≤ 9223372036854775807
     → (is_true (binary (Compare Gt Binary) (Int (pos n)) (Int (pos (min after 9223372036854775807))))
-    && (is_true (binary (Compare Le Binary) (Int (pos n)) (Int (pos (min upto 9223372036854775807)))) && true)) ≡ between after upto n
+    && (is_true (binary (Compare Le Binary) (Int (pos n)) (Int (pos (min upto 9223372036854775807)))) &&
+    true)) ≡ between after upto n
 in_range after upto n high =
-    two_tests _ _ ∙ ap₂ ◌&&◌ (is_above n (min after 9223372036854775807) ∙ lower_bound after n high) (is_at_most n (min upto 9223372036854775807) ∙ upper_bound upto n high)
+    two_tests _ _ ∙ ap₂ ◌&&◌ (is_above n (min after 9223372036854775807) ∙ lower_bound after n high)
+    (is_at_most n (min upto 9223372036854775807) ∙ upper_bound upto n high)
 
 module _ (after upto : ℕ) where
   abbrev entry_passes : Row → Bool
@@ -63,31 +65,41 @@ module _ (after upto : ℕ) where
   entry_shown = shown 0 (within 0) entries_query.project entries_query.order no_limit (range after upto)
 
   passes_is : (r : Row) → IsEntry r → entry_passes r ≡ between after upto (entry_of r).seq
-  passes_is r is = subst (λ x. entry_passes x ≡ between after upto (entry_of r).seq) (sym is.0) (in_range after upto (entry_of r).seq (entry_number (entry_of r) is.1).1)
+  passes_is r is = subst (λ x. entry_passes x ≡ between after upto (entry_of r).seq) (sym is.0)
+      (in_range after upto (entry_of r).seq (entry_number (entry_of r) is.1).1)
 
   shows_is : (r : Row) → IsEntry r → (entry_shown r).1 ≡ entry_row (entry_of r)
   shows_is r is = subst (λ x. (entry_shown x).1 ≡ entry_row (entry_of r)) (sym is.0) refl
 
   -- in order of number
-  rises : (a b : Row) → value_cmp (rowid a) (rowid b) ≡ Less → output_cmp entries_query (entry_shown a) (entry_shown b) ≡ Less
+  rises : (a b : Row) → value_cmp (rowid a) (rowid b) ≡ Less
+      → output_cmp entries_query (entry_shown a) (entry_shown b) ≡ Less
   rises a b below = then-Equal _ ∙ below
 
   shown_rows : (rows : List Row) → AllByRecursion IsEntry rows
-      → map (λ o. o.1) (map entry_shown (filter entry_passes rows)) ≡ map entry_row (filter (λ e. between after upto e.seq) (map entry_of rows))
+      → map (λ o. o.1) (map entry_shown (filter entry_passes rows))
+      ≡ map entry_row (filter (λ e. between after upto e.seq) (map entry_of rows))
   shown_rows [] all = refl
   shown_rows (r ∷ rows) all = go (entry_passes r) (passes_is r all.0) (shown_rows rows all.1)
     where
       go : (b : Bool) → b ≡ between after upto (entry_of r).seq
-          → map (λ (o : Output). o.1) (map entry_shown (filter entry_passes rows)) ≡ map entry_row (filter (λ e. between after upto e.seq) (map entry_of rows))
-          → map (λ (o : Output). o.1) (map entry_shown (cond b (r ∷ filter entry_passes rows) (filter entry_passes rows)))
-          ≡ map entry_row (cond (between after upto (entry_of r).seq) (entry_of r ∷ filter (λ e. between after upto e.seq) (map entry_of rows)) (filter (λ e. between after upto e.seq) (map entry_of rows)))
+          → map (λ (o : Output). o.1) (map entry_shown (filter entry_passes rows))
+          ≡ map entry_row (filter (λ e. between after upto e.seq) (map entry_of rows))
+          → map (λ (o : Output). o.1)
+          (map entry_shown (cond b (r ∷ filter entry_passes rows) (filter entry_passes rows)))
+          ≡ map entry_row (cond (between after upto (entry_of r).seq)
+          (entry_of r ∷ filter (λ e. between after upto e.seq) (map entry_of rows))
+          (filter (λ e. between after upto e.seq) (map entry_of rows)))
       go true is more = rw (← is) (ap₂ ◌∷◌ (shows_is r all.0) more)
       go false is more = rw (← is) more
 
-  pub entries_answer : (db : Trees) (rows : List Row) → AreEntries (db 0) → IsAnswer entries_query (overlay db []) (range after upto) rows
+  pub entries_answer : (db : Trees) (rows : List Row) → AreEntries (db 0)
+      → IsAnswer entries_query (overlay db []) (range after upto) rows
       → rows ≡ map entry_row (filter (λ e. between after upto e.seq) (map entry_of (db 0)))
   entries_answer db rows are a =
       let up = ascending-map (λ x y. output_cmp entries_query x y ≡ Less) entry_shown _
-      (ascending_weaker _ (λ x y. output_cmp entries_query (entry_shown x) (entry_shown y) ≡ Less) rises _ (ascending-filter _ entry_passes (db 0) are.rise)) in
-      answer_is 0 (within 0) entries_query.project entries_query.order no_limit (range after upto) db rows a (map entry_shown (filter entry_passes (db 0))) up (IsPermutation-refl _) IsPermutation-trans
+      (ascending_weaker _ (λ x y. output_cmp entries_query (entry_shown x) (entry_shown y) ≡ Less) rises _
+      (ascending-filter _ entry_passes (db 0) are.rise)) in
+      answer_is 0 (within 0) entries_query.project entries_query.order no_limit (range after upto) db rows a
+      (map entry_shown (filter entry_passes (db 0))) up (IsPermutation-refl _) IsPermutation-trans
       ∙ shown_rows (db 0) are.each

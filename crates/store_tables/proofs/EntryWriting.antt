@@ -31,30 +31,44 @@ pub record Inserts (old new : Database) (e : KeptEntry) : Type 0 where
   pub fresh : is_taken (old.trees 0) (stored_entry e) ≡ false
   pub cells : new.trees 1 ≡ old.trees 1
 
-entry_cast : (e : KeptEntry) → cast_row entry_table (Int (pos e.seq) ∷ Null ∷ Int (pos e.kind) ∷ Text e.office ∷ Int (pos e.number) ∷ Int e.moment ∷ Int (pos e.rules)
+entry_cast : (e : KeptEntry)
+    → cast_row entry_table (Int (pos e.seq) ∷ Null ∷ Int (pos e.kind) ∷ Text e.office ∷ Int (pos e.number)
+    ∷ Int e.moment ∷ Int (pos e.rules)
     ∷ Blob e.body ∷ Blob e.answer ∷ []) ≡ stored_entry e
-entry_cast e = rw (cast_int (pos e.seq), cast_null, cast_int (pos e.kind), cast_int (pos e.number), cast_int e.moment, cast_int (pos e.rules))
+entry_cast e = rw (
+  cast_int (pos e.seq),
+  cast_null,
+  cast_int (pos e.kind),
+  cast_int (pos e.number),
+  cast_int e.moment,
+  cast_int (pos e.rules),
+)
 
 pub not_taken : (b : Bool) → not b ≡ true → b ≡ false
 not_taken true h = cc
 not_taken false h = refl
 
-pub inserts : (old new : State) (e : KeptEntry) (count : ℕ) → old.now.schema ≡ both_schema → Executes insert_text (entry_row e) old new (Ok count) → Inserts old.now new.now e
+pub inserts : (old new : State) (e : KeptEntry) (count : ℕ) → old.now.schema ≡ both_schema
+    → Executes insert_text (entry_row e) old new (Ok count) → Inserts old.now new.now e
 inserts old new e count has h =
     let params = entry_row e in
     let db = old.now.trees in
     let command = Insert 0 (Values insert_terms 9) in
     let w = runs_as insert_text params old new both_schema has command insert_is insert_plain count h in
     let text = statement_of insert_text (understood both_schema insert_text) in
-    let done = went (subst (λ s. Does old.step_limit (mode_of old) params (record old.now { schema = s }) text None command (Ok (w.tally, new.now))) has w.changed) in
+    let done = went (subst (λ s. Does old.step_limit (mode_of old) params (record old.now { schema = s }) text
+    None command (Ok (w.tally, new.now))) has w.changed) in
     let now = ap (λ (p : Tally × Database). p.1) (same_value (went (went done.2).2).2) in
     let given = went done.1 in
     let written = went (went given.2).2 in
     let counted = went written.2 in
-    let trees : done.0.trees ≡ written.0 = ap (λ (it : Written). it.trees) (same_value counted.2) ∙ same_value counted.1 in
+    let trees : done.0.trees ≡ written.0 = ap (λ (it : Written). it.trees) (same_value counted.2)
+    ∙ same_value counted.1 in
     let edit = edit_of db entry_table [] Chosen 0 given.0 in
     let applies = one_step both_schema _ db written.0 edit refl written.1 in
-    let news : edit.news ≡ stored_entry e ∷ [] = ap (λ all. (edit_of db entry_table [] Chosen 0 all).news) given.1.1 ∙ ap (λ row. with_rowid Chosen (db 0) row ∷ []) (entry_cast e) in
+    let news : edit.news ≡ stored_entry e
+    ∷ [] = ap (λ all. (edit_of db entry_table [] Chosen 0 all).news) given.1.1
+    ∙ ap (λ row. with_rowid Chosen (db 0) row ∷ []) (entry_cast e) in
     let all : new.now.trees ≡ written.0 = ap (λ (d : Database). d.trees) now ∙ trees in
     record {
       schema = ap (λ (d : Database). d.schema) now;

@@ -30,32 +30,41 @@ less_numbers m n below = grind (arith, nat_tests)
 pub id_is : (r : Row) → IsEntry r → rowid r ≡ Int (pos (entry_of r).seq)
 id_is r is = ap rowid is.0
 
-pub numbers_rise : (a b : Row) → IsEntry a → IsEntry b → value_cmp (rowid a) (rowid b) ≡ Less → (entry_of a).seq < (entry_of b).seq
+pub numbers_rise : (a b : Row) → IsEntry a → IsEntry b → value_cmp (rowid a) (rowid b) ≡ Less
+    → (entry_of a).seq < (entry_of b).seq
 numbers_rise a b p q below =
-    less_numbers _ _ (sym (value_cmp-Int (pos (entry_of a).seq) (pos (entry_of b).seq)) ∙ subst₂ (λ v w. value_cmp v w ≡ Less) (id_is a p) (id_is b q) below)
+    less_numbers _ _ (sym (value_cmp-Int (pos (entry_of a).seq) (pos (entry_of b).seq))
+    ∙ subst₂ (λ v w. value_cmp v w ≡ Less) (id_is a p) (id_is b q) below)
 
 -- ---- they rise
 
-rise_from : (n : ℕ) (rows : List Row) → AllByRecursion (λ r. n < (entry_of r).seq) rows → IsTable rows → AllByRecursion IsEntry rows → RiseFrom n (map entry_of rows)
+rise_from : (n : ℕ) (rows : List Row) → AllByRecursion (λ r. n < (entry_of r).seq) rows → IsTable rows
+    → AllByRecursion IsEntry rows → RiseFrom n (map entry_of rows)
 rise_from n [] above up each = tt
-rise_from n (r ∷ rows) above up each = (above.0, rise_from (entry_of r).seq rows (later rows up.0 each.1) up.1 each.1)
+rise_from n (r ∷ rows) above up each =
+    (above.0, rise_from (entry_of r).seq rows (later rows up.0 each.1) up.1 each.1)
   where
-    later : (rows : List Row) → AllByRecursion (λ s. value_cmp (rowid r) (rowid s) ≡ Less) rows → AllByRecursion IsEntry rows → AllByRecursion (λ s. (entry_of r).seq < (entry_of s).seq) rows
+    later : (rows : List Row) → AllByRecursion (λ s. value_cmp (rowid r) (rowid s) ≡ Less) rows
+        → AllByRecursion IsEntry rows → AllByRecursion (λ s. (entry_of r).seq < (entry_of s).seq) rows
     later [] below all = tt
     later (s ∷ rows) below all = (numbers_rise r s each.0 all.0 below.0, later rows below.1 all.1)
 
 all_above : (rows : List Row) → AllByRecursion IsEntry rows → AllByRecursion (λ r. 0 < (entry_of r).seq) rows
 all_above [] each = tt
-all_above (r ∷ rows) each = (let low = (entry_number (entry_of r) each.0.1).0 in omega (arith, low), all_above rows each.1)
+all_above (r ∷ rows) each =
+    (let low = (entry_number (entry_of r) each.0.1).0 in omega (arith, low), all_above rows each.1)
 
 -- ---- cells have the number of an entry
 
-found_number : (q : CellPlace) (content : CellContent) (rows : List Row) → AllByRecursion IsCell rows → find (slice_cmp nat_cmp) q (map placed rows) ≡ Some content → IsEntryNumber content.touched
+found_number : (q : CellPlace) (content : CellContent) (rows : List Row) → AllByRecursion IsCell rows
+    → find (slice_cmp nat_cmp) q (map placed rows) ≡ Some content → IsEntryNumber content.touched
 found_number q content [] each found = absurd (cc)
-found_number q content (r ∷ rows) each found = go (eq_by_cmp (slice_cmp nat_cmp) q (placed r).0) found (found_number q content rows each.1)
+found_number q content (r ∷ rows) each found = go (eq_by_cmp (slice_cmp nat_cmp) q (placed r).0) found
+    (found_number q content rows each.1)
   where
     go : (b : Bool) → cond b (Some (placed r).1) (find (slice_cmp nat_cmp) q (map placed rows)) ≡ Some content
-        → (find (slice_cmp nat_cmp) q (map placed rows) ≡ Some content → IsEntryNumber content.touched) → IsEntryNumber content.touched
+        → (find (slice_cmp nat_cmp) q (map placed rows) ≡ Some content → IsEntryNumber content.touched)
+        → IsEntryNumber content.touched
     go true is more =
         let same : (placed r).1 ≡ content = cc in
         let n = cell_number (cell_of r) each.0.1 in
@@ -65,8 +74,10 @@ found_number q content (r ∷ rows) each found = go (eq_by_cmp (slice_cmp nat_cm
 -- Tables that are told are kept ones.
 pub told_kept : (rows : StoredRows) → AreTold rows → AreKept (tables_of rows)
 told_kept rows are = record {
-  entries = rise_from 0 rows.entries (all_above rows.entries are.entries.each) are.entries.rise are.entries.each;
-  cells = λ place content is. found_number place content rows.cells are.cells.each (sym (get-from_entries nat_list_cmp_total (map placed rows.cells) place) ∙ is);
+  entries = rise_from 0 rows.entries (all_above rows.entries are.entries.each) are.entries.rise
+      are.entries.each;
+  cells = λ place content is. found_number place content rows.cells are.cells.each
+      (sym (get-from_entries nat_list_cmp_total (map placed rows.cells) place) ∙ is);
 }
 
 -- ---- the last
@@ -87,7 +98,8 @@ get_last : {X : Type 0} (xs : List X) (x : X) → slice_get (xs ++ x ∷ []) (le
 get_last [] x = refl
 get_last (y ∷ xs) x = get_last xs x
 
-pub last_of : {X : Type 0} (xs : List X) (x : X) → slice_get (xs ++ x ∷ []) (length (xs ++ x ∷ []) - 1) ≡ Some x
+pub last_of : {X : Type 0} (xs : List X) (x : X)
+    → slice_get (xs ++ x ∷ []) (length (xs ++ x ∷ []) - 1) ≡ Some x
 last_of xs x =
     let place : length (xs ++ x ∷ []) - 1 ≡ length xs = omega (arith, length-append xs (x ∷ [])) in
     ap (slice_get (xs ++ x ∷ [])) place ∙ get_last xs x
@@ -96,7 +108,8 @@ pub map_snoc : {X Y : Type 0} (f : X → Y) (xs : List X) (x : X) → map f (xs 
 map_snoc f [] x = refl
 map_snoc f (y ∷ xs) x = ap (λ ys. f y ∷ ys) (map_snoc f xs x)
 
-pub before_last : {X : Type 0} (R : X → X → Type 0) (xs : List X) (x : X) → IsAscending R (xs ++ x ∷ []) → AllByRecursion (λ y. R y x) xs
+pub before_last : {X : Type 0} (R : X → X → Type 0) (xs : List X) (x : X) → IsAscending R (xs ++ x ∷ [])
+    → AllByRecursion (λ y. R y x) xs
 before_last {X = X} R [] x up = tt
 before_last {X = X} R (y ∷ xs) x up = (at_last xs up.0, before_last R xs x up.1)
   where
@@ -104,35 +117,47 @@ before_last {X = X} R (y ∷ xs) x up = (at_last xs up.0, before_last R xs x up.
     at_last [] all = all.0
     at_last (z ∷ xs) all = at_last xs all.1
 
-pub front_of : {X : Type 0} (P : X → Type 0) (xs : List X) (x : X) → AllByRecursion P (xs ++ x ∷ []) → AllByRecursion P xs × P x
+pub front_of : {X : Type 0} (P : X → Type 0) (xs : List X) (x : X) → AllByRecursion P (xs ++ x ∷ [])
+    → AllByRecursion P xs × P x
 front_of P [] x all = (tt, all.0)
 front_of P (y ∷ xs) x all = let it = front_of P xs x all.1 in ((all.0, it.0), it.1)
 
-pub last_number_of : (rows : StoredRows) (front : List Row) (last : Row) → rows.entries ≡ front ++ last ∷ [] → last_number (tables_of rows) ≡ (entry_of last).seq
+pub last_number_of : (rows : StoredRows) (front : List Row) (last : Row) → rows.entries ≡ front ++ last ∷ []
+    → last_number (tables_of rows) ≡ (entry_of last).seq
 last_number_of rows front last is =
-    let mapped : map entry_of rows.entries ≡ map entry_of front ++ entry_of last ∷ [] = ap (map entry_of) is ∙ map_snoc entry_of front last in
+    let mapped : map entry_of rows.entries ≡ map entry_of front ++ entry_of last ∷ [] = ap (map entry_of) is
+    ∙ map_snoc entry_of front last in
     rw (mapped, last_of (map entry_of front) (entry_of last)) refl
 
 -- each number is at most the last
-pub all_at_most : (rows : StoredRows) → AreEntries rows.entries → AllByRecursion (λ r. (entry_of r).seq ≤ last_number (tables_of rows)) rows.entries
+pub all_at_most : (rows : StoredRows) → AreEntries rows.entries
+    → AllByRecursion (λ r. (entry_of r).seq ≤ last_number (tables_of rows)) rows.entries
 all_at_most rows are = elim (snoc rows.entries) [
   | inl none ↦ subst (AllByRecursion (λ r. (entry_of r).seq ≤ last_number (tables_of rows))) (sym none) tt
   | inr it ↦
       let top = last_number_of rows it.front it.last it.is in
       let each = front_of IsEntry it.front it.last (subst (AllByRecursion IsEntry) it.is are.each) in
-      let below = before_last (λ a b. value_cmp (rowid a) (rowid b) ≡ Less) it.front it.last (subst IsTable it.is are.rise) in
-      let front : AllByRecursion (λ r. (entry_of r).seq ≤ last_number (tables_of rows)) it.front = low it.front it.last each.1 top each.0 below in
+      let below = before_last (λ a b. value_cmp (rowid a) (rowid b) ≡ Less) it.front it.last
+      (subst IsTable it.is are.rise) in
+      let front : AllByRecursion (λ r. (entry_of r).seq ≤ last_number (tables_of rows)) it.front = low
+      it.front it.last each.1 top each.0 below in
       subst (AllByRecursion (λ r. (entry_of r).seq ≤ last_number (tables_of rows))) (sym it.is)
-      (all-append (λ r. (entry_of r).seq ≤ last_number (tables_of rows)) it.front (it.last ∷ []) front (omega (arith, top), tt))
+      (all-append (λ r. (entry_of r).seq ≤ last_number (tables_of rows)) it.front (it.last ∷ []) front
+      (omega (arith, top), tt))
 ]
   where
-    low : (xs : List Row) (last : Row) → IsEntry last → last_number (tables_of rows) ≡ (entry_of last).seq → AllByRecursion IsEntry xs
-        → AllByRecursion (λ r. value_cmp (rowid r) (rowid last) ≡ Less) xs → AllByRecursion (λ r. (entry_of r).seq ≤ last_number (tables_of rows)) xs
+    low : (xs : List Row) (last : Row) → IsEntry last → last_number (tables_of rows) ≡ (entry_of last).seq
+        → AllByRecursion IsEntry xs
+        → AllByRecursion (λ r. value_cmp (rowid r) (rowid last) ≡ Less) xs
+        → AllByRecursion (λ r. (entry_of r).seq ≤ last_number (tables_of rows)) xs
     low [] last is top each below = tt
-    low (r ∷ xs) last is top each below =
-        (let less = numbers_rise r last each.0 is below.0 in omega (arith, less, top), low xs last is top each.1 below.1)
+    low (r ∷ xs) last is top each below = (
+      let less = numbers_rise r last each.0 is below.0 in omega (arith, less, top),
+      low xs last is top each.1 below.1,
+    )
 
-pub told_are_kept : (schema : Schema) (trees : Trees) (t : KeptTables) → told_by schema trees ≡ Some t → AreKept t
+pub told_are_kept : (schema : Schema) (trees : Trees) (t : KeptTables) → told_by schema trees ≡ Some t
+    → AreKept t
 told_are_kept schema trees t told = go (rows_in schema trees) told
   where
     go : (o : Option StoredRows) → option_and_then told_of o ≡ Some t → AreKept t

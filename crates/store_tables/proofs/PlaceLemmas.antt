@@ -1,4 +1,5 @@
--- The places of cells: no two rows of the table of cells have one place, so their map has each of them, in the order of places.
+-- The places of cells: no two rows of the table of cells have one place, so their map has each of them, in
+-- the order of places.
 use Rattle.std.proofs.Common.{◌≡◌, ℕ, ℤ, pos, Bool, true, false, ◌&&◌, cond, T, List, [], ◌∷◌, length, map, None, Some, Ordering, Less, Equal, Greater, is_eq, is_lt, refl, sym, ap, ap₂, inl, inr, subst, subst₂, ◌∙◌, arith, true≢false, IsPermutation}
 use Rattle.std.specs.List.{AllByRecursion}
 use Rattle.std.specs.Ordering.{is_ne, eq_by_cmp, int_cmp, nat_cmp, ordering_then}
@@ -53,18 +54,23 @@ then_eq Equal Equal = refl
 then_eq Equal Greater = refl
 then_eq Greater p = refl
 
-keys_agree : (m n : ℕ) (s t : List ℕ) → (equal Binary (Int (pos m)) (Int (pos n)) && (equal Binary (Text s) (Text t) && true)) ≡ same_place (m ∷ s) (n ∷ t)
-keys_agree m n s t = ap₂ (λ a b. a && (b && true)) (int_equal m n) (text_equal s t) ∙ then_eq (nat_cmp m n) (slice_cmp nat_cmp s t)
+keys_agree : (m n : ℕ) (s t : List ℕ)
+    → (equal Binary (Int (pos m)) (Int (pos n)) && (equal Binary (Text s) (Text t) && true))
+    ≡ same_place (m ∷ s) (n ∷ t)
+keys_agree m n s t = ap₂ (λ a b. a && (b && true)) (int_equal m n) (text_equal s t)
+    ∙ then_eq (nat_cmp m n) (slice_cmp nat_cmp s t)
 
 abbrev pub by_place : List ℕ
 by_place = 1 ∷ 2 ∷ []
 
 -- it tells whether two cells have one place
-pub agree_is : (a b : Row) → IsCell a → IsCell b → agree plain by_place a by_place b ≡ same_place (place a) (place b)
+pub agree_is : (a b : Row) → IsCell a → IsCell b
+    → agree plain by_place a by_place b ≡ same_place (place a) (place b)
 unfolding first_key
 agree_is a b p q =
     subst (λ x. agree plain by_place x by_place b ≡ same_place (place a) (place b)) (sym p.0)
-    (subst (λ y. agree plain by_place (stored_cell (id_in (column a 0)) (cell_of a)) by_place y ≡ same_place (place a) (place b)) (sym q.0)
+    (subst (λ y. agree plain by_place (stored_cell (id_in (column a 0)) (cell_of a)) by_place y
+    ≡ same_place (place a) (place b)) (sym q.0)
     (keys_agree (cell_of a).kind (cell_of b).kind (cell_of a).name (cell_of b).name))
 
 -- ---- no two rows have one place
@@ -78,72 +84,98 @@ ids_differ : (a b : ℤ) → value_cmp (Int a) (Int b) ≡ Less → differ (Int 
 unfolding binary
 ids_differ a b below = told_truth _ ∙ ap is_ne below
 
-differ_is : (a b : Row) → IsCell a → IsCell b → value_cmp (rowid a) (rowid b) ≡ Less → differ (rowid a) (rowid b) ≡ true
+differ_is : (a b : Row) → IsCell a → IsCell b → value_cmp (rowid a) (rowid b) ≡ Less
+    → differ (rowid a) (rowid b) ≡ true
 differ_is a b p q below =
     let x : rowid a ≡ Int (id_in (column a 0)) = ap rowid p.0 in
     let y : rowid b ≡ Int (id_in (column b 0)) = ap rowid q.0 in
-    subst₂ (λ v w. differ v w ≡ true) (sym x) (sym y) (ids_differ _ _ (subst₂ (λ v w. value_cmp v w ≡ Less) x y below))
+    subst₂ (λ v w. differ v w ≡ true) (sym x) (sym y)
+    (ids_differ _ _ (subst₂ (λ v w. value_cmp v w ≡ Less) x y below))
 
 pub none_true : (b : Bool) → (b ≡ true → ⊥) → b ≡ false
 none_true true h = absurd (h refl)
 none_true false h = refl
 
 module _ (all : List Row) (unique : (x : Row) → Has all x → clashes plain by_place all x ≡ false) where
-  apart_from : (a b : Row) → Has all a → Has all b → IsCell a → IsCell b → value_cmp (rowid a) (rowid b) ≡ Less → same_place (place a) (place b) ≡ false
+  apart_from : (a b : Row) → Has all a → Has all b → IsCell a → IsCell b
+      → value_cmp (rowid a) (rowid b) ≡ Less → same_place (place a) (place b) ≡ false
   apart_from a b has_a has_b p q below = none_true _ (λ same.
       let agrees : agree plain by_place a by_place b ≡ true = agree_is a b p q ∙ same in
-      let clash : (agree plain by_place a by_place b && differ (rowid a) (rowid b)) ≡ true = both_of _ _ agrees (differ_is a b p q below) in
-      let some = some_from (λ other. agree plain by_place other by_place b && differ (rowid other) (rowid b)) all a has_a clash in
+      let clash : (agree plain by_place a by_place b && differ (rowid a) (rowid b))
+      ≡ true = both_of _ _ agrees (differ_is a b p q below) in
+      let some = some_from (λ other. agree plain by_place other by_place b && differ (rowid other) (rowid b))
+      all a has_a clash in
       true≢false (sym some ∙ unique b has_b))
 
-  each_apart : (a : Row) (rows : List Row) → Has all a → ((x : Row) → Has rows x → Has all x) → IsCell a → AllByRecursion IsCell rows
-      → AllByRecursion (λ s. value_cmp (rowid a) (rowid s) ≡ Less) rows → AllByRecursion (λ s. same_place (place a) (place s) ≡ false) rows
+  each_apart : (a : Row) (rows : List Row) → Has all a → ((x : Row) → Has rows x → Has all x) → IsCell a
+      → AllByRecursion IsCell rows
+      → AllByRecursion (λ s. value_cmp (rowid a) (rowid s) ≡ Less) rows
+      → AllByRecursion (λ s. same_place (place a) (place s) ≡ false) rows
   each_apart a [] has within p each below = tt
-  each_apart a (s ∷ rows) has within p each below =
-      (apart_from a s has (within s (inl refl)) p each.0 below.0, each_apart a rows has (λ x h. within x (inr h)) p each.1 below.1)
+  each_apart a (s ∷ rows) has within p each below = (
+    apart_from a s has (within s (inl refl)) p each.0 below.0,
+    each_apart a rows has (λ x h. within x (inr h)) p each.1 below.1,
+  )
 
-  apart_in : (rows : List Row) → ((x : Row) → Has rows x → Has all x) → IsTable rows → AllByRecursion IsCell rows → Apart rows
+  apart_in : (rows : List Row) → ((x : Row) → Has rows x → Has all x) → IsTable rows
+      → AllByRecursion IsCell rows → Apart rows
   apart_in [] within up each = tt
-  apart_in (r ∷ rows) within up each =
-      (each_apart r rows (within r (inl refl)) (λ x h. within x (inr h)) each.0 each.1 up.0, apart_in rows (λ x h. within x (inr h)) up.1 each.1)
+  apart_in (r ∷ rows) within up each = (
+    each_apart r rows (within r (inl refl)) (λ x h. within x (inr h)) each.0 each.1 up.0,
+    apart_in rows (λ x h. within x (inr h)) up.1 each.1,
+  )
 
 -- A schema with the index on kind and name keeps the rows apart.
-pub apart_rows : (rows : List Row) → ((x : Row) → Has rows x → clashes plain by_place rows x ≡ false) → AreCells rows → Apart rows
+pub apart_rows : (rows : List Row) → ((x : Row) → Has rows x → clashes plain by_place rows x ≡ false)
+    → AreCells rows → Apart rows
 apart_rows rows unique are = apart_in rows unique rows (λ x h. h) are.rise are.each
 
 -- ---- their map
 
-none_found : (q : CellPlace) (rows : List Row) → AllByRecursion (λ s. same_place q (place s) ≡ false) rows → find (slice_cmp nat_cmp) q (map placed rows) ≡ None
+none_found : (q : CellPlace) (rows : List Row) → AllByRecursion (λ s. same_place q (place s) ≡ false) rows
+    → find (slice_cmp nat_cmp) q (map placed rows) ≡ None
 none_found q [] all = refl
-none_found q (s ∷ rows) all = ap (λ b. cond b (Some (placed s).1) (find (slice_cmp nat_cmp) q (map placed rows))) all.0 ∙ none_found q rows all.1
+none_found q (s ∷ rows) all = ap
+    (λ b. cond b (Some (placed s).1) (find (slice_cmp nat_cmp) q (map placed rows))) all.0
+    ∙ none_found q rows all.1
 
-put_new : (k : CellPlace) (v : CellContent) (es : List (CellPlace × CellContent)) → find (slice_cmp nat_cmp) k es ≡ None → IsPermutation ((k, v) ∷ es) (put (slice_cmp nat_cmp) k v es)
+put_new : (k : CellPlace) (v : CellContent) (es : List (CellPlace × CellContent))
+    → find (slice_cmp nat_cmp) k es ≡ None → IsPermutation ((k, v) ∷ es) (put (slice_cmp nat_cmp) k v es)
 put_new k v [] none = IsPermutation-refl _
 put_new k v (e ∷ es) none = go (slice_cmp nat_cmp k e.0) none (put_new k v es)
   where
     go : (o : Ordering) → cond (is_eq o) (Some e.1) (find (slice_cmp nat_cmp) k es) ≡ None
-        → (find (slice_cmp nat_cmp) k es ≡ None → IsPermutation ((k, v) ∷ es) (put (slice_cmp nat_cmp) k v es))
-        → IsPermutation ((k, v) ∷ e ∷ es) (by_order o ((k, v) ∷ e ∷ es) ((e.0, v) ∷ es) (e ∷ put (slice_cmp nat_cmp) k v es))
+        → (find (slice_cmp nat_cmp) k es ≡ None
+        → IsPermutation ((k, v) ∷ es) (put (slice_cmp nat_cmp) k v es))
+        → IsPermutation ((k, v) ∷ e ∷ es)
+        (by_order o ((k, v) ∷ e ∷ es) ((e.0, v) ∷ es) (e ∷ put (slice_cmp nat_cmp) k v es))
     go Less h more = IsPermutation-refl _
     go Equal h more = absurd (cc)
-    go Greater h more = IsPermutation-trans _ _ _ (IsPermutation-sym _ _ (IsPermutation-middle (e ∷ []) (k, v) es)) (IsPermutation-cons e _ _ (more h))
+    go Greater h more = IsPermutation-trans _ _ _
+        (IsPermutation-sym _ _ (IsPermutation-middle (e ∷ []) (k, v) es)) (IsPermutation-cons e _ _ (more h))
 
 len_none : (es : List (CellPlace × CellContent)) → length es ≡ 0 → es ≡ []
 len_none [] e = refl
 len_none (x ∷ es) e = absurd (omega (arith, e))
 
 -- The entries of the map of rows that are apart are what the rows put.
-pub entries_same : (rows : List Row) → Apart rows → IsPermutation (map placed rows) (entries (from_entries {R = slice_cmp nat_cmp} (map placed rows)))
+pub entries_same : (rows : List Row) → Apart rows
+    → IsPermutation (map placed rows) (entries (from_entries {R = slice_cmp nat_cmp} (map placed rows)))
 entries_same [] apart = subst (IsPermutation []) (sym none) (IsPermutation-refl [])
   where
     none : entries (from_entries {R = slice_cmp nat_cmp} (map placed [])) ≡ []
-    none = len_none _ (sym (len-entries (from_entries {R = slice_cmp nat_cmp} (map placed []))) ∙ len-empty (slice_cmp nat_cmp) CellContent)
+    none = len_none _ (sym (len-entries (from_entries {R = slice_cmp nat_cmp} (map placed [])))
+        ∙ len-empty (slice_cmp nat_cmp) CellContent)
 entries_same (r ∷ rows) apart =
     let m = from_entries {R = slice_cmp nat_cmp} (map placed rows) in
     let absent : find (slice_cmp nat_cmp) (place r) (entries m) ≡ None =
-    sym (get-entries m (place r)) ∙ (get-from_entries nat_list_cmp_total (map placed rows) (place r) ∙ none_found (place r) rows apart.0) in
-    subst (IsPermutation (placed r ∷ map placed rows)) (sym (entries-insert nat_list_cmp_total m (placed r).0 (placed r).1))
-    (IsPermutation-trans _ _ _ (IsPermutation-cons (placed r) _ _ (entries_same rows apart.1)) (put_new (placed r).0 (placed r).1 (entries m) absent))
+    sym (get-entries m (place r))
+    ∙ (get-from_entries nat_list_cmp_total (map placed rows) (place r)
+    ∙ none_found (place r) rows apart.0) in
+    subst (IsPermutation (placed r ∷ map placed rows))
+    (sym (entries-insert nat_list_cmp_total m (placed r).0 (placed r).1))
+    (IsPermutation-trans _ _ _ (IsPermutation-cons (placed r) _ _ (entries_same rows apart.1))
+    (put_new (placed r).0 (placed r).1 (entries m) absent))
 
 -- ---- the rows in the order of places
 
@@ -160,11 +192,13 @@ parts true true h = (tt, tt)
 parts true false h = absurd h
 parts false b h = absurd h
 
-below_each : (a : Row) (rows : List Row) → T (below_all (slice_cmp nat_cmp) (place a) (map placed rows)) → AllByRecursion (before a) rows
+below_each : (a : Row) (rows : List Row) → T (below_all (slice_cmp nat_cmp) (place a) (map placed rows))
+    → AllByRecursion (before a) rows
 below_each a [] h = tt
 below_each a (s ∷ rows) h = let it = parts _ _ h in (less _ it.0, below_each a rows it.1)
 
-sorted_rows : (rows : List Row) → T (is_sorted (slice_cmp nat_cmp) (map placed rows)) → IsAscending before rows
+sorted_rows : (rows : List Row) → T (is_sorted (slice_cmp nat_cmp) (map placed rows))
+    → IsAscending before rows
 sorted_rows [] h = tt
 sorted_rows (r ∷ rows) h = let it = parts _ _ h in (below_each r rows it.0, sorted_rows rows it.1)
 

@@ -41,7 +41,8 @@ row_is a b h = row.the_row.coded.inj a b (code_is _ _ h)
 
 pub row_itself : (a b : Row) → a ≡ b → same_row a b ≡ true
 unfolding same_row
-row_itself a b e = subst (λ x. same_code (row.the_row.coded.code a) (row.the_row.coded.code x) ≡ true) e (itself (row.the_row.coded.code a))
+row_itself a b e = subst (λ x. same_code (row.the_row.coded.code a) (row.the_row.coded.code x) ≡ true) e
+    (itself (row.the_row.coded.code a))
 
 pub schema_is : (a b : Schema) → same_schema a b ≡ true → a ≡ b
 unfolding same_schema
@@ -49,4 +50,6 @@ schema_is a b h = schema.the_row.coded.inj a b (code_is _ _ h)
 
 pub schema_itself : (a b : Schema) → a ≡ b → same_schema a b ≡ true
 unfolding same_schema
-schema_itself a b e = subst (λ x. same_code (schema.the_row.coded.code a) (schema.the_row.coded.code x) ≡ true) e (itself (schema.the_row.coded.code a))
+schema_itself a b e = subst
+    (λ x. same_code (schema.the_row.coded.code a) (schema.the_row.coded.code x) ≡ true) e
+    (itself (schema.the_row.coded.code a))

@@ -43,11 +43,14 @@ pub record Holds (db : Database) (t : KeptTables) : Type 0 where
 
 pub holds_told : (db : Database) (t : KeptTables) → Holds db t → told_by db.schema db.trees ≡ Some t
 holds_told db t h =
-    ap (option_and_then told_of) (rows_in_both db.schema db.trees h.schema) ∙ (told_of_back (rows_of db) h.told ∙ ap Some (sym h.is))
+    ap (option_and_then told_of) (rows_in_both db.schema db.trees h.schema)
+    ∙ (told_of_back (rows_of db) h.told ∙ ap Some (sym h.is))
 
-pub told_holds : (db : Database) (t : KeptTables) → db.schema ≡ both_schema → IsDatabase db → told_by db.schema db.trees ≡ Some t → Holds db t
+pub told_holds : (db : Database) (t : KeptTables) → db.schema ≡ both_schema → IsDatabase db
+    → told_by db.schema db.trees ≡ Some t → Holds db t
 told_holds db t schema sound told =
-    let it = told_of_is (rows_of db) t (sym (ap (option_and_then told_of) (rows_in_both db.schema db.trees schema)) ∙ told) in
+    let it = told_of_is (rows_of db) t
+    (sym (ap (option_and_then told_of) (rows_in_both db.schema db.trees schema)) ∙ told) in
     record { schema = schema; sound = sound; told = it.0; is = it.1 }
 
 -- ---- no two cells have one place
@@ -58,29 +61,39 @@ not_not false h = refl
 
 pub holds_apart : (db : Database) (t : KeptTables) → Holds db t → Apart (db.trees 1)
 holds_apart db t h =
-    let unique : Keeps Unique both_schema db.trees = subst (λ s. Keeps Unique s db.trees) h.schema (h.sound.obeys.rules Unique) in
-    apart_rows (db.trees 1) (λ x has. not_not _ (left_of _ _ (all_has _ (db.trees 1) x unique.1.0 has))) h.told.cells
+    let unique : Keeps Unique both_schema db.trees = subst (λ s. Keeps Unique s db.trees) h.schema
+    (h.sound.obeys.rules Unique) in
+    apart_rows (db.trees 1) (λ x has. not_not _ (left_of _ _ (all_has _ (db.trees 1) x unique.1.0 has)))
+    h.told.cells
 
 -- ---- an entry
 
-at_end : (new : Row) (rows : List Row) → AllByRecursion (λ r. value_cmp (rowid r) (rowid new) ≡ Less) rows → put_row new rows ≡ rows ++ new ∷ []
+at_end : (new : Row) (rows : List Row) → AllByRecursion (λ r. value_cmp (rowid r) (rowid new) ≡ Less) rows
+    → put_row new rows ≡ rows ++ new ∷ []
 at_end new [] all = refl
 at_end new (r ∷ rows) all = rw all.0 (ap (λ xs. r ∷ xs) (at_end new rows all.1))
 
 below_new : (m n : ℕ) → m < n → value_cmp (Int (pos m)) (Int (pos n)) ≡ Less
 below_new m n low = value_cmp-Int (pos m) (pos n) ∙ grind (arith, nat_tests)
 
-all_below : (e : KeptEntry) (last : ℕ) (rows : List Row) → last < e.seq → AllByRecursion IsEntry rows → AllByRecursion (λ r. (entry_of r).seq ≤ last) rows
+all_below : (e : KeptEntry) (last : ℕ) (rows : List Row) → last < e.seq → AllByRecursion IsEntry rows
+    → AllByRecursion (λ r. (entry_of r).seq ≤ last) rows
     → AllByRecursion (λ r. value_cmp (rowid r) (rowid (stored_entry e)) ≡ Less) rows
 all_below e last [] low each most = tt
-all_below e last (r ∷ rows) low each most =
-    (subst (λ v. value_cmp v (rowid (stored_entry e)) ≡ Less) (sym (id_is r each.0)) (below_new _ _ (let top = most.0 in omega (arith, top, low))), all_below e last rows low each.1 most.1)
+all_below e last (r ∷ rows) low each most = (
+  subst (λ v. value_cmp v (rowid (stored_entry e)) ≡ Less) (sym (id_is r each.0))
+      (below_new _ _ (let top = most.0 in omega (arith, top, low))),
+  all_below e last rows low each.1 most.1,
+)
 
-pub holds_insert : (old new : Database) (t : KeptTables) (e : KeptEntry) → Holds old t → Inserts old new e → entry_fits e ≡ true → e.seq ≡ last_number t + 1 → Holds new (with_entry e t)
+pub holds_insert : (old new : Database) (t : KeptTables) (e : KeptEntry) → Holds old t → Inserts old new e
+    → entry_fits e ≡ true → e.seq ≡ last_number t + 1 → Holds new (with_entry e t)
 holds_insert old new t e h made fits next =
     let low : last_number (tables_of (rows_of old)) < e.seq = omega (arith, next, ap last_number h.is) in
-    let below = all_below e _ (old.trees 0) low h.told.entries.each (all_at_most (rows_of old) h.told.entries) in
-    let ended : new.trees 0 ≡ old.trees 0 ++ stored_entry e ∷ [] = made.entries ∙ at_end (stored_entry e) (old.trees 0) below in
+    let below = all_below e _ (old.trees 0) low h.told.entries.each (all_at_most (rows_of old) h.told.entries)
+    in
+    let ended : new.trees 0 ≡ old.trees 0 ++ stored_entry e ∷ [] = made.entries
+    ∙ at_end (stored_entry e) (old.trees 0) below in
     record {
       schema = made.schema;
       sound = made.sound;
@@ -91,12 +104,19 @@ holds_insert old new t e h made fits next =
         });
         cells = subst AreCells (sym made.cells) h.told.cells;
       };
-      is = ap (with_entry e) h.is ∙ (λ i. record { entries = (sym (ap (map entry_of) ended ∙ map_snoc entry_of (old.trees 0) (stored_entry e)) i); cells = from_entries (map placed (sym made.cells i)) });
+      is = ap (with_entry e) h.is
+          ∙ (λ i. record {
+            entries =
+                (sym (ap (map entry_of) ended ∙ map_snoc entry_of (old.trees 0) (stored_entry e)) i);
+            cells =
+                from_entries (map placed (sym made.cells i));
+          });
     }
 
 -- ---- a cell
 
-swap : {X : Type 0} (a b : Bool) (x y z : X) → (a ≡ true → b ≡ true → ⊥) → cond a x (cond b y z) ≡ cond b y (cond a x z)
+swap : {X : Type 0} (a b : Bool) (x y z : X) → (a ≡ true → b ≡ true → ⊥)
+    → cond a x (cond b y z) ≡ cond b y (cond a x z)
 swap true true x y z apart = absurd (apart refl refl)
 swap true false x y z apart = refl
 swap false b x y z apart = refl
@@ -111,50 +131,72 @@ or_right false b h = h
 
 -- no place is that of both
 never_both : (q a b : CellPlace) → same_place a b ≡ false → same_place q b ≡ true → same_place q a ≡ true → ⊥
-never_both q a b apart p r = true≢false (sym (itself a) ∙ (ap (same_place a) (sym (tied q a r) ∙ tied q b p) ∙ apart))
+never_both q a b apart p r = true≢false
+    (sym (itself a) ∙ (ap (same_place a) (sym (tied q a r) ∙ tied q b p) ∙ apart))
 
 -- what stands in a place once a row is put
-find_put : (q : CellPlace) (new : Row) (rows : List Row) → AllByRecursion (λ s. same_place (place new) (place s) ≡ false) rows → is_taken rows new ≡ false
-    → find (slice_cmp nat_cmp) q (map placed (put_row new rows)) ≡ cond (same_place q (place new)) (Some (placed new).1) (find (slice_cmp nat_cmp) q (map placed rows))
+find_put : (q : CellPlace) (new : Row) (rows : List Row)
+    → AllByRecursion (λ s. same_place (place new) (place s) ≡ false) rows → is_taken rows new ≡ false
+    → find (slice_cmp nat_cmp) q (map placed (put_row new rows))
+    ≡ cond (same_place q (place new)) (Some (placed new).1) (find (slice_cmp nat_cmp) q (map placed rows))
 find_put q new [] apart free = refl
 find_put q new (r ∷ rows) apart free = go (value_cmp (rowid r) (rowid new)) refl (find_put q new rows apart.1)
   where
     go : (o : Ordering) → value_cmp (rowid r) (rowid new) ≡ o
-        → (is_taken rows new ≡ false → find (slice_cmp nat_cmp) q (map placed (put_row new rows)) ≡ cond (same_place q (place new)) (Some (placed new).1) (find (slice_cmp nat_cmp) q (map placed rows)))
-        → find (slice_cmp nat_cmp) q (map placed (match_ordering o (r ∷ put_row new rows) (new ∷ rows) (new ∷ r ∷ rows)))
-        ≡ cond (same_place q (place new)) (Some (placed new).1) (cond (same_place q (place r)) (Some (placed r).1) (find (slice_cmp nat_cmp) q (map placed rows)))
+        → (is_taken rows new ≡ false
+        → find (slice_cmp nat_cmp) q (map placed (put_row new rows))
+        ≡ cond (same_place q (place new)) (Some (placed new).1)
+        (find (slice_cmp nat_cmp) q (map placed rows)))
+        → find (slice_cmp nat_cmp) q
+        (map placed (match_ordering o (r ∷ put_row new rows) (new ∷ rows) (new ∷ r ∷ rows)))
+        ≡ cond (same_place q (place new)) (Some (placed new).1)
+        (cond (same_place q (place r)) (Some (placed r).1) (find (slice_cmp nat_cmp) q (map placed rows)))
     go Less e more =
         ap (cond (same_place q (place r)) (Some (placed r).1)) (more (or_right _ _ free))
-        ∙ swap (same_place q (place r)) (same_place q (place new)) _ _ _ (never_both q (place new) (place r) apart.0)
+        ∙ swap (same_place q (place r)) (same_place q (place new)) _ _ _
+        (never_both q (place new) (place r) apart.0)
     go Equal e more = absurd (true≢false (sym (ap is_eq e) ∙ or_left _ _ free))
     go Greater e more = refl
 
 same_places : (a b : CellPlace) → slice_cmp nat_cmp a b ≡ Equal → a ≡ b
 same_places = slice_cmp-IsAntisymmetric nat_cmp-IsAntisymmetric
 
-one_way : (b : Bool) (x : Option CellContent) (y z : Option CellContent) → (b ≡ false → y ≡ z) → cond b x y ≡ cond b x z
+one_way : (b : Bool) (x : Option CellContent) (y z : Option CellContent) → (b ≡ false → y ≡ z)
+    → cond b x y ≡ cond b x z
 one_way true x y z same = refl
 one_way false x y z same = same refl
 
 -- The map with the cell.
-cells_put : (old rest new : List Row) (id : ℤ) (c : KeptCell) → Stay old rest c → new ≡ put_row (stored_cell id c) rest → is_taken rest (stored_cell id c) ≡ false
-    → put_cell (from_entries {R = slice_cmp nat_cmp} (map placed old)) c ≡ from_entries {R = slice_cmp nat_cmp} (map placed new)
+cells_put : (old rest new : List Row) (id : ℤ) (c : KeptCell) → Stay old rest c
+    → new ≡ put_row (stored_cell id c) rest → is_taken rest (stored_cell id c) ≡ false
+    → put_cell (from_entries {R = slice_cmp nat_cmp} (map placed old)) c
+    ≡ from_entries {R = slice_cmp nat_cmp} (map placed new)
 cells_put old rest new id c stay is free = same_map nat_list_cmp_total same_places _ _ (λ q.
     let row = stored_cell id c in
     let again = cell_again id c in
-    let apart = subst (λ x. AllByRecursion (λ s. same_place (place_of x) (place s) ≡ false) rest) (sym again) stay.apart in
-    let found : find (slice_cmp nat_cmp) q (map placed new) ≡ cond (same_place q (place_of c)) (Some (content_of c)) (find (slice_cmp nat_cmp) q (map placed rest)) =
+    let apart = subst (λ x. AllByRecursion (λ s. same_place (place_of x) (place s) ≡ false) rest) (sym again)
+    stay.apart in
+    let found : find (slice_cmp nat_cmp) q (map placed new)
+    ≡ cond (same_place q (place_of c)) (Some (content_of c))
+    (find (slice_cmp nat_cmp) q (map placed rest)) =
     ap (λ xs. find (slice_cmp nat_cmp) q (map placed xs)) is
     ∙ (find_put q row rest apart free
-    ∙ ap (λ x. cond (same_place q (place_of x)) (Some (content_of x)) (find (slice_cmp nat_cmp) q (map placed rest))) again) in
-    let were : cond (same_place q (place_of c)) (Some (content_of c)) (find (slice_cmp nat_cmp) q (map placed rest))
-    ≡ cond (same_place q (place_of c)) (Some (content_of c)) (find (slice_cmp nat_cmp) q (map placed old)) = one_way _ _ _ _ (stay.found q) in
-    let given : get (put_cell (from_entries {R = slice_cmp nat_cmp} (map placed old)) c) q ≡ cond (same_place q (place_of c)) (Some (content_of c)) (find (slice_cmp nat_cmp) q (map placed old)) =
+    ∙ ap (λ x. cond (same_place q (place_of x)) (Some (content_of x))
+    (find (slice_cmp nat_cmp) q (map placed rest))) again) in
+    let were : cond (same_place q (place_of c)) (Some (content_of c))
+    (find (slice_cmp nat_cmp) q (map placed rest))
+    ≡ cond (same_place q (place_of c)) (Some (content_of c)) (find (slice_cmp nat_cmp) q (map placed old)) =
+    one_way _ _ _ _ (stay.found q) in
+    let given : get (put_cell (from_entries {R = slice_cmp nat_cmp} (map placed old)) c) q
+    ≡ cond (same_place q (place_of c)) (Some (content_of c)) (find (slice_cmp nat_cmp) q (map placed old))
+    =
     get-insert nat_list_cmp_total (from_entries (map placed old)) (place_of c) (content_of c) q
-    ∙ ap (cond (same_place q (place_of c)) (Some (content_of c))) (get-from_entries nat_list_cmp_total (map placed old) q) in
+    ∙ ap (cond (same_place q (place_of c)) (Some (content_of c)))
+    (get-from_entries nat_list_cmp_total (map placed old) q) in
     given ∙ sym (get-from_entries nat_list_cmp_total (map placed new) q ∙ (found ∙ were)))
 
-pub holds_put : (old new : Database) (t : KeptTables) (c : KeptCell) → Holds old t → Puts old new c → cell_fits c ≡ true → Holds new (with_cell c t)
+pub holds_put : (old new : Database) (t : KeptTables) (c : KeptCell) → Holds old t → Puts old new c
+    → cell_fits c ≡ true → Holds new (with_cell c t)
 holds_put old new t c h made fits = record {
   schema = made.schema;
   sound = made.sound;
@@ -162,7 +204,8 @@ holds_put old new t c h made fits = record {
     entries = subst AreEntries (sym made.entries) h.told.entries;
     cells = subst AreCells (sym made.cells) (record {
       rise = IsTable-put_row (stored_cell made.id c) made.rest made.stay.are.rise;
-      each = all-put_row IsCell (stored_cell made.id c) made.rest (cell_is_cell made.id c fits) made.stay.are.each;
+      each = all-put_row IsCell (stored_cell made.id c) made.rest (cell_is_cell made.id c fits)
+          made.stay.are.each;
     });
   };
   is = ap (with_cell c) h.is ∙ (λ i. record {

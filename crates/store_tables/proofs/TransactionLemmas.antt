@@ -18,35 +18,51 @@ undone_by old mid new kept back = record {
 }
 
 -- inside a transaction a commit that fails takes it back
-pub failed_undone : (old mid new : State) (e : Error) → IsInside old mid → FailsToCommit mid new e → IsUndone old new
+pub failed_undone : (old mid new : State) (e : Error) → IsInside old mid → FailsToCommit mid new e
+    → IsUndone old new
 failed_undone old mid new e inside (inl fails) =
-    undone_by old mid new (record { was_open = λ _. inside.was_open; committed = λ _. inside.committed }) fails.3
+    undone_by old mid new (record { was_open = λ _. inside.was_open; committed = λ _. inside.committed })
+    fails.3
 failed_undone old mid new e inside (inr (is, ended, same)) = absurd (true≢false (sym inside.mode ∙ ended))
 
 -- Between transactions what is undone is as it was.
-pub undone_now : (old new : State) → (IsTrue old.is_open → old.now ≡ old.committed) → IsUndone old new → IsTrue new.is_open → new.now ≡ old.now
+pub undone_now : (old new : State) → (IsTrue old.is_open → old.now ≡ old.committed) → IsUndone old new
+    → IsTrue new.is_open → new.now ≡ old.now
 undone_now old new settled undone live = undone.now live ∙ sym (settled (undone.was_open live))
 
-undone_told : (old new : State) → (IsTrue old.is_open → old.now ≡ old.committed) → IsUndone old new → IsTrue new.is_open
+undone_told : (old new : State) → (IsTrue old.is_open → old.now ≡ old.committed) → IsUndone old new
+    → IsTrue new.is_open
     → told_by new.now.schema new.now.trees ≡ told_by old.now.schema old.now.trees
-undone_told old new settled undone live = ap (λ (d : Database). told_by d.schema d.trees) (undone_now old new settled undone live)
+undone_told old new settled undone live = ap (λ (d : Database). told_by d.schema d.trees)
+    (undone_now old new settled undone live)
 
-made_seen : (old new : State) (left : Option KeptTables) → ((db : Trees) → new.may_leave db → old.may_leave db ⊎ IsMade old db) → IsFound new left → IsFound old left ⊎ IsSeen old left
+made_seen : (old new : State) (left : Option KeptTables)
+    → ((db : Trees) → new.may_leave db → old.may_leave db ⊎ IsMade old db) → IsFound new left
+    → IsFound old left ⊎ IsSeen old left
 made_seen old new left crash found = elim (crash found.0 found.2) [
   | inl was ↦ inl (found.0, found.1, was, found.3, found.4)
-  | inr made ↦ inr (made.0, found.4 ∙ (ap (λ s. told_by s found.0) (one_schema found.1 made.1.0 found.0 found.3 made.1.1) ∙ made.1.2))
+  | inr made ↦ inr (
+    made.0,
+    found.4
+        ∙ (ap (λ s. told_by s found.0) (one_schema found.1 made.1.0 found.0 found.3 made.1.1) ∙ made.1.2),
+  )
 ]
 
-pub made_steady : (old new : State) → (HasCleanDisk new → IsTrue old.is_open → old.now ≡ old.committed) → (old.in_transaction ≡ false → new.in_transaction ≡ false)
-    → (HasCleanDisk new → IsUndone old new ⊎ (IsTrue old.is_open × (told_by new.now.schema new.now.trees ≡ told_by old.now.schema old.now.trees))) → Survives old new (IsMade old) → IsSteady old new
+pub made_steady : (old new : State) → (HasCleanDisk new → IsTrue old.is_open → old.now ≡ old.committed)
+    → (old.in_transaction ≡ false → new.in_transaction ≡ false)
+    → (HasCleanDisk new → IsUndone old new
+    ⊎ (IsTrue old.is_open × (told_by new.now.schema new.now.trees
+    ≡ told_by old.now.schema old.now.trees))) → Survives old new (IsMade old) → IsSteady old new
 made_steady old new settled mode went survives = record {
   clean = survives.clean;
   mode = mode;
   was_open = λ clean live. elim (went clean) [ inl undone ↦ undone.was_open live | inr made ↦ made.0 ];
-  told = λ clean live. elim (went clean) [ inl undone ↦ undone_told old new (settled clean) undone live | inr made ↦ made.1 ];
+  told = λ clean live. elim (went clean)
+      [ inl undone ↦ undone_told old new (settled clean) undone live | inr made ↦ made.1 ];
   crash = λ clean left found. made_seen old new left (survives.crash clean) found;
 }
 
 -- a part of a transaction that went on, and then one that kept the commit
 pub keeps_then : (a b c : State) → IsInside a b → KeepsCommit b c → KeepsCommit a c
-keeps_then a b c inside kept = record { was_open = λ _. inside.was_open; committed = λ live. kept.committed live ∙ inside.committed }
+keeps_then a b c inside kept = record
+    { was_open = λ _. inside.was_open; committed = λ live. kept.committed live ∙ inside.committed }

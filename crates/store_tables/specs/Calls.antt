@@ -37,8 +37,10 @@ pub record IsSteady (old new : State) : Type 0 where
   pub clean : doubt old.is_clean ≤ doubt new.is_clean
   pub mode : old.in_transaction ≡ false → new.in_transaction ≡ false
   pub was_open : HasCleanDisk new → IsTrue new.is_open → IsTrue old.is_open
-  pub told : HasCleanDisk new → IsTrue new.is_open → told_by new.now.schema new.now.trees ≡ told_by old.now.schema old.now.trees
-  pub crash : HasCleanDisk new → (left : Option KeptTables) → IsFound new left → IsFound old left ⊎ IsSeen old left
+  pub told : HasCleanDisk new → IsTrue new.is_open
+      → told_by new.now.schema new.now.trees ≡ told_by old.now.schema old.now.trees
+  pub crash : HasCleanDisk new → (left : Option KeptTables) → IsFound new left
+      → IsFound old left ⊎ IsSeen old left
 
 -- Inside a transaction nothing is committed.
 pub record IsInside (old new : State) : Type 0 where
@@ -47,10 +49,13 @@ pub record IsInside (old new : State) : Type 0 where
   pub committed : new.committed ≡ old.committed
   pub mode : IsTrue new.in_transaction
 
--- Inside a transaction the tables that are told become what this makes of them, where a condition holds of them.
-pub record Turns (change : KeptTables → KeptTables) (Fits : KeptTables → Type 0) (old new : State) : Type 0 where
-  pub inside : IsInside old new
-  pub told : (t : KeptTables) → Fits t → Tells old.now.schema old.now.trees t → Tells new.now.schema new.now.trees (change t)
+-- Inside a transaction the tables that are told become what this makes of them, where a condition holds of
+-- them.
+pub record Turns (change : KeptTables → KeptTables) (Fits : KeptTables → Type 0) (old new : State) : Type 0
+  where
+    pub inside : IsInside old new
+    pub told : (t : KeptTables) → Fits t → Tells old.now.schema old.now.trees t
+        → Tells new.now.schema new.now.trees (change t)
 
 -- The tables with an entry behind the others.
 abbrev pub with_entry : KeptEntry → KeptTables → KeptTables
@@ -71,7 +76,8 @@ IsNext e t = e.seq ≡ last_number t + 1
 -- What a transaction of a batch commits.
 abbrev pub IsKept : Batch → State → Trees → Type 0
 IsKept batch s trees =
-    IsTrue s.is_open × ((t : KeptTables) → IsNext batch.entry t → Tells s.now.schema s.now.trees t → (schema : Schema) × Tells schema trees (with_batch batch t))
+    IsTrue s.is_open × ((t : KeptTables) → IsNext batch.entry t → Tells s.now.schema s.now.trees t
+    → (schema : Schema) × Tells schema trees (with_batch batch t))
 
 -- The row of an entry's number, or none where there is no entry.
 abbrev pub number_row : Option KeptEntry → List Row
@@ -97,7 +103,8 @@ pub record Makes (after : Schema) (old new : State) : Type 0 where
 -- What a transaction that makes tables commits.
 abbrev pub IsMade : State → Trees → Type 0
 IsMade s trees =
-    IsTrue s.is_open × ((schema : Schema) × IsSound schema trees × (told_by schema trees ≡ told_by s.now.schema s.now.trees))
+    IsTrue s.is_open × ((schema : Schema) × IsSound schema trees
+    × (told_by schema trees ≡ told_by s.now.schema s.now.trees))
 
 -- A transaction was taken back.
 pub record IsUndone (old new : State) : Type 0 where

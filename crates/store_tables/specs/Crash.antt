@@ -9,7 +9,8 @@ use Rattle.store_tables.specs.Told.{told_by, told_in}
 
 -- What an open would tell of trees that a crash may leave, by the schema that they list.
 abbrev pub IsFound : State → Option KeptTables → Type 0
-IsFound s left = (trees : Trees) × (schema : Schema) × s.may_leave trees × IsSound schema trees × (left ≡ told_by schema trees)
+IsFound s left = (trees : Trees) × (schema : Schema) × s.may_leave trees × IsSound schema trees
+    × (left ≡ told_by schema trees)
 
 -- While the disk is clean, a crash leaves the tables that are told, or what an open would find.
 abbrev pub leaves_in : State → Option KeptTables → Type 0

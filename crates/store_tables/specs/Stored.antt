@@ -11,7 +11,8 @@ use Rattle.store_tables.specs.Same.{same_row}
 
 -- The row of an entry. Its number is the row's id, and NULL stands in the number's own column.
 abbrev pub stored_entry : KeptEntry → Row
-stored_entry e = Int (pos e.seq) ∷ Null ∷ Int (pos e.kind) ∷ Text e.office ∷ Int (pos e.number) ∷ Int e.moment ∷ Int (pos e.rules)
+stored_entry e = Int (pos e.seq) ∷ Null ∷ Int (pos e.kind) ∷ Text e.office ∷ Int (pos e.number) ∷ Int e.moment
+    ∷ Int (pos e.rules)
     ∷ Blob e.body ∷ Blob e.answer ∷ []
 
 -- The row of a cell, with an id that says nothing.
@@ -61,7 +62,8 @@ is_entry_number number = nat_le 1 number && nat_le number 9223372036854775807
 
 -- Each number is within the range of its type.
 abbrev pub entry_fits : KeptEntry → Bool
-entry_fits e = is_entry_number e.seq && (nat_lt e.kind (2 ^ 8) && (nat_lt e.number (2 ^ 32) && nat_lt e.rules (2 ^ 16)))
+entry_fits e = is_entry_number e.seq &&
+    (nat_lt e.kind (2 ^ 8) && (nat_lt e.number (2 ^ 32) && nat_lt e.rules (2 ^ 16)))
 
 -- The numbers of a cell fit their fields.
 abbrev pub cell_fits : KeptCell → Bool

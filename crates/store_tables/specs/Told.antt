@@ -17,7 +17,8 @@ pub record StoredRows : Type 0 where
   pub entries : List Row
   pub cells : List Row
 
--- The rows under the schema. A table that isn't made has none. Under any schema but the three there are none to speak of.
+-- The rows under the schema. A table that isn't made has none. Under any schema but the three there are none
+-- to speak of.
 abbrev pub rows_in : Schema → Trees → Option StoredRows
 rows_in schema trees =
     if same_schema schema both_schema then Some (record { entries = trees 0; cells = trees 1 })
@@ -31,7 +32,8 @@ rise (row ∷ rows) = list_all (λ later. is_lt (value_cmp (rowid row) (rowid la
 
 -- All rows are those of entries and cells, in the order of their ids.
 abbrev pub are_told : StoredRows → Bool
-are_told rows = (rise rows.entries && list_all is_entry rows.entries) && (rise rows.cells && list_all is_cell rows.cells)
+are_told rows = (rise rows.entries && list_all is_entry rows.entries) &&
+    (rise rows.cells && list_all is_cell rows.cells)
 
 -- What is kept in a place.
 abbrev pub placed : Row → CellPlace × CellContent
@@ -41,7 +43,8 @@ placed row = (place_of (cell_of row), content_of (cell_of row))
 abbrev pub tables_of : StoredRows → KeptTables
 tables_of rows = record { entries = map entry_of rows.entries; cells = from_entries (map placed rows.cells) }
 
--- The tables that the rows tell: field by field what they have, and none where some row has no entry or no cell.
+-- The tables that the rows tell: field by field what they have, and none where some row has no entry or no
+-- cell.
 abbrev pub told_of : StoredRows → Option KeptTables
 told_of rows = if are_told rows then Some (tables_of rows) else None
 

@@ -8,28 +8,38 @@ use Rattle.keeper_sqlite.proofs.making.make_both.Goals as goal
 
 pub returns-in_err-make_cells-clause-keeps : goal.returns-in_err-make_cells-clause-keeps
 returns-in_err-make_cells-clause-keeps g c clean inside =
-    let early : HasCleanDisk (state g.S.Store c.make_entries.new.tx.conn.now) = omega (arith, c.make_cells.ensures.survives.clean, clean) in
+    let early : HasCleanDisk (state g.S.Store c.make_entries.new.tx.conn.now) = omega
+    (arith, c.make_cells.ensures.survives.clean, clean) in
     let first = c.in_ok-make_entries.ensures.inside early inside in
-    keeps_then (state g.S.Store c.args.tx.now.conn.now) (state g.S.Store c.make_entries.new.tx.conn.now) (state g.S.Store c.make_cells.new.tx.conn.now) first
+    keeps_then (state g.S.Store c.args.tx.now.conn.now) (state g.S.Store c.make_entries.new.tx.conn.now)
+    (state g.S.Store c.make_cells.new.tx.conn.now) first
     (c.make_cells.ensures.keeps clean first.mode)
 
 pub returns-clause-keeps : goal.returns-clause-keeps
 returns-clause-keeps g c clean inside =
-    let early : HasCleanDisk (state g.S.Store c.make_entries.new.tx.conn.now) = omega (arith, c.make_cells.ensures.survives.clean, clean) in
+    let early : HasCleanDisk (state g.S.Store c.make_entries.new.tx.conn.now) = omega
+    (arith, c.make_cells.ensures.survives.clean, clean) in
     let first = c.in_ok-make_entries.ensures.inside early inside in
-    keeps_then (state g.S.Store c.args.tx.now.conn.now) (state g.S.Store c.make_entries.new.tx.conn.now) (state g.S.Store c.make_cells.new.tx.conn.now) first
+    keeps_then (state g.S.Store c.args.tx.now.conn.now) (state g.S.Store c.make_entries.new.tx.conn.now)
+    (state g.S.Store c.make_cells.new.tx.conn.now) first
     (c.make_cells.ensures.keeps clean first.mode)
 
 pub returns-clause-makes : goal.returns-clause-makes
 returns-clause-makes g c clean inside has =
-    let early : HasCleanDisk (state g.S.Store c.make_entries.new.tx.conn.now) = omega (arith, c.make_cells.ensures.survives.clean, clean) in
+    let early : HasCleanDisk (state g.S.Store c.make_entries.new.tx.conn.now) = omega
+    (arith, c.make_cells.ensures.survives.clean, clean) in
     let first = c.in_ok-make_entries.ensures.makes early inside has in
-    let second = c.in_ok-make_cells.ensures.makes clean first.inside.mode first.schema in
-    (makes_then _ _ (state g.S.Store c.args.tx.now.conn.now) (state g.S.Store c.make_entries.new.tx.conn.now) (state g.S.Store c.make_cells.new.tx.conn.now) first second.0, second.1)
+    let second = c.in_ok-make_cells.ensures.makes clean first.inside.mode first.schema in (
+      makes_then _ _ (state g.S.Store c.args.tx.now.conn.now) (state g.S.Store c.make_entries.new.tx.conn.now)
+          (state g.S.Store c.make_cells.new.tx.conn.now) first second.0,
+      second.1,
+    )
 
 pub returns-clause-inside : goal.returns-clause-inside
 returns-clause-inside g c clean inside =
-    let early : HasCleanDisk (state g.S.Store c.make_entries.new.tx.conn.now) = omega (arith, c.make_cells.ensures.survives.clean, clean) in
+    let early : HasCleanDisk (state g.S.Store c.make_entries.new.tx.conn.now) = omega
+    (arith, c.make_cells.ensures.survives.clean, clean) in
     let first = c.in_ok-make_entries.ensures.inside early inside in
-    inside_then (state g.S.Store c.args.tx.now.conn.now) (state g.S.Store c.make_entries.new.tx.conn.now) (state g.S.Store c.make_cells.new.tx.conn.now) first
+    inside_then (state g.S.Store c.args.tx.now.conn.now) (state g.S.Store c.make_entries.new.tx.conn.now)
+    (state g.S.Store c.make_cells.new.tx.conn.now) first
     (c.in_ok-make_cells.ensures.inside clean first.mode)

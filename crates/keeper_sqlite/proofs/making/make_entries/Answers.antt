@@ -5,8 +5,10 @@ use Rattle.keeper_sqlite.proofs.making.make_entries.Goals as goal
 
 pub returns-clause-inside : goal.returns-clause-inside
 returns-clause-inside g c clean inside =
-    inside_by entry_table_text (state g.S.Store c.args.tx.now.conn.now) (state g.S.Store c.execute.new.self.conn.now) c.execute.result (c.execute.ensures.runs clean inside)
+    inside_by entry_table_text (state g.S.Store c.args.tx.now.conn.now)
+    (state g.S.Store c.execute.new.self.conn.now) c.execute.result (c.execute.ensures.runs clean inside)
 
 pub returns-clause-makes : goal.returns-clause-makes
 returns-clause-makes g c clean inside has =
-    entries_made (state g.S.Store c.args.tx.now.conn.now) (state g.S.Store c.execute.new.self.conn.now) c.execute.result has (c.execute.ensures.runs clean inside)
+    entries_made (state g.S.Store c.args.tx.now.conn.now) (state g.S.Store c.execute.new.self.conn.now)
+    c.execute.result has (c.execute.ensures.runs clean inside)

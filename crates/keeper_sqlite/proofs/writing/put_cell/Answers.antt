@@ -11,4 +11,5 @@ returns-clause-puts g c clean inside =
     let new = state g.S.Store c.execute.new.self.conn.now in
     let e = c.cell_values.ensures in
     puts_cell old new c.args.cell.now c.execute.result c.requires e.kind
-    (subst (λ p. ExecutesInside 0 put_text p old new c.execute.result) e.row (c.execute.ensures.runs clean inside))
+    (subst (λ p. ExecutesInside 0 put_text p old new c.execute.result) e.row
+    (c.execute.ensures.runs clean inside))

@@ -14,9 +14,11 @@ loop-cell-preserved g c =
       λ clean inside live.
           let early : HasCleanDisk mid = omega (arith, c.put_cell.ensures.survives.clean, clean) in
           let so_far = c.loop-cell.invariant.2 early inside live in
-          one_put c.args.cells.now c.loop-cell.cell-index c.cell-item.result old mid new (search rules) c.cell-item.is so_far (c.in_ok-put_cell.ensures.puts clean so_far.inside.mode),
+          one_put c.args.cells.now c.loop-cell.cell-index c.cell-item.result old mid new (search rules)
+          c.cell-item.is so_far (c.in_ok-put_cell.ensures.puts clean so_far.inside.mode),
     )
 
 pub returns-clause-puts : goal.returns-clause-puts
 returns-clause-puts g c clean inside live =
-    all_put c.args.cells.now c.loop-cell.cell-index (state g.S.Store c.args.tx.now.conn.now) (state g.S.Store c.loop-cell.tx.conn.now) (search rules) (c.loop-cell.invariant.2 clean inside live)
+    all_put c.args.cells.now c.loop-cell.cell-index (state g.S.Store c.args.tx.now.conn.now)
+    (state g.S.Store c.loop-cell.tx.conn.now) (search rules) (c.loop-cell.invariant.2 clean inside live)

@@ -11,4 +11,6 @@ invariant-loop-cell g l =
     let old = state g.S.Store l.fn.tx.conn.now in
     let now = state g.S.Store l.tx.conn.now in
     (l.tx.conn.ghost_name ≡ l.initial.tx.conn.ghost_name) × Survives old now (λ _. ⊥)
-    × (HasCleanDisk now → IsTrue old.in_transaction → IsTrue old.is_open → Turns (with_cells (take l.cell-index l.cells)) (λ _. AllByRecursion (λ cell. 1 ≤ cell.touched) l.cells) old now)
+    × (HasCleanDisk now → IsTrue old.in_transaction → IsTrue old.is_open
+    → Turns (with_cells (take l.cell-index l.cells))
+    (λ _. AllByRecursion (λ cell. 1 ≤ cell.touched) l.cells) old now)

@@ -4,4 +4,6 @@ use Rattle.keeper_sqlite.specs.Keepers.{leaves_from}
 use Rattle.keeper_sqlite.proofs.keeper.SqliteKeeperKeeper.cells.Goals as goal
 
 pub returns-clause-crash : goal.returns-clause-crash
-returns-clause-crash g c = subst (λ v. LeavesNoMore (leaves_from g.S.Store v.store) (leaves_from g.S.Store c.cells_of-answer.new.store)) c.self.view_is c.cells_of-answer.ensures.crash
+returns-clause-crash g c = subst
+    (λ v. LeavesNoMore (leaves_from g.S.Store v.store) (leaves_from g.S.Store c.cells_of-answer.new.store))
+    c.self.view_is c.cells_of-answer.ensures.crash

@@ -10,22 +10,27 @@ pub returns-clause-answer : goal.returns-clause-answer
 returns-clause-answer g c =
     let adopted = state g.S.Store c.self.inside.adopted.value in
     let new = state g.S.Store c.cells.new.conn in
-    told_by_is (told_since adopted new) _ (λ t told. let it = since_told adopted new t told in if_ok c.cells.result _ _ (λ x answer. answer t it.1) (c.cells.ensures.answer it.0))
+    told_by_is (told_since adopted new) _
+    (λ t told. let it = since_told adopted new t told in if_ok c.cells.result _ _
+    (λ x answer. answer t it.1) (c.cells.ensures.answer it.0))
 
 pub returns-clause-same : goal.returns-clause-same
 returns-clause-same g c =
     let adopted = state g.S.Store c.self.inside.adopted.value in
     let old = state g.S.Store c.self.inside.conn in
     let new = state g.S.Store c.cells.new.conn in
-    subst (λ v. Stays (tables_of g.S.Store v) (told_since adopted new)) c.self.view_is (steady_stays adopted old new c.self.invariant c.cells.ensures.steady)
+    subst (λ v. Stays (tables_of g.S.Store v) (told_since adopted new)) c.self.view_is
+    (steady_stays adopted old new c.self.invariant c.cells.ensures.steady)
 
 pub returns-clause-crash : goal.returns-clause-crash
 returns-clause-crash g c =
     let adopted = state g.S.Store c.self.inside.adopted.value in
     let old = state g.S.Store c.self.inside.conn in
     let new = state g.S.Store c.cells.new.conn in
-    subst (λ v. LeavesNoMore (leaves_of g.S.Store v) (leaves_since adopted new)) c.self.view_is (steady_leaves adopted old new c.self.invariant c.cells.ensures.steady)
+    subst (λ v. LeavesNoMore (leaves_of g.S.Store v) (leaves_since adopted new)) c.self.view_is
+    (steady_leaves adopted old new c.self.invariant c.cells.ensures.steady)
 
 pub invariant_of-self : goal.invariant_of-self
 invariant_of-self g c =
-    steady_on (state g.S.Store c.self.inside.adopted.value) (state g.S.Store c.self.inside.conn) (state g.S.Store c.cells.new.conn) c.self.invariant c.cells.ensures.steady
+    steady_on (state g.S.Store c.self.inside.adopted.value) (state g.S.Store c.self.inside.conn)
+    (state g.S.Store c.cells.new.conn) c.self.invariant c.cells.ensures.steady

@@ -11,28 +11,35 @@ pub returns-clause-answer : goal.returns-clause-answer
 returns-clause-answer g c =
     let adopted = state g.S.Store c.self.inside.adopted.value in
     let new = state g.S.Store c.last.new.conn in
-    told_by_is (told_since adopted new) _ (λ t told. let it = since_told adopted new t told in if_ok c.last.result _ _ (λ x answer. answer t it.1) (c.last.ensures.answer it.0))
+    told_by_is (told_since adopted new) _
+    (λ t told. let it = since_told adopted new t told in if_ok c.last.result _ _
+    (λ x answer. answer t it.1) (c.last.ensures.answer it.0))
 
 pub returns-clause-kept : goal.returns-clause-kept
 returns-clause-kept g c =
     let adopted = state g.S.Store c.self.inside.adopted.value in
     let new = state g.S.Store c.last.new.conn in
-    always_ok c.last.result _ (told_by_is (told_since adopted new) AreKept (λ t told. told_are_kept new.now.schema new.now.trees t (since_told adopted new t told).1))
+    always_ok c.last.result _
+    (told_by_is (told_since adopted new) AreKept
+    (λ t told. told_are_kept new.now.schema new.now.trees t (since_told adopted new t told).1))
 
 pub returns-clause-same : goal.returns-clause-same
 returns-clause-same g c =
     let adopted = state g.S.Store c.self.inside.adopted.value in
     let old = state g.S.Store c.self.inside.conn in
     let new = state g.S.Store c.last.new.conn in
-    subst (λ v. Stays (tables_of g.S.Store v) (told_since adopted new)) c.self.view_is (steady_stays adopted old new c.self.invariant c.last.ensures.steady)
+    subst (λ v. Stays (tables_of g.S.Store v) (told_since adopted new)) c.self.view_is
+    (steady_stays adopted old new c.self.invariant c.last.ensures.steady)
 
 pub returns-clause-crash : goal.returns-clause-crash
 returns-clause-crash g c =
     let adopted = state g.S.Store c.self.inside.adopted.value in
     let old = state g.S.Store c.self.inside.conn in
     let new = state g.S.Store c.last.new.conn in
-    subst (λ v. LeavesNoMore (leaves_of g.S.Store v) (leaves_since adopted new)) c.self.view_is (steady_leaves adopted old new c.self.invariant c.last.ensures.steady)
+    subst (λ v. LeavesNoMore (leaves_of g.S.Store v) (leaves_since adopted new)) c.self.view_is
+    (steady_leaves adopted old new c.self.invariant c.last.ensures.steady)
 
 pub invariant_of-self : goal.invariant_of-self
 invariant_of-self g c =
-    steady_on (state g.S.Store c.self.inside.adopted.value) (state g.S.Store c.self.inside.conn) (state g.S.Store c.last.new.conn) c.self.invariant c.last.ensures.steady
+    steady_on (state g.S.Store c.self.inside.adopted.value) (state g.S.Store c.self.inside.conn)
+    (state g.S.Store c.last.new.conn) c.self.invariant c.last.ensures.steady
