@@ -8,7 +8,8 @@ abbrev Held : List ℕ → List ℕ → Type 0
 Held held bytes = held ≡ bytes
 
 -- a zero, which is refused
-pub reads_zero : (held bytes : List ℕ) (byte : ℕ) → 0 < length held → ((d : ℕ) → byte ≡ get_or held 0 d) → byte ≡ 0
+pub reads_zero : (held bytes : List ℕ) (byte : ℕ) → 0 < length held → ((d : ℕ) → byte ≡ get_or held 0 d)
+    → byte ≡ 0
     → held ≡ bytes → ReadsRefused octet_rules Held bytes held (63 ∷ []) 1
 reads_zero [] bytes byte some is zero same = absurd (omega (arith, some))
 reads_zero (x ∷ xs) bytes byte some is zero same =

@@ -1,4 +1,5 @@
-//! One session of single bytes, each of which is sent back: the loop over an answerer and a framing of its own.
+//! One session of single bytes, each of which is sent back: the loop over an answerer and a framing of its
+//! own.
 ghost use Rattle.std.specs.Prelude.{◌≡◌, ◌<◌};
 ghost use Rattle.register_tests.specs.Octets.{octet_want, waiting_of};
 

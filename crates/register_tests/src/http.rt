@@ -15,8 +15,9 @@ use std::sync::Wait;
 use std::test::Fail;
 use std::thread::Threads;
 
-// Each connection, parted by `^`: its title, how it ends, what is sent and what comes back, parted by `~`. A line ends in CR
-// and LF. `@` is the status of an empty register, `$` a text of 8,192 letters, `%` are 33 headers, `&` a LF alone and `|` a tab.
+// Each connection, parted by `^`: its title, how it ends, what is sent and what comes back, parted by `~`. A
+// line ends in CR and LF. `@` is the status of an empty register, `$` a text of 8,192 letters, `%` are 33
+// headers, `&` a LF alone and `|` a tab.
 const CONNECTIONS: &str = r#"a status and a path without a route~Closed~GET /v1/status HTTP/1.1
 
 GET /nothing HTTP/1.1
@@ -419,8 +420,8 @@ fn link_of(alloc: Global, sent: Bytes, most: usize) -> ByteLink
     )
 }
 
-// How serving a link over an office that has nothing ends. The office is closed, since letting it go costs a proof for each
-// of its parts.
+// How serving a link over an office that has nothing ends. The office is closed, since letting it go costs a
+// proof for each of its parts.
 fn end_of<R: Threads + Sync>(rt: &R, alloc: Global, link: &mut ByteLink) -> Option<Ended> {
     match Office::open(rt, alloc, SureKeeper::new(alloc), Limits::standard()) {
         Ok(mut office) => {

@@ -1,5 +1,5 @@
-//! Tests of the register's crates from outside, of what no clause says and no worked example shows. A crate with tests is
-//! proved twice, with them and without, so no other crate has any.
+//! Tests of the register's crates from outside, of what no clause says and no worked example shows. A crate
+//! with tests is proved twice, with them and without, so no other crate has any.
 #![tactic(auto)]
 
 pub mod batches;
@@ -11,6 +11,8 @@ mod devices;
 mod echoes;
 #[cfg(test)]
 mod fakes;
+#[cfg(test)]
+mod file_keeper;
 #[cfg(test)]
 mod http;
 #[cfg(test)]
@@ -26,7 +28,11 @@ mod sessions;
 #[cfg(test)]
 mod sockets;
 #[cfg(test)]
+mod sqlite_keeper;
+#[cfg(test)]
 mod stores;
+#[cfg(test)]
+mod transfer;
 #[cfg(test)]
 mod turns;
 #[cfg(test)]

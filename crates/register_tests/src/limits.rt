@@ -1,4 +1,5 @@
-// What an office answers, where no session of the program shows it: under other limits than the standard ones.
+// What an office answers, where no session of the program shows it: under other limits than the standard
+// ones.
 ghost use Rattle.register_words.specs.Limits.{AreLimits};
 
 use lei_code::Lei;
@@ -145,8 +146,8 @@ fn takes_all<R: Threads + Sync, K: Keeper>(
     true
 }
 
-// Whether an office under these limits answers these steps so. It is closed, since letting it go costs a proof for each of
-// its parts.
+// Whether an office under these limits answers these steps so. It is closed, since letting it go costs a
+// proof for each of its parts.
 fn answers<R: Threads + Sync>(rt: &R, alloc: Global, limits: Limits, steps: &[Step]) -> bool
     requires { AreLimits limits }
 {

@@ -1,4 +1,5 @@
-//! Moments against values that another program computed: no clause says that the definitions are the calendar's.
+//! Moments against values that another program computed: no clause says that the definitions are the
+//! calendar's.
 use lei_shapes::Moment;
 use std::test::Fail;
 

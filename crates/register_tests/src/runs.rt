@@ -26,7 +26,8 @@ pub fn words(alloc: Global) -> Result<Vec<String>, NoMemory> {
     Ok(words)
 }
 
-// The status of a run with these words, whose clock gives the same moment always, and how often the clock was asked.
+// The status of a run with these words, whose clock gives the same moment always, and how often the clock was
+// asked.
 fn status_of<R: Threads + Sync, S: Source, W: Sink>(
     rt: &R,
     alloc: Global,
@@ -102,8 +103,8 @@ fn failing_sink(alloc: Global, call: u64) -> Result<(SureSource, ByteSink), NoMe
     ))
 }
 
-// Where the write of this number fails, the replies before it are written, and no line behind its own is put to the
-// office: each asks for a moment.
+// Where the write of this number fails, the replies before it are written, and no line behind its own is put
+// to the office: each asks for a moment.
 fn ends_at_write<R: Threads + Sync>(rt: &R, alloc: Global, words: &[String], call: u64) -> bool {
     let Ok((mut source, mut sink)) = failing_sink(alloc, call) else {
         return false;

@@ -1,4 +1,5 @@
-// A session of two runs over a file, which is opened for each of them, beside the same runs over a keeper in memory.
+// A session of two runs over a file, which is opened for each of them, beside the same runs over a keeper in
+// memory.
 use crate::limits::{ISSUER, TWO_RECORDS};
 use crate::runs::words;
 use keeper_sqlite::SqliteKeeper;

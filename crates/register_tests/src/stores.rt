@@ -1,5 +1,5 @@
-//! Stores that are opened: a sound one, and one after each of many single changes, of which the number is told of the entry
-//! or the cell that was changed.
+//! Stores that are opened: a sound one, and one after each of many single changes, of which the number is
+//! told of the entry or the cell that was changed.
 use crate::limits::{ISSUER, MOMENT, TWO_RECORDS};
 use crate::runs::words;
 use lei_outside::{
@@ -225,7 +225,8 @@ fn begins_with(alloc: Global, text: &[u8], number: u64) -> bool {
     }
 }
 
-// The first change of which something else is told: of each twentieth entry another answer or none at all, and others.
+// The first change of which something else is told: of each twentieth entry another answer or none at all,
+// and others.
 fn untold<R: Threads + Sync>(
     rt: &R,
     alloc: Global,

@@ -171,7 +171,8 @@ fn work_all<R: Threads + Wait + Sync>(
 
 // A worker for each of these passes.
 fn workers_of(alloc: Global, mut passes: Vec<Caller>) -> Result<Vec<Worker>, AllocError>
-    ensures { IfOk result (λ workers. (table : TableId) → AreOf table passes.items → All (λ w. IsSomeAnd w.pass (λ p. p.table ≡ table)) workers.items) }
+    ensures { IfOk result (λ workers. (table : TableId) → AreOf table passes.items
+        → All (λ w. IsSomeAnd w.pass (λ p. p.table ≡ table)) workers.items) }
 {
     let mut workers = Vec::with_capacity(alloc, passes.len())?;
     let mut by = 0u64;

@@ -1,0 +1,324 @@
+//! A keeper over SQLite, from outside: a session over it, what a crash at each call of a disk leaves, and
+//! which stores it refuses.
+use crate::transfer::{Course, transfer};
+use keeper_sqlite::SqliteKeeper;
+use lei_outside::{Keeper, NoMemory};
+use register_words::ExitStatus;
+use sqlite::{Alter, Connection, FileStore};
+use sqlite_disk::{Crash, Disk, Files, Fuse, Memory};
+use sqlite_pager::Options;
+use std::alloc::Global;
+use std::test::Fail;
+use std::thread::Threads;
+
+// ---- without a stop
+
+// Whether the session over this keeper is answered as it should be, and no call of the keeper fails.
+fn is_answered<R: Threads + Sync, S: Alter + Drop>(
+    rt: &R,
+    alloc: Global,
+    keeper: SqliteKeeper<S>,
+) -> Result<bool, NoMemory> {
+    let (course, keeper) = transfer(rt, alloc, keeper)?;
+    Ok(course.status == ExitStatus::Ok.number() && course.is_whole && keeper.faults() == 0)
+}
+
+#[test]
+fn a_session_over_a_database_in_memory_is_answered(rt: HostRuntime) -> Result<(), Fail> {
+    let conn = Connection::open_in_memory(rt.alloc())?;
+    let keeper = SqliteKeeper::over(rt.alloc(), conn);
+    assert!(rt; is_answered(&rt, rt.alloc(), keeper)?);
+    Ok(())
+}
+
+// ---- stopped at each call of a disk
+
+// Which file of a store fails.
+#[derive(Clone, Copy)]
+enum Failing {
+    Log,
+    Database,
+}
+
+// The files of a store in memory. One of them passes so many calls on, and fails at each after that.
+fn fused(alloc: Global, failing: Failing, calls: u64) -> Files<Fuse<Memory>> {
+    let (log, db) = match failing {
+        Failing::Log => (calls, u64::MAX),
+        Failing::Database => (u64::MAX, calls),
+    };
+    Files {
+        log: Fuse::new(Memory::new(alloc), log),
+        db: Fuse::new(Memory::new(alloc), db),
+    }
+}
+
+// The files after a crash of both.
+fn crashed<D: Crash>(mut files: Files<D>) -> Files<D> {
+    files.log.crash();
+    files.db.crash();
+    files
+}
+
+// What a session leaves after a crash: the files, how many entries were acknowledged, and whether a call had
+// failed.
+#[derive(Drop)]
+struct Left<D: Disk> {
+    files: Files<D>,
+    acknowledged: u64,
+    has_failed: bool,
+}
+
+// Runs the session over a store in these files, and crashes both after it.
+fn run_and_crash<R: Threads + Sync, D: Crash + Drop>(
+    rt: &R,
+    alloc: Global,
+    files: Files<D>,
+) -> Result<Left<D>, NoMemory> {
+    if !files.may_be_used() {
+        return Err(NoMemory);
+    }
+    match Connection::open_files(alloc, files, Options::new(7)) {
+        Ok(conn) => crash_after(rt, alloc, conn),
+        Err((_, left)) => Ok(Left {
+            files: crashed(left.into_files()),
+            acknowledged: 0,
+            has_failed: true,
+        }),
+    }
+}
+
+fn crash_after<R: Threads + Sync, D: Crash + Drop>(
+    rt: &R,
+    alloc: Global,
+    conn: Connection<FileStore<D>>,
+) -> Result<Left<D>, NoMemory> {
+    let (course, keeper) = transfer(rt, alloc, SqliteKeeper::over(alloc, conn))?;
+    let has_failed = keeper.faults() > 0;
+    match keeper.into_connection() {
+        Some(conn) => Ok(Left {
+            files: crashed(conn.into_store().close()),
+            acknowledged: course.acknowledged,
+            has_failed,
+        }),
+        None => Err(NoMemory),
+    }
+}
+
+// Whether the store in these files has what was acknowledged and at most one entry more, and the session over
+// it is answered as it should be.
+fn is_safe<R: Threads + Sync, D: Crash + Drop>(
+    rt: &R,
+    alloc: Global,
+    files: Files<D>,
+    acknowledged: u64,
+) -> Result<bool, NoMemory> {
+    if !files.may_be_used() {
+        return Ok(false);
+    }
+    match Connection::open_files(alloc, files, Options::new(7)) {
+        Ok(conn) => goes_on(rt, alloc, SqliteKeeper::over(alloc, conn), acknowledged),
+        Err(_) => Ok(false),
+    }
+}
+
+fn goes_on<R: Threads + Sync, S: Alter + Drop>(
+    rt: &R,
+    alloc: Global,
+    mut keeper: SqliteKeeper<S>,
+    acknowledged: u64,
+) -> Result<bool, NoMemory> {
+    match keeper.last() {
+        Ok(last) if acknowledged <= last && last <= acknowledged.saturating_add(1) => {
+            is_answered(rt, alloc, keeper)
+        }
+        _ => Ok(false),
+    }
+}
+
+// How a session ended, one of whose disks fails from some call on.
+#[derive(Clone, Copy, PartialEq, Eq, Debug)]
+enum Ending {
+    // No call failed.
+    Whole,
+    // A call failed, and what the crash left is sound.
+    Stopped,
+    // What the crash left isn't.
+    Lost,
+}
+
+fn session_ending<R: Threads + Sync>(
+    rt: &R,
+    alloc: Global,
+    failing: Failing,
+    calls: u64,
+) -> Result<Ending, NoMemory> {
+    let left = run_and_crash(rt, alloc, fused(alloc, failing, calls))?;
+    let has_failed = left.has_failed;
+    if !is_safe(rt, alloc, left.files, left.acknowledged)? {
+        return Ok(Ending::Lost);
+    }
+    if has_failed {
+        Ok(Ending::Stopped)
+    } else {
+        Ok(Ending::Whole)
+    }
+}
+
+// How many calls of a disk are passed on in turn.
+#[derive(Clone, Copy)]
+struct Stops {
+    failing: Failing,
+    first: usize,
+    step: usize,
+}
+
+// The first number of calls with which the session isn't stopped, and how it ended there.
+fn first_unstopped<R: Threads + Sync>(
+    rt: &R,
+    alloc: Global,
+    stops: Stops,
+) -> Result<(usize, Ending), NoMemory> {
+    for calls in (stops.first..20_000).step_by(stops.step) {
+        let ending = session_ending(rt, alloc, stops.failing, calls as u64)?;
+        if ending != Ending::Stopped {
+            return Ok((calls, ending));
+        }
+    }
+    Ok((20_000, Ending::Stopped))
+}
+
+// Whether a crash at each call of these loses nothing.
+fn lose_nothing<R: Threads + Sync>(
+    rt: &R,
+    alloc: Global,
+    failing: Failing,
+    first: usize,
+    step: usize,
+) -> Result<bool, NoMemory> {
+    let stops = Stops {
+        failing,
+        first,
+        step,
+    };
+    let (calls, ending) = first_unstopped(rt, alloc, stops)?;
+    Ok(ending == Ending::Whole && calls > step)
+}
+
+#[test]
+fn a_crash_at_any_call_of_the_database_file_loses_nothing(rt: HostRuntime) -> Result<(), Fail> {
+    assert!(rt; lose_nothing(&rt, rt.alloc(), Failing::Database, 0, 1)?);
+    Ok(())
+}
+
+// The calls of the log are parted, so that each test is short.
+#[test]
+fn a_crash_at_any_even_call_of_the_log_loses_nothing(rt: HostRuntime) -> Result<(), Fail> {
+    assert!(rt; lose_nothing(&rt, rt.alloc(), Failing::Log, 0, 2)?);
+    Ok(())
+}
+
+#[test]
+fn a_crash_at_any_odd_call_of_the_log_loses_nothing(rt: HostRuntime) -> Result<(), Fail> {
+    assert!(rt; lose_nothing(&rt, rt.alloc(), Failing::Log, 1, 2)?);
+    Ok(())
+}
+
+// ---- damage
+
+// What is done to a store that has the session, and the status with which the program refuses it then:
+// another table of the name, a table without its second key, a further table, a further index, numbers that
+// fit no field, and rows that lack.
+const DAMAGE: [(&str, ExitStatus); 8] = [
+    (
+        "DROP TABLE cell; CREATE TABLE cell (kind INTEGER, name TEXT, touched INTEGER, row TEXT)",
+        ExitStatus::KeeperFault,
+    ),
+    (
+        "DROP TABLE cell; CREATE TABLE cell (kind INTEGER NOT NULL, name TEXT NOT NULL, \
+         touched INTEGER NOT NULL CHECK (touched >= 1), row BLOB, PRIMARY KEY (kind, name)) STRICT",
+        ExitStatus::KeeperFault,
+    ),
+    (
+        "CREATE TABLE other (a INTEGER) STRICT",
+        ExitStatus::KeeperFault,
+    ),
+    (
+        "CREATE INDEX by_number ON entry (number)",
+        ExitStatus::KeeperFault,
+    ),
+    (
+        "UPDATE entry SET number = -1 WHERE seq = 4",
+        ExitStatus::KeeperFault,
+    ),
+    (
+        "UPDATE entry SET kind = 256 WHERE seq = 1",
+        ExitStatus::KeeperFault,
+    ),
+    ("DELETE FROM entry WHERE seq = 5", ExitStatus::StoreDamaged),
+    ("DELETE FROM cell", ExitStatus::StoreDamaged),
+];
+
+// Whether a store with the session is refused with this status after the damage, and has all its entries
+// still.
+fn is_refused<R: Threads + Sync>(
+    rt: &R,
+    alloc: Global,
+    damage: &str,
+    status: ExitStatus,
+) -> Result<bool, NoMemory> {
+    let Ok(conn) = Connection::open_in_memory(alloc) else {
+        return Err(NoMemory);
+    };
+    let (_, keeper) = transfer(rt, alloc, SqliteKeeper::over(alloc, conn))?;
+    match keeper.into_connection() {
+        Some(conn) => is_refused_over(rt, alloc, conn, damage, status),
+        None => Ok(false),
+    }
+}
+
+fn is_refused_over<R: Threads + Sync, S: Alter + Drop>(
+    rt: &R,
+    alloc: Global,
+    mut conn: Connection<S>,
+    damage: &str,
+    status: ExitStatus,
+) -> Result<bool, NoMemory> {
+    let is_damaged = conn.execute_batch(damage).is_ok();
+    let before = entry_count(&mut conn);
+    let (course, keeper) = transfer(rt, alloc, SqliteKeeper::over(alloc, conn))?;
+    match keeper.into_connection() {
+        Some(mut conn) => Ok(
+            is_damaged
+                && course.status == status.number()
+                && before.is_some()
+                && entry_count(&mut conn) == before,
+        ),
+        None => Ok(false),
+    }
+}
+
+fn entry_count<S: Alter>(conn: &mut Connection<S>) -> Option<i64> {
+    match conn.query_row("SELECT count(*) FROM entry", &[]) {
+        Ok(row) => row.get(0).ok(),
+        Err(_) => None,
+    }
+}
+
+// The first damage after which the store isn't refused as it should be.
+fn first_taken<R: Threads + Sync>(rt: &R, alloc: Global) -> Result<Option<&'static str>, NoMemory> {
+    for (damage, status) in DAMAGE {
+        if !is_refused(rt, alloc, damage, status)? {
+            return Ok(Some(damage));
+        }
+    }
+    Ok(None)
+}
+
+#[test]
+fn a_store_that_was_changed_from_outside_is_refused_and_keeps_its_entries(
+    rt: HostRuntime,
+) -> Result<(), Fail> {
+    let taken = first_taken(&rt, rt.alloc())?;
+    assert!(rt; taken.is_none(), "{taken:?}");
+    Ok(())
+}

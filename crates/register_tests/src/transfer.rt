@@ -1,0 +1,114 @@
+//! A record that goes from one issuer to another, as a session over any keeper.
+use crate::runs::words;
+use crate::stores::Still;
+use lei_outside::{Bytes, Keeper, NoMemory, Sink, SureSink, SureSource};
+use leireg_run::{Untold, no_file, run};
+use std::alloc::Global;
+use std::thread::Threads;
+
+// Three issuers are accredited. Then each upload has its issuer and number, and of the one record that it
+// sends the manager and the status, with the issuer that is to receive the record, if there is one.
+macro_rules! session {
+    ($([$issuer:literal $number:literal $manager:literal $status:literal $receiver:literal])*) => {
+        concat!(
+            "ACCREDIT 506700GE1G29325QX363\n",
+            "ACCREDIT HWUPKR0MPOU8FGXBT394\n",
+            "ACCREDIT 5493001KJTIIGC8Y1R12\n",
+            $(
+                "UPLOAD ", $issuer, " ", $number,
+                r#" {"records":[{"Entity.EntityCategory":"GENERAL","Entity.EntityStatus":"ACTIVE","#,
+                r#""Entity.HeadquartersAddress.City":"Paris","Entity.HeadquartersAddress.Country":"FR","#,
+                r#""Entity.HeadquartersAddress.FirstAddressLine":"1 Main Street","#,
+                r#""Entity.LegalAddress.City":"Paris","Entity.LegalAddress.Country":"FR","#,
+                r#""Entity.LegalAddress.FirstAddressLine":"1 Main Street","#,
+                r#""Entity.LegalForm.EntityLegalFormCode":"AB12","Entity.LegalJurisdiction":"FR","#,
+                r#""Entity.LegalName":"Alpha","#,
+                r#""Entity.RegistrationAuthority.RegistrationAuthorityEntityID":"1001","#,
+                r#""Entity.RegistrationAuthority.RegistrationAuthorityID":"RA000001","#,
+                r#""LEI":"00000000000000000195","#,
+                r#""Registration.InitialRegistrationDate":"2025-01-10T09:00:00Z","#,
+                r#""Registration.LastUpdateDate":"2025-01-10T09:00:00Z","#,
+                r#""Registration.ManagingLOU":""#, $manager,
+                r#"","Registration.NextRenewalDate":"2026-01-10T09:00:00Z","#,
+                r#""Registration.RegistrationStatus":""#, $status,
+                r#"","Registration.ValidationSources":"FULLY_CORROBORATED""#, $receiver, "}]}\n"
+            ),*
+        )
+    };
+}
+
+const LINES: &str = session!(
+    ["506700GE1G29325QX363" "1" "506700GE1G29325QX363" "ISSUED" ""]
+    ["506700GE1G29325QX363" "2" "506700GE1G29325QX363" "PENDING_TRANSFER" ""]
+    ["506700GE1G29325QX363" "3" "506700GE1G29325QX363" "PENDING_ARCHIVAL"
+        r#","Register.TransferTo":"HWUPKR0MPOU8FGXBT394""#]
+    ["5493001KJTIIGC8Y1R12" "1" "5493001KJTIIGC8Y1R12" "ISSUED" ""]
+    ["HWUPKR0MPOU8FGXBT394" "1" "HWUPKR0MPOU8FGXBT394" "ISSUED" ""]
+    ["506700GE1G29325QX363" "4" "506700GE1G29325QX363" "ISSUED" ""]
+);
+
+const REPLIES: &str = r#"200 {"entry":1,"issuer":"506700GE1G29325QX363"}
+200 {"entry":2,"issuer":"HWUPKR0MPOU8FGXBT394"}
+200 {"entry":3,"issuer":"5493001KJTIIGC8Y1R12"}
+200 {"entry":4,"issuer":"506700GE1G29325QX363","items":["ACCEPTED"],"number":1}
+200 {"entry":5,"issuer":"506700GE1G29325QX363","items":["ACCEPTED"],"number":2}
+200 {"entry":6,"issuer":"506700GE1G29325QX363","items":["ACCEPTED"],"number":3}
+200 {"entry":7,"issuer":"5493001KJTIIGC8Y1R12","items":["C12 NOT_MANAGER"],"number":1}
+200 {"entry":8,"issuer":"HWUPKR0MPOU8FGXBT394","items":["ACCEPTED"],"number":1}
+200 {"entry":9,"issuer":"506700GE1G29325QX363","items":["C12 NOT_MANAGER"],"number":4}
+"#;
+
+/// How a run of the session over a keeper ended.
+#[derive(Clone, Copy)]
+pub struct Course {
+    /// The status of the run.
+    pub status: u8,
+    /// How many entries were acknowledged, which is how many replies came before the first that isn't 200.
+    pub acknowledged: u64,
+    /// Each line was answered as it should be.
+    pub is_whole: bool,
+}
+
+/// Runs the session over a keeper, which comes back.
+pub fn transfer<R: Threads + Sync, K: Keeper + Drop>(
+    rt: &R,
+    alloc: Global,
+    keeper: K,
+) -> Result<(Course, K), NoMemory> {
+    let words = words(alloc)?;
+    let mut source = SureSource::new(Bytes::copy_of(alloc, LINES.as_bytes())?, 65_536);
+    let mut second = no_file(alloc);
+    let mut sink = SureSink::new(alloc, usize::MAX);
+    let (status, keeper) = run(
+        rt,
+        alloc,
+        &words,
+        &mut source,
+        &mut second,
+        &mut sink,
+        keeper,
+        &mut Still,
+        &mut Untold,
+    );
+    Ok((course_of(status, sink.written()), keeper))
+}
+
+fn course_of(status: u8, written: &[u8]) -> Course {
+    Course {
+        status,
+        acknowledged: acknowledged(written),
+        is_whole: written == REPLIES.as_bytes(),
+    }
+}
+
+// How many lines of replies begin with 200, up to the first that doesn't.
+fn acknowledged(written: &[u8]) -> u64 {
+    let mut count: u64 = 0;
+    for line in written.split(|byte: &u8| -> bool { *byte == b'\n' }) {
+        if !line.starts_with(b"200 ") {
+            return count;
+        }
+        count = count.saturating_add(1);
+    }
+    count
+}
