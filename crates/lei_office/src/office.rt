@@ -11,7 +11,7 @@ ghost use Rattle.register_words.specs.declared.reply.Refusal.TheVariants.{Keeper
 ghost use Rattle.register_words.specs.declared.reply.Reply.TheVariants.{Words};
 ghost use Rattle.register_words.specs.Requests.{IsNumbered};
 ghost use Rattle.register_words.specs.Limits.{AreLimits};
-ghost use Rattle.register_history.specs.Kept.{Keeps};
+ghost use Rattle.register_history.specs.Kept.{Keeps, StaysUntold};
 ghost use Rattle.register_history.specs.Legal.{Legal, MomentsNeverFall, UploadsAreNumbered};
 ghost use Rattle.register_history.specs.Parties.{ChangesArePermitted};
 ghost use Rattle.register_history.specs.Register.{after};
@@ -120,6 +120,7 @@ impl<K: Keeper> Office<K> {
         requires { IsNumbered request.now }
         ensures step { Step self.old.office request.now moment result self.new.office }
         ensures kept { Keeps (K.tables self.new.keeper) self.new.office }
+        ensures untold { StaysUntold (K.tables self.old.keeper) (K.tables self.new.keeper) }
         ensures crash { CrashStays self.old.office self.new.office (K.tables self.new.keeper) (K.leaves self.old.keeper)
             (K.leaves self.new.keeper) }
         ensures count { K.faults self.old.keeper ≤ K.faults self.new.keeper }

@@ -34,7 +34,7 @@ use Rattle.register_table.specs.Touched.{is_touched, shown, touched}
 use Rattle.register_table.specs.Undos.{IsLater, WriteList, cell_of, touch, touch_all}
 use Rattle.register_table.proofs.StampLemmas.{find_below, only, touched-find, touched-sorted}
 use Rattle.upload_ledger.specs.History.{History}
-use Rattle.register_history.specs.Kept.{AreCellsOf, AreTablesWith, IsKey, TablesAreOne, content, kept_cell, place_in, sheet_of}
+use Rattle.register_history.specs.Kept.{AreCellsOf, AreTablesWith, IsKey, StaysUntold, TablesAreOne, content, kept_cell, place_in, sheet_of}
 use Rattle.register_history.specs.Register.{held_after}
 use Rattle.register_history.specs.State.{OfficeState}
 use Rattle.register_history.specs.Touching.{AreTouchedCells, Touches}
@@ -325,6 +325,17 @@ told-stays P None None comes are = tt
 told-stays P None (Some new) comes are = absurd comes
 told-stays P (Some old) None comes are = tt
 told-stays P (Some old) (Some new) comes are = subst P (sym comes) are
+
+-- what is untold stays untold
+pub becomes-untold : (change : KeptTables → KeptTables) (old new : Option KeptTables)
+    → Becomes change old new → StaysUntold old new
+becomes-untold change None None comes = λ some. some
+becomes-untold change None (Some new) comes = absurd comes
+becomes-untold change (Some old) new comes = λ some. refl
+
+pub untold-join : (old mid new : Option KeptTables) → StaysUntold old mid → StaysUntold mid new
+    → StaysUntold old new
+untold-join old mid new first second some = first (second some)
 
 -- no two tables are those of one office
 cells-one : (held : Held) (one other : Cells) → AreCellsOf held one → AreCellsOf held other → one ≡ other

@@ -1,5 +1,5 @@
 -- Kept tables: what a keeper has of an office, its entries and the cells of the register.
-use Rattle.std.specs.Prelude.{◌≡◌, ℕ, List, [], ◌∷◌, ◌++◌, Option, Some, option_map, IfSome}
+use Rattle.std.specs.Prelude.{◌≡◌, ℕ, List, [], ◌∷◌, ◌++◌, Option, Some, option_map, IfSome, IsSome}
 use Rattle.std.specs.FinMap.{get}
 use Rattle.lei_code.specs.Code.{IsValid}
 use Rattle.lei_code.specs.Texts.{Text}
@@ -86,6 +86,10 @@ AreTablesOf office tables = AreTablesWith office.history (held_after office.limi
 -- Where a keeper tells its tables, they are those of the office.
 abbrev pub Keeps : Option KeptTables → OfficeState → Type 0
 Keeps told office = IfSome told (AreTablesOf office)
+
+-- If a keeper tells its tables now, it told them before: what was untold stays untold.
+abbrev pub StaysUntold : Option KeptTables → Option KeptTables → Type 0
+StaysUntold before now = IsSome now → IsSome before
 
 -- No two tables are those of one office.
 abbrev pub TablesAreOne : OfficeState → Type 0

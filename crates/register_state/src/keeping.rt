@@ -5,7 +5,7 @@ ghost use Rattle.copy_forms.specs.Items.{item_text};
 ghost use Rattle.lei_outside.specs.Count.{Rose};
 ghost use Rattle.lei_outside.specs.Keeping.{LeavesTold, Stays, last_number};
 ghost use Rattle.upload_ledger.specs.Limits.{AreFew};
-ghost use Rattle.register_history.specs.Kept.{AreTablesOf, AreTablesWith, IsKey, Keeps, kept_cell, kind_of, name_of};
+ghost use Rattle.register_history.specs.Kept.{AreTablesOf, AreTablesWith, IsKey, Keeps, StaysUntold, kept_cell, kind_of, name_of};
 ghost use Rattle.register_history.specs.Legal.{Legal};
 ghost use Rattle.register_history.specs.Register.{held_after};
 ghost use Rattle.register_history.specs.Replies.{told};
@@ -45,6 +45,7 @@ impl Books {
         ensures stays { OnErr result (self.new ≡ self.old) }
         ensures legal { Legal self.new }
         ensures kept { Keeps (K.tables keeper.new) self.new }
+        ensures untold { StaysUntold (K.tables keeper.old) (K.tables keeper.new) }
         ensures leaves_added { OnOk result (LeavesTold (K.tables keeper.new) (K.leaves keeper.new)) }
         ensures leaves_refused { OnErr result
             (LeavesAlso (AreTablesOf (with_entry self.old entry)) (K.leaves keeper.old) (K.leaves keeper.new)) }
@@ -114,6 +115,7 @@ fn keep<K: Keeper>(
         → IfSome (K.tables keeper.old) (AreTablesWith ledger.old.entries before)
         → IfSome (K.tables keeper.new) (AreTablesWith (ledger.old.entries ++ entry ∷ []) table.now.held)) }
     ensures tables_stay { OnErr result (Stays (K.tables keeper.old) (K.tables keeper.new)) }
+    ensures untold { StaysUntold (K.tables keeper.old) (K.tables keeper.new) }
     ensures leaves_added { OnOk result (LeavesTold (K.tables keeper.new) (K.leaves keeper.new)) }
     ensures leaves_refused { OnErr result ((before : Held) → Touches entry.seq before table.now.held
         → IfSome (K.tables keeper.old) (AreTablesWith ledger.old.entries before)

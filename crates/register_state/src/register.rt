@@ -7,7 +7,7 @@ ghost use Rattle.register_words.specs.declared.reply.Refusal.TheVariants.{Keeper
 ghost use Rattle.register_words.specs.declared.reply.Reply.TheVariants.{Words};
 ghost use Rattle.register_words.specs.Limits.{AreLimits};
 ghost use Rattle.register_words.specs.Requests.{IsNumbered};
-ghost use Rattle.register_history.specs.Kept.{Keeps};
+ghost use Rattle.register_history.specs.Kept.{Keeps, StaysUntold};
 ghost use Rattle.register_history.specs.Legal.{Legal};
 ghost use Rattle.register_history.specs.Register.{held_after};
 ghost use Rattle.register_history.specs.Replies.{Step};
@@ -104,6 +104,7 @@ impl Register {
         ensures step { Step self.old request.now moment (reply_or result) self.new }
         ensures legal { Legal self.new }
         ensures kept { Keeps (K.tables keeper.new) self.new }
+        ensures untold { StaysUntold (K.tables keeper.old) (K.tables keeper.new) }
         ensures crash { CrashStays self.old self.new (K.tables keeper.new) (K.leaves keeper.old) (K.leaves keeper.new) }
         ensures reply { IfOk result (λ reply. ¬ (reply ≡ Words KeeperFault)) }
         ensures count { K.faults keeper.old ≤ K.faults keeper.new }

@@ -1,6 +1,7 @@
 use Rattle.std.proofs.Common.{◌≤◌, ◌∷◌, [], arith, length-append}
+use Rattle.lei_outside.specs.Keeping.{with_batch}
 use Rattle.lei_outside.specs.declared.keeper.Batch.{Batch}
-use Rattle.register_history.proofs.KeptLemmas.{told-with, touched-batch}
+use Rattle.register_history.proofs.KeptLemmas.{becomes-untold, told-with, touched-batch}
 use Rattle.register_state.proofs.Crashing.{refused-leaves}
 use Rattle.register_state.proofs.keeping.keep.Goals as goal
 
@@ -17,6 +18,14 @@ returns-in-Ok-clause-kept g c = λ before touches keeps.
     let batch : Batch = record { entry = c.args.entry; cells = c.in_ok-cells.cells } in
     let some : 1 ≤ c.args.entry.seq = omega (arith, c.requires.number) in
     told-with _ _ c.args.ledger.now.entries before c.args.table.now.held batch some touches c.in_ok-cells.ensures c.in-Ok.ensures.tables keeps
+
+pub returns-in-Ok-clause-untold : goal.returns-in-Ok-clause-untold
+returns-in-Ok-clause-untold g c =
+    let batch : Batch = record { entry = c.args.entry; cells = c.in_ok-cells.cells } in
+    becomes-untold (with_batch batch) _ _ c.in-Ok.ensures.tables
+
+pub returns-in-Err-clause-untold : goal.returns-in-Err-clause-untold
+returns-in-Err-clause-untold g c = becomes-untold (λ tables. tables) _ _ c.in-Err.ensures.tables
 
 pub returns-in-Err-clause-leaves_refused : goal.returns-in-Err-clause-leaves_refused
 returns-in-Err-clause-leaves_refused g c = λ before touches keeps.
