@@ -1,7 +1,7 @@
 -- What serving an office does.
 use Rattle.std.proofs.Common.{◌≡◌, ℕ, ℤ, List, [], Option, Some, inl, inr, refl, sym, subst, arith}
 use Rattle.lei_office.specs.Answering.{CountedOffice, MayBeAsked, OfficeStep, StepsBy}
-use Rattle.lei_office.proofs.Sessions.{office_counts, office_exact, office_fits}
+use Rattle.lei_office.proofs.Sessions.{office_counts, office_exact, office_fits, serves_untold}
 use Rattle.lei_outside.proofs.Told.{Loses-none}
 use Rattle.register_words.specs.declared.reply.Reply.{Reply}
 use Rattle.register_words.specs.declared.request.Asked.{Asked}
@@ -39,6 +39,7 @@ serves_office : (before after : Progress) (left left_now : Option (List ℕ)) (e
     → ServesBy OfficeStep before left after left_now ended → Serves before left after left_now ended
 serves_office before after left left_now ended serves = record {
   serves = serves;
+  untold = serves_untold (λ (who : CountedOffice). who) http_rules input_limit serves.0 before after left left_now serves.2;
   refuses = office_counts before.who after.who;
   exact = office_exact before.who after.who;
 }

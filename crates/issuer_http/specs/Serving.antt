@@ -3,6 +3,8 @@ use Rattle.std.specs.Prelude.{◌≡◌, ℕ, ℤ, List, [], ◌∷◌, Contains
 use Rattle.lei_office.specs.Answering.{CountedOffice, OfficeStep}
 use Rattle.lei_office.specs.Faults.{keeper_faults}
 use Rattle.lei_outside.specs.Count.{Rose}
+use Rattle.lei_outside.specs.Keeping.{KeptTables}
+use Rattle.register_history.specs.Kept.{StaysUntold}
 use Rattle.register_history.specs.Legal.{replies_to}
 use Rattle.register_history.specs.State.{OfficeState}
 use Rattle.register_words.specs.declared.reply.Refusal.TheVariants.{NoMemory}
@@ -33,17 +35,17 @@ ended_of loop.Ended.NoMemory = Ended.NoMemory
 
 -- ---- whoever answers
 
--- What serving does where these are the steps of who answers: it takes bytes from the link, answers the requests that they
--- are, and ends.
+-- What serving does where these are the steps of who answers: it takes bytes from the link, answers the requests that
+-- they are, and ends.
 abbrev pub ServesBy : {A : Type 0} → (A → Asked → List ℤ → Reply → A → Type 0) → any.Progress A → Option (List ℕ)
     → any.Progress A → Option (List ℕ) → Ended → Type 0
 ServesBy step before left after left_now ended =
     (end : loop.Ended HttpEnd) × (ended ≡ ended_of end)
     × any.Serves step http_rules input_limit before left after left_now end
 
--- What comes of a link that has these bytes left, where neither of its sides fails and memory is never wanting: they were
--- all taken, and all whole requests answered, or those up to the first that asks to close or whose head is refused; or they
--- are as many as end a connection.
+-- What comes of a link that has these bytes left, where neither of its sides fails and memory is never wanting: they
+-- were all taken, and all whole requests answered, or those up to the first that asks to close or whose head is
+-- refused; or they are as many as end a connection.
 abbrev pub CompletesBy : {A : Type 0} → (A → Asked → List ℤ → Reply → A → Type 0) → Ended → any.Progress A → List ℕ
     → any.Progress A → Type 0
 CompletesBy step ended before bytes after =
@@ -51,25 +53,27 @@ CompletesBy step ended before bytes after =
 
 -- ---- an office
 
--- How far serving has come: the office with its count, the moments that the clock has given, and the bytes that were written.
--- For a device that doesn't tell it, `None` stands.
+-- How far serving has come: the office with what its keeper tells and the keeper's count, the moments that the clock
+-- has given, and the bytes that were written. For a device that doesn't tell it, `None` stands.
 abbrev pub Progress : Type 0
 Progress = any.Progress CountedOffice
 
--- The progress of these four.
-abbrev pub progress : OfficeState → ℕ → Option (List ℤ) → Option (List ℕ) → Progress
-progress office faults given written = record {
-  who = record { office = office; faults = faults };
+-- The progress of these five.
+abbrev pub progress : OfficeState → Option KeptTables → ℕ → Option (List ℤ) → Option (List ℕ) → Progress
+progress office kept faults given written = record {
+  who = record { office = office; kept = kept; faults = faults };
   given = given;
   written = written;
 }
 
--- What serving does over an office. Whatever session leads from the office before to the one after: no more of its replies
--- are KEEPER_FAULT than calls of the keeper have failed; and where none failed and memory was never wanting, they are the
--- replies that the requests and the moments determine.
+-- What serving does over an office. If the keeper tells its tables afterwards, it told them before. Whatever session
+-- leads from the office before to the one after: no more of its replies are KEEPER_FAULT than calls of the keeper have
+-- failed; and where none failed and memory was never wanting, they are the replies that the requests and the moments
+-- determine.
 pub record Serves (before : Progress) (left : Option (List ℕ)) (after : Progress) (left_now : Option (List ℕ))
     (ended : Ended) : Type 0 where
   pub serves : ServesBy OfficeStep before left after left_now ended
+  pub untold : StaysUntold before.who.kept after.who.kept
   pub refuses : (asks : List Asked) (moments : List ℤ) (replies : List Reply)
       → Session OfficeStep before.who asks moments replies after.who
       → RoseBy (keeper_faults replies) before.who.faults after.who.faults

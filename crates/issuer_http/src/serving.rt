@@ -32,8 +32,10 @@ pub fn serve_alone<R: Threads + Sync, K: Keeper, L: Link, C: Clock>(
     clock: &mut C,
 ) -> Ended
     ensures serves { Serves
-        (progress office.old.office (K.faults office.old.keeper) (C.given clock.old) (L.written link.old)) (L.left link.old)
-        (progress office.new.office (K.faults office.new.keeper) (C.given clock.new) (L.written link.new)) (L.left link.new)
+        (progress office.old.office (K.tables office.old.keeper) (K.faults office.old.keeper) (C.given clock.old)
+        (L.written link.old)) (L.left link.old)
+        (progress office.new.office (K.tables office.new.keeper) (K.faults office.new.keeper) (C.given clock.new)
+        (L.written link.new)) (L.left link.new)
         result }
     ensures read_fault { result ≡ Ended.ReadFault → Rose (L.read_faults link.old) (L.read_faults link.new) }
     ensures no_read_fault { ¬ (result ≡ Ended.ReadFault) → L.read_faults link.new ≡ L.read_faults link.old }
@@ -43,8 +45,10 @@ pub fn serve_alone<R: Threads + Sync, K: Keeper, L: Link, C: Clock>(
         → ¬ (Rose (L.read_faults link.old) (L.read_faults link.new))
         → ¬ (Rose (L.write_faults link.old) (L.write_faults link.new))
         → Completes result
-        (progress office.old.office (K.faults office.old.keeper) (C.given clock.old) (L.written link.old)) bytes
-        (progress office.new.office (K.faults office.new.keeper) (C.given clock.new) (L.written link.new)) }
+        (progress office.old.office (K.tables office.old.keeper) (K.faults office.old.keeper) (C.given clock.old)
+        (L.written link.old)) bytes
+        (progress office.new.office (K.tables office.new.keeper) (K.faults office.new.keeper) (C.given clock.new)
+        (L.written link.new)) }
 {
     match router(alloc) {
         Ok(router) => serve_with(rt, alloc, office, &router, link, clock),
@@ -63,8 +67,10 @@ pub fn serve_with<R: Threads + Sync, K: Keeper, L: Link, C: Clock>(
 ) -> Ended
     requires { router.now ≡ routes }
     ensures serves { Serves
-        (progress office.old.office (K.faults office.old.keeper) (C.given clock.old) (L.written link.old)) (L.left link.old)
-        (progress office.new.office (K.faults office.new.keeper) (C.given clock.new) (L.written link.new)) (L.left link.new)
+        (progress office.old.office (K.tables office.old.keeper) (K.faults office.old.keeper) (C.given clock.old)
+        (L.written link.old)) (L.left link.old)
+        (progress office.new.office (K.tables office.new.keeper) (K.faults office.new.keeper) (C.given clock.new)
+        (L.written link.new)) (L.left link.new)
         result }
     ensures read_fault { result ≡ Ended.ReadFault → Rose (L.read_faults link.old) (L.read_faults link.new) }
     ensures no_read_fault { ¬ (result ≡ Ended.ReadFault) → L.read_faults link.new ≡ L.read_faults link.old }
@@ -74,8 +80,10 @@ pub fn serve_with<R: Threads + Sync, K: Keeper, L: Link, C: Clock>(
         → ¬ (Rose (L.read_faults link.old) (L.read_faults link.new))
         → ¬ (Rose (L.write_faults link.old) (L.write_faults link.new))
         → Completes result
-        (progress office.old.office (K.faults office.old.keeper) (C.given clock.old) (L.written link.old)) bytes
-        (progress office.new.office (K.faults office.new.keeper) (C.given clock.new) (L.written link.new)) }
+        (progress office.old.office (K.tables office.old.keeper) (K.faults office.old.keeper) (C.given clock.old)
+        (L.written link.old)) bytes
+        (progress office.new.office (K.tables office.new.keeper) (K.faults office.new.keeper) (C.given clock.new)
+        (L.written link.new)) }
 {
     serve_by(rt, alloc, office, router, link, clock)
 }

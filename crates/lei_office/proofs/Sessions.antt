@@ -1,9 +1,11 @@
 -- Sessions with an office.
-use Rattle.std.proofs.Common.{◌≡◌, ℕ, ℤ, List, [], ◌∷◌, Contains, Some, inl, inr, refl, sym, ap, subst, arith}
+use Rattle.std.proofs.Common.{◌≡◌, ℕ, ℤ, List, [], ◌∷◌, ◌++◌, Contains, Option, Some, inl, inr, refl, sym, ap, subst, arith}
 use Rattle.lei_outside.specs.Count.{Rose}
+use Rattle.register_history.specs.Kept.{StaysUntold}
 use Rattle.register_history.specs.Legal.{AskStep, replies_to}
 use Rattle.register_history.specs.Legal as legal
 use Rattle.register_history.specs.Replies.{Step}
+use Rattle.register_history.proofs.KeptLemmas.{untold-join}
 use Rattle.register_history.proofs.Sessions.{exact}
 use Rattle.register_words.specs.declared.reply.Refusal.{Refusal}
 use Rattle.register_words.specs.declared.reply.Refusal.TheVariants.{KeeperFault, NoMemory}
@@ -13,10 +15,14 @@ use Rattle.register_words.specs.declared.request.Asked.{Asked}
 use Rattle.register_words.specs.declared.request.Asked.TheVariants.{Ask, Refuse}
 use Rattle.register_words.specs.declared.request.Request.{Request}
 use Rattle.request_loop.specs.Counts.{RoseBy}
-use Rattle.request_loop.specs.Frames.{Fits, Rules}
+use Rattle.request_loop.specs.Frames.{Fits, Rules, asks_of}
+use Rattle.request_loop.specs.Serving.{EndsWith, Progress, Ran, Serves, Stopped}
 use Rattle.request_loop.specs.Sessions.{Session}
+use Rattle.request_loop.specs.declared.frames.Ended.{Ended}
 use Rattle.request_loop.specs.declared.frames.Want.{Want}
 use Rattle.request_loop.proofs.Counting.{RoseBy-none, session-counts}
+use Rattle.request_loop.proofs.Parts.{ends_of, progress_of}
+use Rattle.request_loop.proofs.Sessions.{session-keeps}
 use Rattle.lei_office.specs.Answering.{CountedOffice, MayBeAsked, OfficeStep, ReadsAs, RefusesBy, StepsBy}
 use Rattle.lei_office.specs.Faults.{is_keeper_fault, keeper_faults}
 use Rattle.lei_office.proofs.Counting.{none_counted, none_reported, reply_rose}
@@ -26,11 +32,12 @@ use Rattle.lei_office.proofs.Counting.{none_counted, none_reported, reply_rose}
 -- a request that was answered at a moment
 pub asked_step : (old new : CountedOffice) (request : Request) (moment : ℤ) (reply : Reply)
     → Step old.office request moment reply new.office → (¬ (reply ≡ Words KeeperFault) → new.faults ≡ old.faults)
-    → (reply ≡ Words KeeperFault → Rose old.faults new.faults)
+    → (reply ≡ Words KeeperFault → Rose old.faults new.faults) → StaysUntold old.kept new.kept
     → OfficeStep old (Ask request) (moment ∷ []) reply new
-asked_step old new request moment reply step kept rose = record {
+asked_step old new request moment reply step kept rose untold = record {
   made = inl (moment, refl, step);
   refuses = reply_rose reply old.faults new.faults kept rose;
+  untold = untold;
 }
 
 none_rose : (refusal : Refusal) (faults : ℕ) → keeper_faults (Words refusal ∷ []) ≡ 0
@@ -41,8 +48,11 @@ none_rose refusal faults none =
 -- a refusal of the reader, which is its own reply
 pub refused_step : (who : CountedOffice) (refusal : Refusal) → MayBeAsked (Refuse refusal)
     → OfficeStep who (Refuse refusal) [] (Words refusal) who
-refused_step who refusal apart =
-    record { made = (refl, refl, refl); refuses = none_rose refusal who.faults (none_counted refusal apart) }
+refused_step who refusal apart = record {
+  made = (refl, refl, refl);
+  refuses = none_rose refusal who.faults (none_counted refusal apart);
+  untold = λ some. some;
+}
 
 -- the same, by the words of rules
 pub refuses_so : (asked : Asked) (who : CountedOffice) (reply : Reply) → RefusesBy asked reply
@@ -63,7 +73,7 @@ pub reads_so : (meant read : Asked) (old new : CountedOffice) (moments : List �
 reads_so (Ask request) read old new moments reply (takes, same) step =
     let S : Asked → Type 0 = λ asked. AskStep old.office asked moments reply new.office in
     let made = subst S same step.made in
-    record { made = inr (takes, made.0, made.1, made.2); refuses = step.refuses }
+    record { made = inr (takes, made.0, made.1, made.2); refuses = step.refuses; untold = step.untold }
 reads_so (Refuse refusal) read old new moments reply reads step = absurd reads
 
 -- so a framing whose frames ask what may be asked fits whoever has an office; where a runtime has to be such, this is said
@@ -107,3 +117,54 @@ pub office_exact : (old new : CountedOffice) (asks : List Asked) (moments : List
 office_exact old new asks moments replies session still lacks =
     exact asks old.office new.office moments replies (office_session old new asks moments replies session) lacks
     (none_reported replies old.faults new.faults (office_counts old new asks moments replies session) still)
+
+-- ---- what the keeper tells
+
+-- what was untold before a session stays so
+session_untold : (old new : CountedOffice) (asks : List Asked) (moments : List ℤ) (replies : List Reply)
+    → Session OfficeStep old asks moments replies new → StaysUntold old.kept new.kept
+session_untold =
+    session-keeps OfficeStep (λ (old : CountedOffice) (new : CountedOffice). StaysUntold old.kept new.kept) (λ who some. some)
+    (λ old mid new. untold-join old.kept mid.kept new.kept) (λ old new ask moments reply step. step.untold)
+
+ran_untold : {E : Type 0} (rules : Rules Asked Reply E) (start now : Progress CountedOffice)
+    (frames : List (Option (Want Asked E))) → Ran OfficeStep rules start frames now
+    → StaysUntold start.who.kept now.who.kept
+ran_untold rules start now frames ran =
+    session_untold start.who now.who (asks_of frames) ran.moments ran.replies ran.session
+
+stopped_untold : {E : Type 0} (rules : Rules Asked Reply E) (start now : Progress CountedOffice)
+    (frames : List (Option (Want Asked E))) (want : Want Asked E) → Stopped OfficeStep rules start frames want now
+    → StaysUntold start.who.kept now.who.kept
+stopped_untold rules start now frames want stopped =
+    session_untold start.who now.who (asks_of (frames ++ Some want ∷ [])) stopped.moments
+    (stopped.replies ++ stopped.reply ∷ []) stopped.session
+
+ends_untold : {E : Type 0} (rules : Rules Asked Reply E) (most : ℕ) (ended : Ended E) (start now : Progress CountedOffice)
+    (bytes : List ℕ) (left : Option (List ℕ)) → EndsWith OfficeStep rules most ended start bytes left now
+    → StaysUntold start.who.kept now.who.kept
+ends_untold rules most Ended.AtEnd start now bytes left (few, at_end, (frames, rest, frame, are, begun, ends, ran)) =
+    ran_untold rules start now (frames ++ frame ∷ []) ran
+ends_untold rules most (Ended.By end) start now bytes left (few, (frames, rest, want, after, are, whole, ends, ran)) =
+    ran_untold rules start now (frames ++ Some want ∷ []) ran
+ends_untold rules most Ended.ReadFault start now bytes left (few, (rest, (frames, are, ran), begun)) =
+    ran_untold rules start now frames ran
+ends_untold rules most Ended.WriteFault start now bytes left (few, (frames, rest, want, are, wants, stopped)) =
+    stopped_untold rules start now frames want stopped
+ends_untold rules most Ended.InputLimit start now bytes left
+    (earlier, last, are, long, some, short, (rest, (frames, cut, ran), begun)) =
+    ran_untold rules start now frames ran
+ends_untold rules most Ended.NoMemory start now bytes left (few, inl (rest, (frames, are, ran), begun)) =
+    ran_untold rules start now frames ran
+ends_untold rules most Ended.NoMemory start now bytes left (few, inr (frames, rest, want, are, wants, stopped)) =
+    stopped_untold rules start now frames want stopped
+
+-- and before serving whoever has an office
+pub serves_untold : {A E : Type 0} (part : A → CountedOffice) (rules : Rules Asked Reply E) (most : ℕ) (ended : Ended E)
+    (start now : Progress A) (left left_now : Option (List ℕ))
+    → Serves (StepsBy part) rules most start left now left_now ended
+    → StaysUntold (part start.who).kept (part now.who).kept
+serves_untold part rules most ended start now left left_now serves =
+    ends_untold rules most ended (progress_of part start) (progress_of part now) serves.bytes left_now
+    (ends_of (StepsBy part) part OfficeStep rules (λ old new ask moments reply step. step) most ended start now serves.bytes
+    left_now serves.ends)

@@ -1,5 +1,7 @@
 -- An office as whoever answers in a session.
-use Rattle.std.specs.Prelude.{◌≡◌, ◌≢◌, ℕ, ℤ, List, [], ◌∷◌}
+use Rattle.std.specs.Prelude.{◌≡◌, ◌≢◌, ℕ, ℤ, List, [], ◌∷◌, Option}
+use Rattle.lei_outside.specs.Keeping.{KeptTables}
+use Rattle.register_history.specs.Kept.{StaysUntold}
 use Rattle.register_history.specs.Legal.{AskStep}
 use Rattle.register_history.specs.State.{OfficeState}
 use Rattle.register_words.specs.Refusals.{refusal_status_code}
@@ -13,26 +15,29 @@ use Rattle.request_loop.specs.Counts.{RoseBy}
 use Rattle.lei_office.specs.Faults.{keeper_faults}
 use Rattle.lei_office.specs.Offices.{KeptOffice}
 
--- An office, and how many calls of its keeper have failed.
+-- An office, what its keeper tells, and how many calls of the keeper have failed.
 pub record CountedOffice : Type 0 where
   pub office : OfficeState
+  pub kept : Option KeptTables
   pub faults : ℕ
 
--- An office with its keeper as such, by the keeper's count.
-abbrev pub counted : {K : Type 0} → (K → ℕ) → KeptOffice K → CountedOffice
-counted faults kept = record { office = kept.office; faults = faults kept.keeper }
+-- An office with its keeper as such, by the keeper's tables and count.
+abbrev pub counted : {K : Type 0} → (K → Option KeptTables) → (K → ℕ) → KeptOffice K → CountedOffice
+counted tables faults kept =
+    record { office = kept.office; kept = tables kept.keeper; faults = faults kept.keeper }
 
 -- What may be asked: a request whose number lies in its range. A refusal of the reader is no fault of the keeper.
 abbrev pub MayBeAsked : Asked → Type 0
 MayBeAsked (Ask request) = IsNumbered request
 MayBeAsked (Refuse refusal) = refusal_status_code refusal ≢ 503
 
--- What was asked got this reply, at these moments, by one step from one office to the other. The reply is KEEPER_FAULT only
--- where a call of the keeper failed.
+-- What was asked got this reply, at these moments, by one step from one office to the other. The reply is KEEPER_FAULT
+-- only where a call of the keeper failed. If the keeper tells its tables after the step, it told them before.
 pub record OfficeStep (old : CountedOffice) (asked : Asked) (moments : List ℤ) (reply : Reply) (new : CountedOffice) : Type 0
   where
     pub made : AskStep old.office asked moments reply new.office
     pub refuses : RoseBy (keeper_faults (reply ∷ [])) old.faults new.faults
+    pub untold : StaysUntold old.kept new.kept
 
 -- The same, of whoever has such an office.
 abbrev pub StepsBy : {A : Type 0} → (A → CountedOffice) → A → Asked → List ℤ → Reply → A → Type 0

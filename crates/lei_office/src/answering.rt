@@ -20,7 +20,7 @@ impl<R: Threads + Sync, K: Keeper> Answers<R> for Office<K> {
     // an `impl` doesn't know that `R` is `Sync`, so whoever asks has to say it
     ghost takes = { λ asked. MayBeAsked asked × IsSync R.row };
 
-    ghost step = { StepsBy (counted K.faults) };
+    ghost step = { StepsBy (counted K.tables K.faults) };
 
     fn answer<C: Clock>(&mut self, rt: &R, asked: &Asked, clock: &mut C) -> Reply {
         match asked {

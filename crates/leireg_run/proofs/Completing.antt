@@ -51,7 +51,7 @@ exactly from bytes course before now first answered rose still lacks =
     (none_reported course.replies before now rose still))
 
 complete_of : (may : Option KeptTables → Type 0) (from : OfficeState) (bytes : List ℕ) (before after : Outside) (course : Course) (status : ℕ) → status ≡ 0
-    → Opens may before.kept from → IsAtEnd after.left → course.first ≡ from → Leads before course after
+    → Opens may before.kept after.kept from → IsAtEnd after.left → course.first ≡ from → Leads before course after
     → AnswersLines (lines bytes) course → IsComplete may bytes before after status
 complete_of may from bytes before after course status is opened ended first leads answered =
     let G : List ℕ → Type 0 = λ texts. Grows before.written after.written texts in
@@ -73,7 +73,7 @@ complete_of may from bytes before after course status is opened ended first lead
     }
 
 ends_done : (may : Option KeptTables → Type 0) (from : OfficeState) (bytes : List ℕ) (before after : Outside) (course : Course) (status : ℕ) → status ≢ 3 → status ≢ 4
-    → status ≢ 6 → length bytes < input_limit → Opens may before.kept from
+    → status ≢ 6 → length bytes < input_limit → Opens may before.kept after.kept from
     → before.left ≡ Some bytes → course.first ≡ from → Leads before course after → EndsWith status course after
     → IsComplete may bytes before after status
 ends_done may from bytes before after course status n3 n4 n6 short opened told first leads (inl (is, (below, ended, answered))) =

@@ -6,6 +6,7 @@ use Rattle.lei_outside.specs.Keeping.{KeptTables, Stays}
 use Rattle.lei_outside.specs.Told.{Grows}
 use Rattle.register_history.specs.declared.damage.Damage.{Damage}
 use Rattle.register_history.specs.Damage.{IsDamage}
+use Rattle.register_history.specs.Kept.{StaysUntold}
 use Rattle.register_words.specs.Limits.{standard}
 use Rattle.register_history.specs.State.{OfficeState}
 use Rattle.leireg_run.specs.Ends.{EndsWith, IsDamageTold, IsUnopened, MayTell, RunsFrom, RunsLines, TellsDamage, damage_text}
@@ -35,11 +36,11 @@ runs_so from left given written old new before now after status same runs = reco
 -- the store was opened
 pub opens_runs : {K : Type 0} (tables : K → Option KeptTables) (faults : K → ℕ) (left : Option (List ℕ)) (given : Option (List ℤ)) (written : Option (List ℕ)) (keeper opened : K)
     (first : OfficeState) (after : Outside) (status : ℕ) → Stays (tables keeper) (tables opened) → faults opened ≡ faults keeper → IsOpened (tables opened) first
-    → RunsFrom first (outside left given written (tables opened) (faults opened)) after status
+    → RunsFrom first (outside left given written (tables opened) (faults opened)) after status → StaysUntold (tables opened) after.kept
     → RunsLines (MayTell tables) (outside left given written (tables keeper) (faults keeper)) after status
-opens_runs {K} tables faults left given written keeper opened first after status stays same is runs = inl (record {
+opens_runs {K} tables faults left given written keeper opened first after status stays same is runs untold = inl (record {
   first = first;
-  opened = record { told = tables opened; met = (opened, refl); stays = stays; is = is };
+  opened = record { told = tables opened; met = (opened, refl); stays = stays; is = is; untold = untold };
   runs = runs_so first left given written (tables keeper) (tables opened) (faults keeper) (faults opened) after status same runs;
 })
 

@@ -11,7 +11,7 @@ use Rattle.register_words.specs.declared.reply.Reply.{Reply}
 use Rattle.register_words.specs.declared.reply.Reply.TheVariants.{Words}
 use Rattle.register_history.specs.declared.damage.Damage.{Damage}
 use Rattle.register_history.specs.Damage.{IsDamage}
-use Rattle.register_history.specs.Kept.{Keeps}
+use Rattle.register_history.specs.Kept.{Keeps, StaysUntold}
 use Rattle.register_history.specs.State.{OfficeState}
 use Rattle.register_history.specs.Legal.{Legal, Session, replies_to}
 use Rattle.register_words.specs.Limits.{standard}
@@ -95,18 +95,21 @@ pub record RunsFrom (from : OfficeState) (before after : Outside) (status : ℕ)
 abbrev pub MayTell : {K : Type 0} → (K → Option KeptTables) → Option KeptTables → Type 0
 MayTell {K} tables told = (keeper : K) × (tables keeper ≡ told)
 
--- The office was opened of what the keeper told before: there was a state of the keeper in which it told that, or nothing
--- any more, and the office is that of what it told then.
-pub record Opens (may : Option KeptTables → Type 0) (before : Option KeptTables) (office : OfficeState) : Type 0 where
-  pub told : Option KeptTables
-  pub met : may told
-  pub stays : Stays before told
-  pub is : IsOpened told office
+-- The office was opened of what the keeper told before: there was a state of the keeper in which it told that, or
+-- nothing any more, and the office is that of what it told then. If the keeper tells its tables afterwards, it told
+-- them then.
+pub record Opens (may : Option KeptTables → Type 0) (before after : Option KeptTables) (office : OfficeState) : Type 0
+  where
+    pub told : Option KeptTables
+    pub met : may told
+    pub stays : Stays before told
+    pub is : IsOpened told office
+    pub untold : StaysUntold told after
 
 -- Lines were answered from the office that was opened on.
 pub record OpensAndRuns (may : Option KeptTables → Type 0) (before after : Outside) (status : ℕ) : Type 0 where
   pub first : OfficeState
-  pub opened : Opens may before.kept first
+  pub opened : Opens may before.kept after.kept first
   pub runs : RunsFrom first before after status
 
 -- The first difference between what the keeper has and what its entries come to, as it is written: its entry's number,
@@ -121,8 +124,8 @@ pub record TellsDamage {E : Type 0} (before after : Outside) (result : Result (U
   pub is : IfSome after.kept (λ tables. IsDamage standard tables damage)
   pub written : IsSent before.written after.written (damage_text damage) result
 
--- Nothing was read, and the keeper has what it had. Status 5: a call of the keeper failed, and with no other status did one.
--- Status 6: memory was wanted. Status 7: what the keeper has is damaged, and that is told.
+-- Nothing was read, and the keeper has what it had. Status 5: a call of the keeper failed, and with no other status did
+-- one. Status 6: memory was wanted. Status 7: what the keeper has is damaged, and that is told.
 pub record FailsToOpen (before after : Outside) (status : ℕ) : Type 0 where
   pub unread : after.left ≡ before.left
   pub unasked : after.given ≡ before.given
@@ -137,8 +140,8 @@ pub record FailsToOpen (before after : Outside) (status : ℕ) : Type 0 where
 abbrev pub IsUnopened : ℕ → Type 0
 IsUnopened status = (status ≡ 5) ⊎ (status ≡ 7)
 
--- What is written of damage, and what the command is stopped as then: the output took the text or refused it, or found no
--- memory.
+-- What is written of damage, and what the command is stopped as then: the output took the text or refused it, or found
+-- no memory.
 abbrev pub IsDamageTold : Option (List ℕ) → Option (List ℕ) → Text → Stop → Type 0
 IsDamageTold before after text stop =
     ((stop ≡ stops.StoreDamaged) × (told : Result (Unit {0}) (Unit {0})) × IsSent before after text told)
@@ -162,9 +165,9 @@ TellsSummary records before after status =
 
 -- ---- any command
 
--- What was meant was done, with this status: a store was opened, where the keeper may tell so, and the lines of the input
--- were answered; the line of a text was written; two files were read, of which the second is told apart, and what comes of
--- them was written; or the summary of a made-up register was. No server is run so.
+-- What was meant was done, with this status: a store was opened, where the keeper may tell so, and the lines of the
+-- input were answered; the line of a text was written; two files were read, of which the second is told apart, and what
+-- comes of them was written; or the summary of a made-up register was. No server is run so.
 abbrev pub Does : (Option KeptTables → Type 0) → Invocation → Outside → Outside → Option (List ℕ) → Option (List ℕ) → ℕ → Type 0
 Does may to_answer_lines before after second_before second_after status = RunsLines may before after status
 Does may to_serve before after second_before second_after status = ⊥
@@ -183,14 +186,14 @@ DoesIfRead may what before after second_before second_after status =
     Does may what before after second_before second_after status
     ⊎ ((status ≡ 6) × (after ≡ before) × (second_after ≡ second_before))
 
--- All of these bytes were read, their lines answered at moments of the clock from the office that was opened on, and the
--- replies written, with status 0. Where the keeper doesn't fail and memory is never wanting, the replies are those that
--- the lines and the moments determine.
+-- All of these bytes were read, their lines answered at moments of the clock from the office that was opened on, and
+-- the replies written, with status 0. Where the keeper doesn't fail and memory is never wanting, the replies are those
+-- that the lines and the moments determine.
 pub record IsComplete (may : Option KeptTables → Type 0) (bytes : List ℕ) (before after : Outside) (status : ℕ) : Type 0
   where
     pub ok : status ≡ 0
     pub first : OfficeState
-    pub opened : Opens may before.kept first
+    pub opened : Opens may before.kept after.kept first
     pub ended : IsAtEnd after.left
     pub moments : List ℤ
     pub gives : ClockGives before.given after.given moments
@@ -204,8 +207,8 @@ pub record IsComplete (may : Option KeptTables → Type 0) (bytes : List ℕ) (b
 
 -- Where no source and no sink fails and no memory is wanting, all is done: an input that is told and short enough is
 -- answered whole, unless a call of the keeper failed while its store was opened, or the store is damaged, which is told
--- whole; a text is told, with status 0 or 2; files that are told and short enough are answered, with status 0 or 2; and a
--- register is made up and told, with status 0.
+-- whole; a text is told, with status 0 or 2; files that are told and short enough are answered, with status 0 or 2; and
+-- a register is made up and told, with status 0.
 abbrev pub Completes : (Option KeptTables → Type 0) → Invocation → Outside → Outside → Option (List ℕ) → Option (List ℕ) → ℕ → Type 0
 Completes may to_answer_lines before after second_before second_after status =
     (bytes : List ℕ) → before.left ≡ Some bytes → length bytes < input_limit

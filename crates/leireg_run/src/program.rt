@@ -4,7 +4,7 @@ ghost use Rattle.lei_outside.specs.Count.{Rose};
 ghost use Rattle.lei_outside.specs.Faults.{FailsLast};
 ghost use Rattle.lei_outside.specs.Keeping.{KeptTables, Stays};
 ghost use Rattle.lei_outside.specs.Told.{Grows};
-ghost use Rattle.register_history.specs.Kept.{Keeps};
+ghost use Rattle.register_history.specs.Kept.{Keeps, StaysUntold};
 ghost use Rattle.register_words.specs.Limits.{standard};
 ghost use Rattle.lei_office.specs.Offices.{FaultRose, IsRefused, keeper_back};
 ghost use Rattle.leireg_run.specs.Opened.{IsOpened};
@@ -227,6 +227,7 @@ fn answer_input<R: Threads + Sync, S: Source, W: Sink, K: Keeper, C: Clock>(
         (outside (S.left input.old) (C.given clock.old) (W.written out.old) (K.tables office.old.keeper) (K.faults office.old.keeper))
         (outside (S.left input.new) (C.given clock.new) (W.written out.new) kept (K.faults office.new.keeper))
         (end_status result) }
+    ensures untold { StaysUntold (K.tables office.old.keeper) (K.tables office.new.keeper) }
     ensures read_fault { IsErrOf result Stop.ReadFault → FailsLast S.left S.faults input.old input.new }
     ensures no_read_fault { ¬ (IsErrOf result Stop.ReadFault) → S.faults input.new ≡ S.faults input.old }
     ensures write_fault { IsErrOf result Stop.WriteFault → FailsLast W.written W.faults out.old out.new }
@@ -252,6 +253,7 @@ fn serve_lines<R: Threads + Sync, S: Source, W: Sink, K: Keeper, C: Clock>(
         (outside (S.left wire.new.input.now) (C.given clock.new) (W.written wire.new.out.now) kept
         (K.faults office.new.keeper))
         (end_status result) }
+    ensures untold { StaysUntold (K.tables office.old.keeper) (K.tables office.new.keeper) }
     ensures read_fault { IsErrOf result Stop.ReadFault → FailsLast S.left S.faults wire.old.input.now wire.new.input.now }
     ensures no_read_fault { ¬ (IsErrOf result Stop.ReadFault)
         → S.faults wire.new.input.now ≡ S.faults wire.old.input.now }

@@ -4,6 +4,8 @@ use Rattle.std.proofs.lemmas.List.{append-nil, map-append}
 use Rattle.lei_outside.specs.Doors.{Comes, TakesBack}
 use Rattle.lei_outside.specs.declared.door.Came.{Came}
 use Rattle.issuer_http.specs.declared.ended.Ended.{Ended}
+use Rattle.register_history.specs.Kept.{StaysUntold}
+use Rattle.register_history.proofs.KeptLemmas.{untold-join}
 use Rattle.leireg_serve.specs.Desks.{GivesLines, LineTells, ServedLine, ServesDesk, ServesEach, ServesLine, Stage, TakesLinesBack}
 
 -- ---- what is told of lines
@@ -46,6 +48,20 @@ each_next tells before mid after [] line is next =
     (after, subst S is next, refl)
 each_next tells before mid after (first ∷ lines) line (between, served, others) next =
     (between, served, each_next tells between mid after lines line others next)
+
+-- what the keeper didn't tell before the lines it doesn't tell after them
+each_untold : {L : Type 0} (tells : LineTells L) (before after : Stage) (lines : List (ServedLine L))
+    → ServesEach tells before lines after → StaysUntold before.kept after.kept
+each_untold tells before after [] is =
+    let U : Stage → Type 0 = λ at. StaysUntold before.kept at.kept in subst U (sym is) (λ some. some)
+each_untold tells before after (line ∷ lines) (between, served, others) =
+    untold-join before.kept between.kept after.kept served.serves.untold (each_untold tells between after lines others)
+
+pub desk_untold : {L : Type 0} (tells : LineTells L) (before after : Stage)
+    (to_come came_back to_come_now came_back_now : Option (List L))
+    → ServesDesk tells before to_come came_back after to_come_now came_back_now → StaysUntold before.kept after.kept
+desk_untold tells before after to_come came_back to_come_now came_back_now serves =
+    each_untold tells before after serves.lines serves.each
 
 pub desk_begins : {L : Type 0} (tells : LineTells L) (at : Stage) (to_come came_back : Option (List L))
     → ServesDesk tells at to_come came_back at to_come came_back

@@ -1,5 +1,5 @@
 -- Serving over a store that was opened.
-use Rattle.std.proofs.Common.{◌≡◌, ℕ, ℤ, List, Option, None, Some, inl, inr, refl, sym, ap, subst}
+use Rattle.std.proofs.Common.{◌≡◌, ℕ, ℤ, List, Option, None, Some, inl, inr, refl, sym, subst}
 use Rattle.lei_outside.specs.Keeping.{KeptTables, Stays}
 use Rattle.register_history.specs.Kept.{Keeps}
 use Rattle.register_history.specs.Legal.{Legal}
@@ -9,6 +9,7 @@ use Rattle.leireg_run.specs.Ends.{MayTell}
 use Rattle.leireg_serve.specs.Desks.{IsNoneToCome, LineTells, ServesDesk, stage}
 use Rattle.leireg_serve.specs.Ends.{EndsServing, OpensAndServes, Outside, desk_status, outside}
 use Rattle.leireg_serve.specs.declared.desk.DeskEnd.{DeskEnd}
+use Rattle.leireg_serve.proofs.Lines.{desk_untold}
 
 -- the status is that of the desk's end
 ends_at : {L : Type 0} (may : Option KeptTables → Type 0) (tells : LineTells L) (before after : Outside L) (status : ℕ) (end : DeskEnd)
@@ -27,24 +28,31 @@ pub ends_opened : {K L : Type 0} (tables : K → Option KeptTables) (faults : K 
     (first last : OfficeState) (given given' : Option (List ℤ)) (to_come came_back to_come' came_back' : Option (List L))
     (status : ℕ) (end : DeskEnd) → first.limits ≡ standard → Legal first → Keeps (tables opened) first
     → Stays (tables keeper) (tables opened) → faults opened ≡ faults keeper
-    → ServesDesk tells (stage first (faults opened) given) to_come came_back (stage last (faults mid) given') to_come' came_back'
+    → ServesDesk tells (stage first (tables opened) (faults opened) given) to_come came_back
+    (stage last (tables mid) (faults mid) given') to_come' came_back'
     → back ≡ mid → Keeps (tables back) last → (end ≡ DeskEnd.Closed → IsNoneToCome to_come') → status ≡ desk_status end
     → EndsServing (MayTell tables) tells (outside (tables keeper) (faults keeper) given to_come came_back)
     (outside (tables back) (faults back) given' to_come' came_back') status
 ends_opened {K} tables faults tells keeper opened mid back first last given given' to_come came_back to_come' came_back' status end limits legal keeps stays same serves is kept none ended =
     let before = outside (tables keeper) (faults keeper) given to_come came_back in
     let after = outside (tables back) (faults back) given' to_come' came_back' in
-    let S : ℕ → Type 0 = λ n. ServesDesk tells (stage first n given) to_come came_back (stage last (faults back) given') to_come' came_back' in
-    let T : ℕ → Type 0 = λ n. ServesDesk tells (stage first (faults opened) given) to_come came_back (stage last n given') to_come' came_back' in
+    let told = tables opened in
+    let S : ℕ → Type 0 = λ n. ServesDesk tells (stage first told n given) to_come came_back
+    (stage last (tables back) (faults back) given') to_come' came_back' in
+    let T : K → Type 0 = λ k. ServesDesk tells (stage first told (faults opened) given) to_come came_back
+    (stage last (tables k) (faults k) given') to_come' came_back' in
+    let served = subst T (sym is) serves in
     ends_at (MayTell tables) tells before after status end (record {
       first = first;
       last = last;
       opened = record {
-        told = tables opened;
+        told = told;
         met = (opened, refl);
         stays = stays;
         is = record { limits = limits; legal = legal; keeps = keeps };
+        untold = desk_untold tells (stage first told (faults opened) given)
+            (stage last (tables back) (faults back) given') to_come came_back to_come' came_back' served;
       };
-      serves = subst S same (subst T (sym (ap faults is)) serves);
+      serves = subst S same served;
       keeps = kept;
     }) none ended

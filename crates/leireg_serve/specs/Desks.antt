@@ -1,6 +1,7 @@
 -- What serving the lines of a door does.
 use Rattle.std.specs.Prelude.{◌≡◌, ℕ, ℤ, List, [], ◌∷◌, ◌++◌, map, Option, None, Some, IfSome}
 use Rattle.lei_outside.specs.Count.{Rose}
+use Rattle.lei_outside.specs.Keeping.{KeptTables}
 use Rattle.register_history.specs.State.{OfficeState}
 use Rattle.issuer_http.specs.Serving.{Serves, progress}
 use Rattle.issuer_http.specs.declared.ended.Ended.{Ended}
@@ -21,15 +22,17 @@ line_tells left written read_faults write_faults = record {
   write_faults = write_faults;
 }
 
--- How far serving has come: the office, how many calls of its keeper have failed, and the moments that the clock has given.
+-- How far serving has come: the office, what its keeper tells, how many calls of the keeper have failed, and the moments
+-- that the clock has given.
 pub record Stage : Type 0 where
   pub office : OfficeState
+  pub kept : Option KeptTables
   pub faults : ℕ
   pub given : Option (List ℤ)
 
--- The stage of these three.
-abbrev pub stage : OfficeState → ℕ → Option (List ℤ) → Stage
-stage office faults given = record { office = office; faults = faults; given = given }
+-- The stage of these four.
+abbrev pub stage : OfficeState → Option KeptTables → ℕ → Option (List ℤ) → Stage
+stage office kept faults given = record { office = office; kept = kept; faults = faults; given = given }
 
 -- ---- one line
 
@@ -37,8 +40,8 @@ stage office faults given = record { office = office; faults = faults; given = g
 -- A read failed exactly where the end says so, and a write likewise.
 pub record ServesLine {L : Type 0} (tells : LineTells L) (before : Stage) (came back : L) (ended : Ended) (after : Stage)
     : Type 0 where
-  pub serves : Serves (progress before.office before.faults before.given (tells.written came)) (tells.left came)
-      (progress after.office after.faults after.given (tells.written back)) (tells.left back) ended
+  pub serves : Serves (progress before.office before.kept before.faults before.given (tells.written came)) (tells.left came)
+      (progress after.office after.kept after.faults after.given (tells.written back)) (tells.left back) ended
   pub read_fault : ended ≡ Ended.ReadFault → Rose (tells.read_faults came) (tells.read_faults back)
   pub no_read_fault : ¬ (ended ≡ Ended.ReadFault) → tells.read_faults back ≡ tells.read_faults came
   pub write_fault : ended ≡ Ended.WriteFault → Rose (tells.write_faults came) (tells.write_faults back)

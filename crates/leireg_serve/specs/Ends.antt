@@ -36,9 +36,9 @@ pub record OpensAndServes {L : Type 0} (may : Option KeptTables → Type 0) (tel
     : Type 0 where
   pub first : OfficeState
   pub last : OfficeState
-  pub opened : Opens may before.kept first
-  pub serves : ServesDesk tells (stage first before.faults before.given) before.to_come before.came_back
-      (stage last after.faults after.given) after.to_come after.came_back
+  pub opened : Opens may before.kept after.kept first
+  pub serves : ServesDesk tells (stage first opened.told before.faults before.given) before.to_come before.came_back
+      (stage last after.kept after.faults after.given) after.to_come after.came_back
   pub keeps : Keeps after.kept last
 
 -- How serving ends. Status 0: all lines were served, and none is to come. Status 9: the lines that came were served. With

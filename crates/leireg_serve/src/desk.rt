@@ -44,9 +44,9 @@ pub fn serve_desk<R: Threads + Wait + Sync, K: Keeper, D: Door, C: Clock>(
     requires routes { router.now ≡ routes }
     requires door { D.out desk.old.door ≡ false }
     ensures serves { ServesDesk (line_tells D.Line.left D.Line.written D.Line.read_faults D.Line.write_faults)
-        (stage office.old.office (K.faults office.old.keeper) (C.given desk.old.clock))
+        (stage office.old.office (K.tables office.old.keeper) (K.faults office.old.keeper) (C.given desk.old.clock))
         (D.to_come desk.old.door) (D.came_back desk.old.door)
-        (stage office.new.office (K.faults office.new.keeper) (C.given desk.new.clock))
+        (stage office.new.office (K.tables office.new.keeper) (K.faults office.new.keeper) (C.given desk.new.clock))
         (D.to_come desk.new.door) (D.came_back desk.new.door) }
     ensures out { D.out desk.new.door ≡ false }
     ensures closed { result ≡ DeskEnd.Closed → IsNoneToCome (D.to_come desk.new.door) }
@@ -79,8 +79,9 @@ fn serve_line<R: Threads + Sync, K: Keeper, D: Door, C: Clock>(
     ensures served { (back : D.Line)
         × TakesBack (D.came_back desk.old.door) (D.came_back desk.new.door) back
         × ServesLine (line_tells D.Line.left D.Line.written D.Line.read_faults D.Line.write_faults)
-        (stage office.old.office (K.faults office.old.keeper) (C.given desk.old.clock)) line back result
-        (stage office.new.office (K.faults office.new.keeper) (C.given desk.new.clock)) }
+        (stage office.old.office (K.tables office.old.keeper) (K.faults office.old.keeper) (C.given desk.old.clock))
+        line back result
+        (stage office.new.office (K.tables office.new.keeper) (K.faults office.new.keeper) (C.given desk.new.clock)) }
     ensures out { D.out desk.new.door ≡ false }
     ensures to_come { D.to_come desk.new.door ≡ D.to_come desk.old.door }
     ensures kept { D.faults desk.new.door ≡ D.faults desk.old.door }

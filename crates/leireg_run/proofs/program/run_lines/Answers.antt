@@ -1,5 +1,6 @@
-use Rattle.std.proofs.Common.{ℕ, ap, subst, sym}
-use Rattle.lei_outside.specs.Keeping.{Stays}
+use Rattle.std.proofs.Common.{ℕ, Option, ap, subst, sym}
+use Rattle.lei_outside.specs.Keeping.{KeptTables, Stays}
+use Rattle.register_history.specs.Kept.{StaysUntold}
 use Rattle.register_words.specs.Limits.{standard}
 use Rattle.lei_office.specs.Offices.{FaultRose, IsRefused, keeper_back}
 use Rattle.leireg_run.specs.Ends.{MayTell, RunsFrom}
@@ -22,10 +23,12 @@ returns-in-Ok-open_office-clause-runs g c =
     let after : ℕ → Outside = λ n. outside (left now.input) (given now.clock) (written now.out) (tables c.close.result) n in
     let status = end_status c.answer_input-ended.result in
     let R : ℕ → Type 0 = λ n. RunsFrom opened.office before (after n) status in
+    let U : Option KeptTables → Type 0 = λ told. StaysUntold (tables opened.keeper) told in
     opens_runs tables faults (left c.args.input.now) (given c.args.clock.now) (written c.args.out.now) c.args.keeper opened.keeper
     opened.office (after (faults c.close.result)) status c.in-Ok-open_office.ensures.told c.in-Ok-open_office.ensures.faultless
     c.in-Ok-open_office.ensures.opened
     (subst R (sym (ap faults c.close.ensures.keeper)) (c.answer_input-ended.ensures.runs (tables c.close.result) c.close.ensures.kept))
+    (subst U (sym (ap tables c.close.ensures.keeper)) c.answer_input-ended.ensures.untold)
 
 pub returns-in-Err-StoreDamaged-clause-runs : goal.returns-in-Err-StoreDamaged-clause-runs
 returns-in-Err-StoreDamaged-clause-runs g c =

@@ -5,6 +5,7 @@ use Rattle.request_loop.proofs.Failing.{fails_at}
 use Rattle.request_loop.proofs.Parts.{progress_of, serves_of}
 use Rattle.request_loop.specs.Serving.{progress}
 use Rattle.lei_office.specs.Answering.{OfficeStep, StepsBy, counted}
+use Rattle.lei_office.proofs.Sessions.{serves_untold}
 use Rattle.line_reading.specs.LineFrames.{line_rules}
 use Rattle.leireg_run.specs.Ends.{RunsFrom}
 use Rattle.leireg_run.specs.Outside.{outside}
@@ -17,7 +18,7 @@ use Rattle.leireg_run.proofs.Stopping.{only_read_fault, only_write_fault}
 use Rattle.leireg_run.proofs.program.serve_lines.Goals as goal
 
 pub serve-requires-clause-fits : goal.serve-requires-clause-fits
-serve-requires-clause-fits g c = lines_fit _ (counted g.K.Keeper.faults) (record { shared = c.type_bounds.sync-R.shared })
+serve-requires-clause-fits g c = lines_fit _ (counted g.K.Keeper.tables g.K.Keeper.faults) (record { shared = c.type_bounds.sync-R.shared })
 
 pub returns-clause-runs : goal.returns-clause-runs
 returns-clause-runs g c kept keeps =
@@ -32,15 +33,24 @@ returns-clause-runs g c kept keeps =
     let office_now = c.serve.new.who in
     let start = progress office (given c.args.clock.now) (written wire.out.now) in
     let now = progress office_now (given c.serve.new.clock) (written wire_now.out.now) in
-    let serves = serves_of (StepsBy (counted faults)) (counted faults) OfficeStep line_rules (λ old new ask moments reply made. made) input_limit
+    let who = counted tables faults in
+    let serves = serves_of (StepsBy who) who OfficeStep line_rules (λ old new ask moments reply made. made) input_limit
     c.serve.result start now (left wire.input.now) (left wire_now.input.now) c.serve.ensures.serves in
     let R : Result (Unit {0}) Stop → Type 0 = λ result. RunsFrom office.office
     (outside (left wire.input.now) (given c.args.clock.now) (written wire.out.now) (tables office.keeper) (faults office.keeper))
     (outside (left wire_now.input.now) (given c.serve.new.clock) (written wire_now.out.now) kept (faults office_now.keeper))
     (end_status result) in
     subst R (sym c.ended_as.ensures)
-    (runs_served (progress_of (counted faults) start) (progress_of (counted faults) now) (left wire.input.now)
+    (runs_served (progress_of who start) (progress_of who now) (left wire.input.now)
     (left wire_now.input.now) (tables office.keeper) kept c.serve.result serves keeps)
+
+pub returns-clause-untold : goal.returns-clause-untold
+returns-clause-untold g c =
+    let given = g.C.Clock.given in
+    let written = g.W.Sink.written in
+    serves_untold (counted g.K.Keeper.tables g.K.Keeper.faults) line_rules input_limit c.serve.result
+    (progress c.args.office.now (given c.args.clock.now) (written c.args.wire.now.out.now))
+    (progress c.serve.new.who (given c.serve.new.clock) (written c.serve.new.link.out.now)) _ _ c.serve.ensures.serves
 
 pub returns-clause-read_fault : goal.returns-clause-read_fault
 returns-clause-read_fault g c is =
