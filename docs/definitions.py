@@ -27,12 +27,15 @@ def crates():
 
 
 def signature(name, rest, following):
-    """A name with its type, or a record's with what it speaks of; a type may go on in indented lines."""
+    """A name with its type, or a record's with what it speaks of. Both may go on in indented lines; a record's end at `where`."""
     parts = [rest]
-    for line in following if rest.lstrip().startswith(":") and not rest.endswith(" where") else []:
-        if not line.startswith("    "):
+    indent = "    " if rest.lstrip().startswith(":") else "  "
+    for line in following if not rest.endswith(" where") else []:
+        if not line.startswith(indent):
             break
         parts.append(line)
+        if line.endswith("where"):
+            break
     text = " ".join(part.strip() for part in parts).strip()
     return f"{name} {text}".removesuffix(" : Type 0 where").removesuffix(" where")
 
