@@ -28,6 +28,8 @@ impl Tally for Marks {
     ghost stays = { λ _. [] };
 
     ghost first = { 1 };
+
+    ghost tells = { λ _. Unit {0} };
 }
 
 // Which mark was left.

@@ -85,6 +85,16 @@ module _ {D : Type 0} where
       (λ e. subst (Each (Between f (last_count t.1.to ts))) (sym (if_other k t.0 (t.1 ∷ told_to k ts) (told_to k ts) e.1)) rest)
       (eqb_tells k t.0)
 
+  -- a fact of each member that was told holds of those of a pass
+  pub told_each : (P : Member D → Type 0) (k : ℕ) (ts : List (ℕ × Member D)) → Each (λ t. P t.1) ts → Each P (told_to k ts)
+  told_each P k [] h = tt
+  told_each P k (t ∷ ts) h =
+      let rest = told_each P k ts h.1 in
+      ⊎_elim
+      (λ e. subst (Each P) (sym (if_same k t.0 (t.1 ∷ told_to k ts) (told_to k ts) e.1)) (h.0, rest))
+      (λ e. subst (Each P) (sym (if_other k t.0 (t.1 ∷ told_to k ts) (told_to k ts) e.1)) rest)
+      (eqb_tells k t.0)
+
   -- ---- numbers of accounts
 
   pub has_one : (k : ℕ) (accounts : List (Account D)) (a : Account D) (rest : List (Account D)) → accounts ≡ a ∷ rest → k ≡ a.number → 1 ≤ with_number k accounts

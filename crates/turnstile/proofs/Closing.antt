@@ -14,7 +14,7 @@ use Rattle.turnstile.specs.Rule.{Past, in_turn, number_count, with_number, idle_
 use Rattle.turnstile.specs.Passes.{PassView, account_at, HaveAll, IsAdded, IsMadeOnce, AreApart, AreWithin}
 use Rattle.turnstile.proofs.Prefixes.{prefix_trans}
 use Rattle.turnstile.proofs.Views.{Each_map}
-use Rattle.turnstile.proofs.Accounts.{if_same, if_other, Between, told_between, in_order_last, has_one}
+use Rattle.turnstile.proofs.Accounts.{if_same, if_other, Between, told_between, told_each, in_order_last, has_one}
 use Rattle.turnstile.proofs.Totals.{total_at}
 use Rattle.turnstile.proofs.Passing.{place_next}
 use Rattle.turnstile.proofs.Seats.{in_turn_busy, no_other, number_below, once_below_most}
@@ -123,7 +123,7 @@ module _ {E D : Type 0} where
 
 -- ---- the end
 
-module _ {T E D : Type 0} (m : Meaning T E) (opened : T) (n : ℕ) where
+module _ {T E D : Type 0} (m : Meaning T E D) (opened : T) (n : ℕ) where
   pub record IsEnd (ps : List (PassView E D)) (x : T) : Type 0 where
     pub past : Past E D
     pub so_far : PastFits m opened n past
@@ -254,6 +254,13 @@ module _ {T E D : Type 0} (m : Meaning T E) (opened : T) (n : ℕ) where
         stretches_apart (m.faults opened) p.number q.number a b s t end.past.members end.so_far.faults
         (ap (λ (l : List (Member D)). slice_get l a) (sym (told i p pi)) ∙ sa) (ap (λ (l : List (Member D)). slice_get l b) (sym (told j q qj)) ∙ tb)
         (⊎_elim (λ d. inl (λ e. d (same_number i j p q pi qj e))) (λ d. inr d) n)
+
+    pub closed_told : All (λ p. All m.tells p.told) ps
+    unfolding Fitting
+    closed_told =
+        let members = end.past.members in
+        all_of_each (λ (p : PassView E D). All m.tells p.told) ps (Each_map Fitting (λ (p : PassView E D). All m.tells p.told)
+        (λ p f. all_of_each m.tells p.told (subst (Each m.tells) (sym f.told) (told_each m.tells p.number members end.so_far.told))) ps end.fits)
 
     pub closed_within : AreWithin (m.faults opened) (m.faults x) ps
     unfolding Fitting

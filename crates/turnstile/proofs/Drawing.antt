@@ -15,7 +15,7 @@ use Rattle.turnstile.proofs.Parting.{any_step}
 words_drawn : (a b : ℕ) (events ws : List ℕ) → ws ≡ a % 2 ^ 64 ∷ b % 2 ^ 64 ∷ events → set ws 0 ((get_or ws 0 0 + 1) % 2 ^ 64) ≡ (a + 1) % 2 ^ 64 ∷ b % 2 ^ 64 ∷ events
 words_drawn a b events ws e = ap (λ (l : List ℕ). set l 0 ((get_or l 0 0 + 1) % 2 ^ 64)) e ∙ ap (λ (k : ℕ). k ∷ b % 2 ^ 64 ∷ events) (mod-add-mod a (2 ^ 64) 1)
 
-module _ {T E D : Type 0} (m : Meaning T E) (opened : T) (n : ℕ) where
+module _ {T E D : Type 0} (m : Meaning T E D) (opened : T) (n : ℕ) where
   drawn_once : Past E D → Past E D
   drawn_once p = record { serving = p.serving; drawn = p.drawn + 1; history = p.history; makers = p.makers; members = p.members }
 
@@ -55,7 +55,7 @@ module _ {T E D : Type 0} (m : Meaning T E) (opened : T) (n : ℕ) where
           events = kept.events;
           words = words_drawn _ _ _ s.words kept.words;
           few = kept.few;
-          so_far = record { list = kept.so_far.list; makers = kept.so_far.makers; faults = kept.so_far.faults };
+          so_far = record { list = kept.so_far.list; makers = kept.so_far.makers; faults = kept.so_far.faults; told = kept.so_far.told };
           views = record {
             each = each_set (ViewFits m opened p') views id w here (λ j u other there. later u (old.each j u there));
             tickets = omega (arith, old.tickets, counted, idle);

@@ -54,7 +54,7 @@ module _ {T E D : Type 0} where
       each_last (λ (q : PassView E D). q.table ≡ table) left' p g.taken
       (subst (Each (λ (q : PassView E D). q.table ≡ table)) (g.are ∙ ap (λ l. l ++ g.taken) e ∙ append_assoc left' (p ∷ []) g.taken) (each_of_all _ all h))
 
-module _ {T E D : Type 0} (m : Meaning T E) where
+module _ {T E D : Type 0} (m : Meaning T E D) where
   -- the end, where none is left
   pub gathered_all : (opened opened' : T) (n n' id : ℕ) (all left : List (PassView E D)) (me : Me T (View E D)) (ws : List ℕ) (xs : List T) (x : T)
       → opened' ≡ opened → n' ≡ n → Gathered all left me → left ≡ [] → HaveAll n' all

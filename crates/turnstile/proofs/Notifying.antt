@@ -14,7 +14,7 @@ words_notified a b zero k events h = absurd (omega (arith, h))
 words_notified a b (suc zero) k events h = absurd (omega (arith, h))
 words_notified a b (suc (suc i)) k events h = (set events i k, refl)
 
-module _ {T E D : Type 0} (m : Meaning T E) (opened : T) (n : ℕ) where
+module _ {T E D : Type 0} (m : Meaning T E D) (opened : T) (n : ℕ) where
   pub notifies : (slots id : ℕ) (me : Me T (View E D)) (word : ℕ) → 2 ≤ word
       → Allows (IsKept {D = D} m opened n) slots id me word (λ k. (k + 1) % 2 ^ 64) (Notifies any_step me)
   notifies slots id me word high s kept few at low =

@@ -44,7 +44,7 @@ at_only : {V : Type 0} (v u : V) (i : ℕ) → get_elem? (v ∷ []) i ≡ some u
 at_only v u zero e = (refl, some-injective v u e)
 at_only v u (suc i) e = absurd (some-ne-none u (sym e))
 
-module _ {T E : Type 0} (D : Type 0) (m : Meaning T E) (opened : T) where
+module _ {T E : Type 0} (D : Type 0) (m : Meaning T E D) (opened : T) where
   nothing_made : (k n : ℕ) → Each (AccountFits {D = D} m opened [] []) (accounts_from k n (m.stays opened))
   nothing_made k zero = tt
   nothing_made k (suc n) = (record { mine = refl; told = refl; stays = refl }, nothing_made (k + 1) n)
@@ -67,7 +67,7 @@ module _ {T E : Type 0} (D : Type 0) (m : Meaning T E) (opened : T) where
           count = let l = accounts_length D (m.stays opened) 0 n in omega (arith, l);
           numbers = λ k. let once = numbers_once D (m.stays opened) k n in omega (arith) ∙ once;
         };
-        so_far = record { list = ([], sym (append-nil (m.entries opened)), refl); makers = tt; faults = tt };
+        so_far = record { list = ([], sym (append-nil (m.entries opened)), refl); makers = tt; faults = tt; told = tt };
         home = inl (opened, refl, refl, refl, le_refl (m.faults opened));
       }
 

@@ -39,7 +39,7 @@ any_step = step 0 0 0 0 none
 pub words_stay : (a b : ℕ) (events ws : List ℕ) → ws ≡ a ∷ b ∷ events → set ws 1 (get_or ws 1 0) ≡ a ∷ b ∷ events
 words_stay a b events ws e = ap (λ (l : List ℕ). set l 1 (get_or l 1 0)) e
 
-module _ {T E D : Type 0} (m : Meaning T E) (opened : T) (n : ℕ) where
+module _ {T E D : Type 0} (m : Meaning T E D) (opened : T) (n : ℕ) where
   pub splits : (id : ℕ) (v : View E D) → busy v ≡ 0 → in_turn v ≡ 0 → Splits (IsKept {D = D} m opened n) id v (left_part v) (right_part v)
   splits id v idle out s kept at =
       let views = s.views in

@@ -9,7 +9,7 @@ use Rattle.atomic_table.specs.Table.{Allows, Me, gives}
 use Rattle.turnstile.specs.declared.view.Member.{Member}
 use Rattle.turnstile.specs.declared.view.View.{View}
 use Rattle.turnstile.specs.Lists.{Each, IsPrefix}
-use Rattle.turnstile.specs.Meaning.{Meaning, GoesOn, told_of, mine_after}
+use Rattle.turnstile.specs.Meaning.{Meaning, GoesOn, IsToldSo, told_of, mine_after}
 use Rattle.turnstile.specs.Rule.{Past, busy, passes, number_count, waiting_view, turn_view, made_by, told_to, InOrder, last_count, first_place, AccountFits, ViewFits, PastFits, IsHome, IsKept}
 use Rattle.turnstile.specs.Steps.{PassesOn, view_after}
 use Rattle.turnstile.specs.Passes.{PassView, view_of}
@@ -75,6 +75,11 @@ module _ {D : Type 0} where
   told_to_others j k at from to (Some piece) members other = told_else j k members _ other
   told_to_others j k at from to None members other = ap (told_to j) (append-nil members)
 
+  tagged_each : (P : Member D → Type 0) (k : ℕ) (told : List (Member D)) → Each P told → Each (λ t. P t.1) (tagged k told)
+  unfolding tagged
+  tagged_each P k [] h = tt
+  tagged_each P k (t ∷ ts) h = (h.0, tagged_each P k ts h.1)
+
   in_order_more : (f k at from to : ℕ) (said : Option D) (members : List (ℕ × Member D)) → InOrder f members → last_count f members ≤ from → from ≤ to
       → InOrder f (members ++ tagged k (told_of said at from to))
   unfolding tagged
@@ -101,7 +106,7 @@ one_slot : {T : Type 0} (y z : T) → ◌≡◌ {A = List (ℕ × T)} ((0, y) �
 unfolding held
 one_slot y z e = ap (held y) e
 
-module _ {T E D : Type 0} (m : Meaning T E) (opened : T) (n : ℕ) where
+module _ {T E D : Type 0} (m : Meaning T E D) (opened : T) (n : ℕ) where
   back_home : (past : Past E D) (homes : List (core.Option T)) (views : List (View E D)) (y : T) → IsHome m opened past homes views → set homes 0 (some y) ≡ some y ∷ []
   back_home past homes views y h = ⊎_elim (λ t. ap (λ (l : List (core.Option T)). set l 0 (some y)) t.1) (λ t. ap (λ (l : List (core.Option T)). set l 0 (some y)) t.0) h
 
@@ -125,9 +130,9 @@ module _ {T E D : Type 0} (m : Meaning T E) (opened : T) (n : ℕ) where
       omega (arith, e, a, c)
 
   past_fits : (k : ℕ) (said : Option D) (x y : T) (past : Past E D) → k < n → PastFits m opened n past → m.entries x ≡ past.history
-      → last_count (m.faults opened) past.members ≤ m.faults x → GoesOn m x y → PastFits m opened n (past_after k said x y past)
+      → last_count (m.faults opened) past.members ≤ m.faults x → GoesOn m x y → IsToldSo m said x y → PastFits m opened n (past_after k said x y past)
   unfolding past_after
-  past_fits k said x y past low fits whole le turn =
+  past_fits k said x y past low fits whole le turn so =
       let before = length (m.entries x) in
       let after = length (m.entries y) in
       let l = fits.list in
@@ -141,13 +146,15 @@ module _ {T E D : Type 0} (m : Meaning T E) (opened : T) (n : ℕ) where
         list = (l.0 ++ added.0, added.1 ∙ ap (λ q. q ++ added.0) (whole ∙ l.1) ∙ append_assoc (m.entries opened) l.0 added.0, omega (arith, count, makers, more, so_far));
         makers = Each_append (λ j. j < n) past.makers (maker_of k before after) fits.makers (makers_below n k before after low);
         faults = in_order_more (m.faults opened) k before (m.faults x) (m.faults y) said past.members fits.faults le turn.faults;
+        told = Each_append (λ (t : ℕ × Member D). m.tells t.1) past.members (tagged k (told_of said before (m.faults x) (m.faults y))) fits.told
+            (tagged_each m.tells k (told_of said before (m.faults x) (m.faults y)) so);
       }
 
-  pub gives_back : (slots id : ℕ) (p : PassView E D) (t : ℕ) (x y : T) (said : Option D) → m.stays x ≡ p.stays → GoesOn m x y
+  pub gives_back : (slots id : ℕ) (p : PassView E D) (t : ℕ) (x y : T) (said : Option D) → m.stays x ≡ p.stays → GoesOn m x y → IsToldSo m said x y
       → Allows (IsKept {D = D} m opened n) slots id (turn_view (waiting_view (view_of p) t) (m.entries x) (m.faults x), (0, y) ∷ []) 1 (λ k. (k + 1) % 2 ^ 64)
       (PassesOn m said any_step (turn_view (waiting_view (view_of p) t) (m.entries x) (m.faults x), (0, y) ∷ []))
   unfolding past_after
-  gives_back slots id p t x y said same turn s kept few at low =
+  gives_back slots id p t x y said same turn so s kept few at low =
       let v : View E D = turn_view (waiting_view (view_of p) t) (m.entries x) (m.faults x) in
       let k = p.number in
       let before = length (m.entries x) in
@@ -197,7 +204,7 @@ module _ {T E D : Type 0} (m : Meaning T E) (opened : T) (n : ℕ) where
           events = kept.events;
           words = words_served _ _ _ s.words kept.words;
           few = kept.few;
-          so_far = past_fits k said x y past low kept.so_far now.1 now.2 turn;
+          so_far = past_fits k said x y past low kept.so_far now.1 now.2 turn so;
           views = record {
             each = each_set (ViewFits m opened past') views id w here others;
             tickets = omega (arith, old.tickets, counted);
@@ -216,9 +223,9 @@ module _ {T E D : Type 0} (m : Meaning T E) (opened : T) (n : ℕ) where
         (λ z e. ap (λ (q : T). (view_after m said v q, [])) (one_slot y z e)),
       )
 
-  pub gives_back_at : (slots id : ℕ) (me : Me T (View E D)) (p : PassView E D) (t : ℕ) (x y : T) (said : Option D) → m.stays x ≡ p.stays → GoesOn m x y
+  pub gives_back_at : (slots id : ℕ) (me : Me T (View E D)) (p : PassView E D) (t : ℕ) (x y : T) (said : Option D) → m.stays x ≡ p.stays → GoesOn m x y → IsToldSo m said x y
       → me ≡ (turn_view (waiting_view (view_of p) t) (m.entries x) (m.faults x), (0, y) ∷ [])
       → Allows (IsKept {D = D} m opened n) slots id me 1 (λ k. (k + 1) % 2 ^ 64) (PassesOn m said any_step me)
-  gives_back_at slots id me p t x y said same turn e =
+  gives_back_at slots id me p t x y said same turn so e =
       subst (λ (q : Me T (View E D)). Allows (IsKept {D = D} m opened n) slots id q 1 (λ k. (k + 1) % 2 ^ 64) (PassesOn m said any_step q)) (sym e)
-      (gives_back slots id p t x y said same turn)
+      (gives_back slots id p t x y said same turn so)

@@ -45,7 +45,7 @@ once_at_below k n h = ⊎_elim (λ t. ap (λ b. if b then 1 else 0) t.0) (λ t. 
 pub once_from : (k n : ℕ) → n ≤ k → once_below k n ≡ 0
 once_from k n h = ⊎_elim (λ t. absurd (omega (arith, h, t.1))) (λ t. ap (λ b. if b then 1 else 0) t.0) (leb_tells (suc k) n)
 
-module _ {T E D : Type 0} (m : Meaning T E) (opened : T) (n : ℕ) (past : Past E D) (views : List (View E D)) (fit : ViewsFit m opened n past views) where
+module _ {T E D : Type 0} (m : Meaning T E D) (opened : T) (n : ℕ) (past : Past E D) (views : List (View E D)) (fit : ViewsFit m opened n past views) where
   -- no more tickets are out than there are passes
   pub tickets_few : total busy views ≤ n
   tickets_few =

@@ -20,7 +20,7 @@ use Rattle.turnstile.proofs.Accounts.{Between, told_between}
 use Rattle.turnstile.proofs.Seats.{at_below, in_turn_busy, tickets_few}
 use Rattle.turnstile.proofs.Parting.{any_step, words_stay}
 
-module _ {T E D : Type 0} (m : Meaning T E) (opened : T) (n : ℕ) where
+module _ {T E D : Type 0} (m : Meaning T E D) (opened : T) (n : ℕ) where
   -- a ticket that looks like the one served is that one
   served_is : (s : State T (View E D)) (kept : IsKept m opened n s) (id : ℕ) (v : View E D) → get_elem? s.views id ≡ some v → busy v ≡ 1
       → get_or s.words 1 0 ≡ v.ticket % 2 ^ 64 → kept.past.serving ≡ v.ticket

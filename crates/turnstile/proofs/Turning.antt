@@ -27,7 +27,7 @@ module _ {T E D : Type 0} where
   pub written : (me : Me T (View E D)) (v : View E D) (x y : T) → me ≡ (v, (0, x) ∷ []) → ◌≡◌ {A = Me T (View E D)} (me.0, (0, y) ∷ rest me.1) (v, (0, y) ∷ [])
   written me v x y e = ap (λ (q : Me T (View E D)). (q.0, (0, y) ∷ rest q.1)) e
 
-module _ {T E D : Type 0} (m : Meaning T E) where
+module _ {T E D : Type 0} (m : Meaning T E D) where
   -- the seat of a pass after its turn
   pub passed_on : (p : PassView E D) (t : ℕ) (x y : T) (said : Option D) (me after : Me T (View E D))
       → me ≡ (turn_view (waiting_view (view_of p) t) (m.entries x) (m.faults x), (0, y) ∷ [])

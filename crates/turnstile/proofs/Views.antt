@@ -57,7 +57,7 @@ module _ {E D : Type 0} where
 
 -- ---- where the value is
 
-module _ {T E D : Type 0} (m : Meaning T E) (opened : T) where
+module _ {T E D : Type 0} (m : Meaning T E D) (opened : T) where
   pub home_set : (past : Past E D) (homes : List (Option T)) (views : List (View E D)) (id : ℕ) (v w : View E D)
       → get_elem? views id ≡ some v → in_turn v ≡ 0 → IsHome m opened past homes views → IsHome m opened past homes (set views id w)
   home_set past homes views id v w at out h = ⊎_elim (λ t. inl t)

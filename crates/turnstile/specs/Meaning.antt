@@ -1,20 +1,24 @@
 -- What the value of a turnstile stands for, and what one turn does to it.
 use Rattle.std.specs.Prelude.{◌≡◌, ℕ, ◌+◌, ◌≤◌, ◌==◌, List, [], ◌∷◌, ◌++◌, length, Option, Some, None, if◌then◌else◌}
 use Rattle.turnstile.specs.declared.view.Member.{Member}
-use Rattle.turnstile.specs.Lists.{IsPrefix}
+use Rattle.turnstile.specs.Lists.{Each, IsPrefix}
 
--- the list that a value stands for, its count of faults, the numbers that stay, and the number of the first entry
-pub record Meaning (T E : Type 0) : Type 0 where
+-- the list that a value stands for, its count of faults, the numbers that stay, the number of the first entry,
+-- and what has to hold of each member that a pass is told
+pub record Meaning (T E D : Type 0) : Type 1 where
   pub entries : T → List E
   pub faults : T → ℕ
   pub stays : T → List ℕ
   pub first : ℕ
+  pub tells : Member D → Type 0
 
--- the record of its four parts
-abbrev pub meaning : {T E : Type 0} → (T → List E) → (T → ℕ) → (T → List ℕ) → ℕ → Meaning T E
-meaning entries faults stays first = record { entries = entries; faults = faults; stays = stays; first = first }
+-- the record of its five parts
+abbrev pub meaning : {T E D : Type 0} → (T → List E) → (T → ℕ) → (T → List ℕ) → ℕ → (Member D → Type 0)
+    → Meaning T E D
+meaning entries faults stays first tells =
+    record { entries = entries; faults = faults; stays = stays; first = first; tells = tells }
 
-module _ {T E : Type 0} (m : Meaning T E) where
+module _ {T E D : Type 0} (m : Meaning T E D) where
   -- The value y goes on from x: its list has one entry more, at the end, or none, the count of faults has not fallen,
   -- and the numbers that stay are as before.
   pub record GoesOn (x y : T) : Type 0 where
@@ -27,6 +31,11 @@ module _ {T E : Type 0} (m : Meaning T E) where
 abbrev pub told_of : {D : Type 0} → Option D → ℕ → ℕ → ℕ → List (Member D)
 told_of (Some piece) at from to = record { piece = piece; at = at; from = from; to = to } ∷ []
 told_of None at from to = []
+
+-- What has to hold of the member that an answer adds, if it adds one, holds of it at a turn in which the value x
+-- became y.
+abbrev pub IsToldSo : {T E D : Type 0} → Meaning T E D → Option D → T → T → Type 0
+IsToldSo m said x y = Each m.tells (told_of said (length (m.entries x)) (m.faults x) (m.faults y))
 
 -- the places of a pass's own entries after a turn, by the number of the first entry and the length of the list before
 -- the turn and after it

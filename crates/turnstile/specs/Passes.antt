@@ -112,10 +112,10 @@ module _ {E D : Type 0} where
       total (λ p. total w p.told) passes + from ≤ to
 
 -- The place is that of an entry which the list got while x became y.
-abbrev pub IsAdded : {T E : Type 0} → Meaning T E → T → T → ℕ → Type 0
+abbrev pub IsAdded : {T E D : Type 0} → Meaning T E D → T → T → ℕ → Type 0
 IsAdded m x y place = (m.first + length (m.entries x) ≤ place) × (place < m.first + length (m.entries y))
 
-module _ {T E D : Type 0} (m : Meaning T E) where
+module _ {T E D : Type 0} (m : Meaning T E D) where
   -- Each place that a pass made is that of an entry which the list got while x became y.
   abbrev pub AreAdded : T → T → List (PassView E D) → Type 0
   AreAdded x y passes = All (λ p. All (IsAdded m x y) p.mine) passes

@@ -128,10 +128,10 @@ abbrev pub once_below : ℕ → ℕ → ℕ
 once_below k n = if nat_lt k n then 1 else 0
 
 -- the number of the first entry after the opening
-abbrev pub first_place : {T E : Type 0} → Meaning T E → T → ℕ
+abbrev pub first_place : {T E D : Type 0} → Meaning T E D → T → ℕ
 first_place m opened = m.first + length (m.entries opened)
 
-module _ {T E D : Type 0} (m : Meaning T E) (opened : T) where
+module _ {T E D : Type 0} (m : Meaning T E D) (opened : T) where
   -- The account says of its pass what happened, and has the numbers that stay.
   pub record AccountFits (makers : List ℕ) (members : List (ℕ × Member D)) (a : Account D) : Type 0 where
     pub mine : a.mine ≡ made_by a.number (first_place m opened) makers
@@ -159,12 +159,13 @@ module _ {T E D : Type 0} (m : Meaning T E) (opened : T) where
     pub count : total passes views ≡ n
     pub numbers : (k : ℕ) → total (number_count k) views ≡ once_below k n
 
-  -- What happened since the opening: each entry that was added has a maker, a number below n, and the stretches of
-  -- faults are in order.
+  -- What happened since the opening: each entry that was added has a maker, a number below n, the stretches of
+  -- faults are in order, and of each member holds what has to.
   pub record PastFits (n : ℕ) (past : Past E D) : Type 0 where
     pub list : (added : List E) × (past.history ≡ m.entries opened ++ added) × (length added ≡ length past.makers)
     pub makers : Each (λ k. k < n) past.makers
     pub faults : InOrder (m.faults opened) past.members
+    pub told : Each (λ t. m.tells t.1) past.members
 
   -- The value is at home and stands for the list, or it is out with a seat in turn.
   abbrev pub IsHome : Past E D → List (Option T) → List (View E D) → Type 0

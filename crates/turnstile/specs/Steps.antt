@@ -27,7 +27,7 @@ after_turn first before after told (a ∷ rest) =
       told = a.told ++ told;
     } ∷ rest
 
-module _ {T E D : Type 0} (m : Meaning T E) where
+module _ {T E D : Type 0} (m : Meaning T E D) where
   -- The value x goes on from all that the seat knows: its list begins with what was seen, its numbers that stay are
   -- those of each account, and its count of faults is at least every count that was told.
   pub record GoesOnFrom (v : View E D) (x : T) : Type 0 where

@@ -23,7 +23,7 @@ pub struct TurnRule<T> {
 }
 
 impl<T: Tally> TableRule<T, View<T::Entry, T::Told>, Key<T>> for TurnRule<T> {
-    ghost holds = { λ k. IsKept (meaning T.entries T.faults T.stays T.first) k.opened.value k.passes };
+    ghost holds = { λ k. IsKept (meaning T.entries T.faults T.stays T.first T.tells) k.opened.value k.passes };
 
     ghost first = { λ k. idle_view (T.entries k.opened.value) []
         (accounts_from 0 k.passes (T.stays k.opened.value)) };
@@ -44,7 +44,7 @@ pub struct See<T> {
 }
 
 impl<T: Tally> Play<T, View<T::Entry, T::Told>> for See<T> {
-    ghost then = { Sees (meaning T.entries T.faults T.stays T.first) };
+    ghost then = { Sees (meaning T.entries T.faults T.stays T.first T.tells) };
 }
 
 // The piece that an answer stands for. Each call picks its own.
@@ -62,7 +62,7 @@ pub struct PassOn<T, P> {
 }
 
 impl<T: Tally, P: Piece<T::Told>> Play<T, View<T::Entry, T::Told>> for PassOn<T, P> {
-    ghost then = { PassesOn (meaning T.entries T.faults T.stays T.first) P.piece };
+    ghost then = { PassesOn (meaning T.entries T.faults T.stays T.first T.tells) P.piece };
 }
 
 // A seat raises an event count.

@@ -1,7 +1,8 @@
 // What the value of a turnstile stands for, and what an answer stands for.
 ghost use Rattle.std.specs.Prelude.{ℕ, List, Option};
+ghost use Rattle.turnstile.specs.declared.view.Member.{Member};
 
-/// A value that stands for a list of number_count entries.
+/// A value that stands for a list of numbered entries.
 pub trait Tally {
     /// One entry of the list.
     type Entry;
@@ -20,6 +21,9 @@ pub trait Tally {
 
     /// The number of the first entry. The others follow it in order.
     ghost first: { ℕ };
+
+    /// What has to hold of each member that a pass is told. Each turn sees to it, and the end relies on it.
+    ghost tells: { Member Self.Told → Type 0 };
 }
 
 /// An answer that stands for one piece of data, which the pass is told, or for nothing.

@@ -2,7 +2,7 @@
 ghost use Rattle.std.specs.Prelude.{◌%◌, ◌≡◌, ℕ, ◌+◌, ◌≤◌, ◌<◌, [], ◌∷◌, ◌++◌, length, IfOk, IfErr, All, vec_capacity};
 ghost use Rattle.std.specs.Fn.{FnOnceReturnsAtMut};
 ghost use Rattle.turnstile.specs.Lists.{IsPrefix, longer};
-ghost use Rattle.turnstile.specs.Meaning.{meaning, GoesOn};
+ghost use Rattle.turnstile.specs.Meaning.{meaning, GoesOn, IsToldSo};
 ghost use Rattle.turnstile.specs.Rule.{idle_view, waiting_view, turn_view, accounts_from};
 ghost use Rattle.turnstile.specs.Steps.{IsIdle, GoesOnFrom, view_after};
 ghost use Rattle.turnstile.specs.Passes.{PassView, view_of, account_at, with_seen};
@@ -135,9 +135,12 @@ impl<T: Tally> Turnstile<T> {
         requires pass { pass.table ≡ self.now.table }
         requires act { F.IsAlwaysCallable act }
         requires goes_on { (x y : T) (answer : A) → FnOnceReturnsAtMut F.FnOnce act x answer y
-            → GoesOn (meaning T.entries T.faults T.stays T.first) x y }
+            → GoesOn (meaning T.entries T.faults T.stays T.first T.tells) x y }
+        requires tells { (x y : T) (answer : A) → FnOnceReturnsAtMut F.FnOnce act x answer y
+            → IsToldSo (meaning T.entries T.faults T.stays T.first T.tells) (A.said answer) x y }
         ensures turn { (x y : T) × FnOnceReturnsAtMut F.FnOnce act x result.1 y
-            × IsTurn (meaning T.entries T.faults T.stays T.first) pass (A.said result.1) x y result.0 }
+            × IsTurn (meaning T.entries T.faults T.stays T.first T.tells)
+            pass (A.said result.1) x y result.0 }
     {
         let mut seat = self.wait_turn(rt, pass);
         let answer = act_on(seat.slot_mut(&self.table.shared, 0), act);
@@ -156,7 +159,7 @@ impl<T: Tally> Turnstile<T> {
         ensures value { (t : ℕ) × (x : T)
             × (result.me
             ≡ (turn_view (waiting_view (view_of pass) t) (T.entries x) (T.faults x), (0, x) ∷ []))
-            × GoesOnFrom (meaning T.entries T.faults T.stays T.first) (view_of pass) x }
+            × GoesOnFrom (meaning T.entries T.faults T.stays T.first T.tells) (view_of pass) x }
     {
         let mut seat = pass.into_seat();
         let ticket = self.table.shared.fetch_add::<Draw<T>>(&mut seat, DRAWN, 1);
@@ -186,11 +189,12 @@ impl<T: Tally> Turnstile<T> {
             × (seat.old.me
             ≡ (turn_view (waiting_view (view_of p) t) (T.entries x) (T.faults x), (0, y) ∷ []))
             × (T.stays x ≡ p.stays)
-            × GoesOn (meaning T.entries T.faults T.stays T.first) x y }
+            × GoesOn (meaning T.entries T.faults T.stays T.first T.tells) x y
+            × IsToldSo (meaning T.entries T.faults T.stays T.first T.tells) P.piece x y }
         ensures seat { seat.new.table_id ≡ seat.old.table_id }
         ensures view { (y : T) → seat.old.me.1 ≡ (0, y) ∷ []
             → seat.new.me ≡ (
-              view_after (meaning T.entries T.faults T.stays T.first)
+              view_after (meaning T.entries T.faults T.stays T.first T.tells)
                   (A.said answer.now) seat.old.me.0 y,
               [],
             ) }
@@ -260,12 +264,13 @@ impl<T: Tally> Turnstile<T> {
         ensures stays { T.stays result ≡ T.stays self.value }
         ensures seen { All (λ p. IsPrefix p.seen (T.entries result)) passes.items }
         ensures mine { (place : ℕ)
-            → IsAdded (meaning T.entries T.faults T.stays T.first) self.value result place
+            → IsAdded (meaning T.entries T.faults T.stays T.first T.tells) self.value result place
             → IsMadeOnce passes.items place }
-        ensures others { AreAdded (meaning T.entries T.faults T.stays T.first) self.value result passes.items }
+        ensures others { AreAdded (meaning T.entries T.faults T.stays T.first T.tells) self.value result passes.items }
         ensures faults { T.faults self.value ≤ T.faults result }
         ensures stretches { AreBetween (T.faults self.value) (T.faults result) passes.items }
         ensures apart { AreApart passes.items }
+        ensures told { All (λ p. All T.tells p.told) passes.items }
         ensures within { AreWithin (T.faults self.value) (T.faults result) passes.items }
     {
         let Some(last) = passes.pop() else {

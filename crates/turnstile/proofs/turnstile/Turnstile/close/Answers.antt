@@ -1,6 +1,6 @@
 use Rattle.std.proofs.Common.{ap, sym, ◌∙◌, rules}
 use Rattle.turnstile.specs.Meaning.{meaning}
-use Rattle.turnstile.proofs.Closing.{IsEnd, closed_list, closed_seen, closed_mine, closed_others, closed_faults, closed_stretches, closed_apart, closed_within}
+use Rattle.turnstile.proofs.Closing.{IsEnd, closed_list, closed_seen, closed_mine, closed_others, closed_faults, closed_stretches, closed_apart, closed_told, closed_within}
 use Rattle.turnstile.proofs.Gathering.{gathered_more, gathered_table, gathered_all}
 use Rattle.turnstile.proofs.turnstile.Turnstile.close.Given.{Over}
 use Rattle.turnstile.proofs.turnstile.Turnstile.close.Goals as goal
@@ -14,7 +14,7 @@ loop-pass-preserved g c =
     (c.take_in.ensures.seat ∙ inv.0, gathered_more _ _ _ _ _ _ inv.1 c.in-Some-pop.ensures.items c.take_in.ensures.view c.take_in.ensures.fronts)
 
 the_end : (g : Over) (c : goal.After-free g)
-    → IsEnd (meaning g.T.Tally.entries g.T.Tally.faults g.T.Tally.stays g.T.Tally.first) c.args.self.value c.args.self.passes c.args.passes.items c.take-value.result
+    → IsEnd (meaning g.T.Tally.entries g.T.Tally.faults g.T.Tally.stays g.T.Tally.first g.T.Tally.tells) c.args.self.value c.args.self.passes c.args.passes.items c.take-value.result
 the_end g c = gathered_all _ _ _ _ _ _ _ _ _ _ _ _ (sym (ap (λ v. v.value) c.self-2.view_is)) (sym (ap (λ v. v.passes) c.self-2.view_is)) c.loop-pass.invariant.1 (search rules) c.requires.all c.close_with-closed.ensures.values.2 c.take-value.ensures.value
 
 pub returns-clause-list : goal.returns-clause-list
@@ -40,6 +40,9 @@ returns-clause-stretches g c = closed_stretches _ _ _ _ _ (the_end g c)
 
 pub returns-clause-apart : goal.returns-clause-apart
 returns-clause-apart g c = closed_apart _ _ _ _ _ (the_end g c)
+
+pub returns-clause-told : goal.returns-clause-told
+returns-clause-told g c = closed_told _ _ _ _ _ (the_end g c)
 
 pub returns-clause-within : goal.returns-clause-within
 returns-clause-within g c = closed_within _ _ _ _ _ (the_end g c)

@@ -10,11 +10,11 @@ pass_on-requires-clause-value g c =
     let answer = c.act_on-answer.result in
     let y = c.act_on-answer.new.value in
     let acted = at_turn (λ x. FnOnceReturnsAtMut g.F.FnOnce c.args.act x answer y) _ _ _ _ value.2 c.slot_mut.ensures.value c.act_on-answer.ensures in
-    (c.args.pass, value.0, value.1, y, written _ _ _ _ value.2, value.3.stays.0, c.requires.goes_on _ _ _ acted)
+    (c.args.pass, value.0, value.1, y, written _ _ _ _ value.2, value.3.stays.0, c.requires.goes_on _ _ _ acted, c.requires.tells _ _ _ acted)
 
 pub of-requires : goal.of-requires
 of-requires g c =
-    let m = meaning g.T.Tally.entries g.T.Tally.faults g.T.Tally.stays g.T.Tally.first in
+    let m = meaning g.T.Tally.entries g.T.Tally.faults g.T.Tally.stays g.T.Tally.first g.T.Tally.tells in
     let value = c.wait_turn-seat.ensures.value in
     let answer = c.act_on-answer.result in
     let y = c.act_on-answer.new.value in
@@ -23,7 +23,7 @@ of-requires g c =
 
 pub returns : goal.returns
 returns g c =
-    let m = meaning g.T.Tally.entries g.T.Tally.faults g.T.Tally.stays g.T.Tally.first in
+    let m = meaning g.T.Tally.entries g.T.Tally.faults g.T.Tally.stays g.T.Tally.first g.T.Tally.tells in
     let value = c.wait_turn-seat.ensures.value in
     let answer = c.act_on-answer.result in
     let y = c.act_on-answer.new.value in
