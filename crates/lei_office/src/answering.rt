@@ -30,8 +30,8 @@ impl<R: Threads + Sync, K: Keeper> Answers<R> for Office<K> {
     }
 }
 
-// The moment that the clock gives.
-fn moment_of<C: Clock>(clock: &mut C) -> Moment
+/// The moment that the clock gives.
+pub fn moment_of<C: Clock>(clock: &mut C) -> Moment
     ensures range { IsClockMoment result }
     ensures given { Gave (C.given clock.old) (C.given clock.new) (result ∷ []) }
 {

@@ -8,6 +8,7 @@ mod office;
 mod opening;
 mod replaying;
 
+pub use answering::moment_of;
 pub use office::Office;
 pub use opening::OpenFault;
 pub use register_history::Damage;

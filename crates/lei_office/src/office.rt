@@ -9,7 +9,8 @@ ghost use Rattle.relation_rules.specs.Parents.{AreApart, ParentChainsEnd};
 ghost use Rattle.upload_ledger.specs.History.{last_entry};
 ghost use Rattle.register_words.specs.declared.reply.Refusal.TheVariants.{KeeperFault};
 ghost use Rattle.register_words.specs.declared.reply.Reply.TheVariants.{Words};
-ghost use Rattle.register_words.specs.Requests.{IsNumbered};
+ghost use Rattle.register_words.specs.Requests.{IsNumbered, IsUploadNumber};
+ghost use Rattle.register_words.specs.declared.request.Request.TheVariants.{Upload};
 ghost use Rattle.register_words.specs.Limits.{AreLimits};
 ghost use Rattle.register_history.specs.Kept.{Keeps, StaysUntold};
 ghost use Rattle.register_history.specs.Legal.{Legal, MomentsNeverFall, UploadsAreNumbered};
@@ -24,7 +25,7 @@ use crate::opening::{Found, OpenFault, read_store};
 use lei_outside::{KeepFault, Keeper, KeptEntry};
 use lei_shapes::Moment;
 use register_state::Register;
-use register_words::{Limits, Refusal, Reply, Request};
+use register_words::{Call, Limits, Refusal, Reply, Request};
 use std::alloc::Global;
 use std::marker::Model;
 use std::thread::Threads;
@@ -136,6 +137,23 @@ impl<K: Keeper> Office<K> {
         ensures uploads { UploadsAreNumbered self.new.office.history }
     {
         reply_or(self.register.answer(rt, &mut self.keeper, request, moment))
+    }
+
+    /// Answers an upload that came at this moment, as `answer` does its request. The upload is lent, and nothing of it is
+    /// copied but what is kept.
+    pub fn settle(&mut self, call: &Call, moment: Moment) -> Reply
+        requires { IsUploadNumber call.now.number }
+        ensures step { Step self.old.office (Upload call.now) moment result self.new.office }
+        ensures kept { Keeps (K.tables self.new.keeper) self.new.office }
+        ensures untold { StaysUntold (K.tables self.old.keeper) (K.tables self.new.keeper) }
+        ensures crash { CrashStays self.old.office self.new.office (K.tables self.new.keeper) (K.leaves self.old.keeper)
+            (K.leaves self.new.keeper) }
+        ensures count { K.faults self.old.keeper ≤ K.faults self.new.keeper }
+        ensures faultless { ¬ (result ≡ Words KeeperFault) → K.faults self.new.keeper ≡ K.faults self.old.keeper }
+        ensures fault { result ≡ Words KeeperFault → Rose (K.faults self.old.keeper) (K.faults self.new.keeper) }
+        ensures legal { Legal self.new.office }
+    {
+        reply_or(self.register.settle(&mut self.keeper, call, moment))
     }
 }
 

@@ -2,3 +2,4 @@ pub mod Crashing
 pub mod Growing
 pub mod Outcomes
 pub mod Shelved
+pub mod Settling

@@ -110,8 +110,14 @@ impl Books {
         Ok(Decision::Adds(entry, List::from(Vec::new(self.alloc))))
     }
 
+    // Decides an upload.
     #[tactic(auto, unfolding(register_history::specs::Replies::upload_outcome))]
-    fn upload(&self, reader: &mut Reader, call: &Call, moment: Moment) -> Result<Decision, NoMemory>
+    pub fn upload(
+        &self,
+        reader: &mut Reader,
+        call: &Call,
+        moment: Moment,
+    ) -> Result<Decision, NoMemory>
         requires { IsUploadNumber call.now.number }
         ensures decides { Decides self.now (Upload call.now) (upload_outcome self.now call.now moment) result }
         ensures next { AddsNext self.now (Upload call.now) result }

@@ -6,7 +6,8 @@ ghost use Rattle.upload_ledger.specs.Limits.{AreFew};
 ghost use Rattle.register_words.specs.declared.reply.Refusal.TheVariants.{KeeperFault};
 ghost use Rattle.register_words.specs.declared.reply.Reply.TheVariants.{Words};
 ghost use Rattle.register_words.specs.Limits.{AreLimits};
-ghost use Rattle.register_words.specs.Requests.{IsNumbered};
+ghost use Rattle.register_words.specs.Requests.{IsNumbered, IsUploadNumber};
+ghost use Rattle.register_words.specs.declared.request.Request.TheVariants.{Upload};
 ghost use Rattle.register_history.specs.Kept.{Keeps, StaysUntold};
 ghost use Rattle.register_history.specs.Legal.{Legal};
 ghost use Rattle.register_history.specs.Register.{held_after};
@@ -23,7 +24,7 @@ use crate::decision::Decision;
 use golden_shelf::Shelf;
 use lei_outside::{KeepFault, Keeper, KeptCell, KeptEntry, List, NoMemory};
 use lei_shapes::Moment;
-use register_words::{Limits, Reply, Request};
+use register_words::{Call, Limits, Reply, Request};
 use std::alloc::Global;
 use std::marker::Model;
 use std::thread::Threads;
@@ -127,6 +128,36 @@ impl Register {
                     }
                 }
             }
+            Err(NoMemory) => Err(KeepFault::NoMemory),
+        }
+    }
+
+    /// Answers an upload that came at this moment, as `answer` does its request. Nothing has to be copied for that.
+    pub fn settle<K: Keeper>(
+        &mut self,
+        keeper: &mut K,
+        call: &Call,
+        moment: Moment,
+    ) -> Result<Reply, KeepFault>
+        requires numbered { IsUploadNumber call.now.number }
+        requires kept { Keeps (K.tables keeper.old) self.old }
+        ensures step { Step self.old (Upload call.now) moment (reply_or result) self.new }
+        ensures legal { Legal self.new }
+        ensures kept { Keeps (K.tables keeper.new) self.new }
+        ensures untold { StaysUntold (K.tables keeper.old) (K.tables keeper.new) }
+        ensures crash { CrashStays self.old self.new (K.tables keeper.new) (K.leaves keeper.old) (K.leaves keeper.new) }
+        ensures reply { IfOk result (λ reply. ¬ (reply ≡ Words KeeperFault)) }
+        ensures count { K.faults keeper.old ≤ K.faults keeper.new }
+        ensures faultless { ¬ (IsErrOf result KeepFault.Failed) → K.faults keeper.new ≡ K.faults keeper.old }
+        ensures failed { IsErrOf result KeepFault.Failed → Rose (K.faults keeper.old) (K.faults keeper.new) }
+    {
+        let moment = self.books.stamp(moment);
+        match self.books.upload(&mut self.reader, call, moment) {
+            Ok(Decision::Stays(reply)) => Ok(reply),
+            Ok(Decision::Adds(entry, writes)) => match self.books.add(keeper, entry, &writes) {
+                Ok(reply) => Ok(reply),
+                Err(fault) => Err(fault),
+            },
             Err(NoMemory) => Err(KeepFault::NoMemory),
         }
     }

@@ -1,0 +1,75 @@
+-- Passes and a hall as contracts see them.
+use Rattle.std.specs.Prelude.{ℕ, ℤ, ◌+◌, ◌≤◌, ◌<◌, List, [], ◌∷◌, length, map, get_or}
+use Rattle.atomic_table.specs.Seated.{TableId}
+use Rattle.lei_outside.specs.declared.entry.KeptEntry.{KeptEntry}
+use Rattle.register_words.specs.declared.limits.Limits.{Limits}
+use Rattle.register_words.specs.declared.reply.Reply.{Reply}
+use Rattle.register_words.specs.declared.request.Request.{Request}
+use Rattle.register_history.specs.State.{OfficeState, office_of}
+use Rattle.request_loop.specs.Counts.{RoseBy}
+use Rattle.lei_office.specs.Faults.{keeper_faults}
+use Rattle.lei_office.specs.Offices.{KeptOffice}
+use Rattle.turnstile.specs.Lists.{total}
+use Rattle.turnstile.specs.Passes.{PassView}
+use Rattle.turnstile.specs.declared.view.Member.{Member}
+use Rattle.lei_hall.specs.declared.answers.Told.{Told}
+
+-- A hall: which table its passes are for, the office that it was opened with, and how many passes there are.
+pub record HallView (K : Type 0) : Type 0 where
+  pub table : TableId
+  pub office : KeptOffice K
+  pub passes : ℕ
+
+-- ---- the limits of an office, which stay
+
+-- The limits as four numbers.
+abbrev pub numbers_of : Limits → List ℕ
+numbers_of limits = limits.body ∷ limits.kept ∷ limits.entries ∷ limits.records ∷ []
+
+-- The limits that these numbers are.
+abbrev pub limits_of : List ℕ → Limits
+limits_of numbers = record {
+  body = get_or numbers 0 0;
+  kept = get_or numbers 1 0;
+  entries = get_or numbers 2 0;
+  records = get_or numbers 3 0;
+}
+
+-- ---- passes
+
+-- A pass: the table that it is for, its number, the history that it has seen, the places of its own entries,
+-- what it was told, and the limits of the office as the numbers that stay.
+abbrev pub HallPass : Type 0
+HallPass = PassView KeptEntry Told
+
+-- The office that a pass has seen.
+abbrev pub seen_by : HallPass → OfficeState
+seen_by pass = office_of (limits_of pass.stays) pass.seen
+
+-- A request came at a moment, and got this reply.
+abbrev pub told : Request → ℤ → Reply → Told
+told request moment reply = record { request = request; moment = moment; reply = reply }
+
+-- What a pass is told in a turn: request, moment and reply, the length of the history before the turn, and
+-- the keeper's counts of faults at the turn's start and at its end.
+abbrev pub member : Request → ℤ → Reply → ℕ → ℕ → ℕ → Member Told
+member request moment reply at from to =
+    record { piece = told request moment reply; at = at; from = from; to = to }
+
+-- If the reply is KEEPER_FAULT, the keeper's count of faults rose in the turn, or stands at its last value.
+abbrev pub ReportsSo : Member Told → Type 0
+ReportsSo t = RoseBy (keeper_faults (t.piece.reply ∷ [])) t.from t.to
+
+-- How many replies that a pass was told are KEEPER_FAULT.
+abbrev pub pass_faults : HallPass → ℕ
+pass_faults pass = total (λ t. keeper_faults (t.piece.reply ∷ [])) pass.told
+
+-- How many replies that the passes were told are KEEPER_FAULT.
+abbrev pub faults_told : List HallPass → ℕ
+faults_told passes = total pass_faults passes
+
+-- ---- places
+
+-- The place of an entry that came after the first history and is in the second. Places are counted from 1.
+abbrev pub IsNewPlace : OfficeState → OfficeState → ℕ → Type 0
+IsNewPlace opened closed place = (1 + length opened.history ≤ place) × (place < 1 + length closed.history)

@@ -1,0 +1,88 @@
+//! What passes are told.
+ghost use Rattle.std.specs.Prelude.{◌≡◌};
+ghost use Rattle.register_words.specs.Requests.{IsNumbered, IsUploadNumber};
+ghost use Rattle.register_words.specs.declared.request.Request.TheVariants.{Upload};
+ghost use Rattle.lei_hall.specs.Turns.{Answers};
+
+use crate::slot::Slot;
+use lei_office::{Call, Reply, Request};
+use lei_outside::Keeper;
+use lei_shapes::Moment;
+use std::thread::Threads;
+use turnstile::Said;
+
+/// What a pass is told in a turn: the request, the moment at which it came, and the reply. Contracts alone
+/// see it: no value of this type is made.
+pub struct Told {
+    pub request: Request,
+    pub moment: Moment,
+    pub reply: Reply,
+}
+
+// The reply to a request that came at this moment.
+#[derive(Drop)]
+pub struct Answer<'a> {
+    pub request: &'a Request,
+    pub moment: Moment,
+    pub reply: Reply,
+}
+
+impl<'a> Said for Answer<'a> {
+    ghost use Rattle.std.specs.Prelude.{Some};
+    ghost use Rattle.lei_hall.specs.Passes.{told};
+
+    type Told = Told;
+
+    ghost said = { λ a. Some (told a.request.now a.moment a.reply) };
+}
+
+// The reply to an upload that came at this moment.
+#[derive(Drop)]
+pub struct Settled<'a> {
+    pub call: &'a Call,
+    pub moment: Moment,
+    pub reply: Reply,
+}
+
+impl<'a> Said for Settled<'a> {
+    ghost use Rattle.std.specs.Prelude.{Some};
+    ghost use Rattle.register_words.specs.declared.request.Request.TheVariants.{Upload};
+    ghost use Rattle.lei_hall.specs.Passes.{told};
+
+    type Told = Told;
+
+    ghost said = { λ a. Some (told (Upload a.call.now) a.moment a.reply) };
+}
+
+// Puts a request to the office.
+pub fn put_request<'a, K: Keeper, R: Threads + Sync>(
+    rt: &R,
+    slot: &mut Slot<K>,
+    request: &'a Request,
+    moment: Moment,
+) -> Answer<'a>
+    requires { IsNumbered request.now }
+    ensures asked { (result.request.now ≡ request.now) × (result.moment ≡ moment) }
+    ensures answers { Answers K.faults slot.old.office request.now moment result.reply slot.new.office }
+{
+    let reply = slot.office.answer(rt, request, moment);
+    Answer {
+        request,
+        moment,
+        reply,
+    }
+}
+
+// Settles an upload with the office.
+pub fn settle_call<'a, K: Keeper>(slot: &mut Slot<K>, call: &'a Call, moment: Moment) -> Settled<'a>
+    requires { IsUploadNumber call.now.number }
+    ensures asked { (result.call.now ≡ call.now) × (result.moment ≡ moment) }
+    ensures answers { Answers K.faults slot.old.office (Upload call.now) moment result.reply slot.new.office }
+{
+    let reply = slot.office.settle(call, moment);
+    Settled {
+        call,
+        moment,
+        reply,
+    }
+}
