@@ -17,7 +17,8 @@ use Rattle.issuer_http.specs.declared.ended.HttpEnd.{HttpEnd}
 abbrev pub end_of : Bool → Option HttpEnd
 end_of last = if last then Some HttpEnd.Closed else None
 
--- What the whole request at the front of the bytes wants: what it asks, and whether its connection ends with the answer.
+-- What the whole request at the front of the bytes wants: what it asks, and whether its connection ends with the
+-- answer.
 abbrev pub want_of : List ℕ → Head → Want Asked HttpEnd
 want_of bytes head = record { asked = asked_in bytes head; ends = end_of head.last }
 
@@ -34,15 +35,16 @@ after_request bytes head = drop (size_of head) bytes
 abbrev pub IsFrame : List ℕ → Option (Want Asked HttpEnd) → List ℕ → Type 0
 IsFrame bytes None rest = ⊥
 IsFrame bytes (Some want) rest =
-    ((head : Head) × IsRead bytes (HeadRead.Whole head) × (want ≡ want_of bytes head) × (rest ≡ after_request bytes head))
+    ((head : Head) × IsRead bytes (HeadRead.Whole head) × (want ≡ want_of bytes head)
+    × (rest ≡ after_request bytes head))
     ⊎ ((fault : Refusal) × IsRead bytes (HeadRead.Bad fault) × (want ≡ refusal_want fault) × (rest ≡ bytes))
 
 -- There are no bytes, or they begin a request that isn't whole yet.
 abbrev pub NeedsMore : List ℕ → Type 0
 NeedsMore bytes = (bytes ≡ []) ⊎ IsRead bytes HeadRead.More
 
--- The frames of a connection. Bytes that begin a request want nothing where the input ends with them, and a response tells
--- whether the connection ends after it.
+-- The frames of a connection. Bytes that begin a request want nothing where the input ends with them, and a response
+-- tells whether the connection ends after it.
 abbrev pub http_rules : Rules Asked Reply HttpEnd
 http_rules = record {
   whole = IsFrame;

@@ -12,8 +12,8 @@ answer_of bytes HeadRead.More = HttpRead.More
 answer_of bytes (HeadRead.Bad fault) = HttpRead.Bad fault
 answer_of bytes (HeadRead.Whole head) = HttpRead.One (asked_in bytes head) (size_of head) head.last
 
--- The answer tells what is read at the front of the bytes: a whole request; or a head that is refused; or that more bytes
--- are needed.
+-- The answer tells what is read at the front of the bytes: a whole request; or a head that is refused; or that more
+-- bytes are needed.
 abbrev pub IsNext : List ℕ → HttpRead → Type 0
 IsNext bytes answer = (read : HeadRead) × IsRead bytes read × (answer ≡ answer_of bytes read)
 

@@ -37,7 +37,8 @@ ended_of loop.Ended.NoMemory = Ended.NoMemory
 
 -- What serving does where these are the steps of who answers: it takes bytes from the link, answers the requests that
 -- they are, and ends.
-abbrev pub ServesBy : {A : Type 0} → (A → Asked → List ℤ → Reply → A → Type 0) → any.Progress A → Option (List ℕ)
+abbrev pub ServesBy : {A : Type 0} → (A → Asked → List ℤ → Reply → A → Type 0) → any.Progress A
+    → Option (List ℕ)
     → any.Progress A → Option (List ℕ) → Ended → Type 0
 ServesBy step before left after left_now ended =
     (end : loop.Ended HttpEnd) × (ended ≡ ended_of end)
@@ -46,10 +47,12 @@ ServesBy step before left after left_now ended =
 -- What comes of a link that has these bytes left, where neither of its sides fails and memory is never wanting: they
 -- were all taken, and all whole requests answered, or those up to the first that asks to close or whose head is
 -- refused; or they are as many as end a connection.
-abbrev pub CompletesBy : {A : Type 0} → (A → Asked → List ℤ → Reply → A → Type 0) → Ended → any.Progress A → List ℕ
+abbrev pub CompletesBy : {A : Type 0} → (A → Asked → List ℤ → Reply → A → Type 0) → Ended
+    → any.Progress A → List ℕ
     → any.Progress A → Type 0
 CompletesBy step ended before bytes after =
-    (end : loop.Ended HttpEnd) × (ended ≡ ended_of end) × any.Completes step http_rules input_limit end before bytes after
+    (end : loop.Ended HttpEnd) × (ended ≡ ended_of end)
+    × any.Completes step http_rules input_limit end before bytes after
 
 -- ---- an office
 

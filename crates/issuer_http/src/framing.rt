@@ -18,7 +18,8 @@ use matchit::Router;
 use request_loop::{Framing, Front, Want, Wire};
 use std::alloc::Global;
 
-/// Reads the requests of a connection, and writes the responses. It keeps the head of a request whose body isn't whole yet.
+/// Reads the requests of a connection, and writes the responses. It keeps the head of a request whose body isn't whole
+/// yet.
 #[derive(Drop)]
 pub struct HttpFraming<'r> {
     reader: RequestReader<'r>,
@@ -74,8 +75,8 @@ fn is_there(head: &Head, size: usize) -> bool
     head.size <= size && head.body <= size - head.size
 }
 
-// What the whole request at the front of the bytes asks, whose body is copied once. Where there is no memory for that, its
-// refusal.
+// What the whole request at the front of the bytes asks, whose body is copied once. Where there is no memory for that,
+// its refusal.
 fn read_or_refused(reader: RequestReader<'_>, bytes: &[u8], head: &Head) -> Asked
     requires routes { reader.router.now ≡ routes }
     requires read { IsRead bytes.now (HeadRead.Whole head.now) }

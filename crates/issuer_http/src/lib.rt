@@ -1,4 +1,5 @@
-//! The register over HTTP: the requests that bytes begin with, the responses to them, and a connection that is served alone.
+//! The register over HTTP: the requests that bytes begin with, the responses to them, and a connection that is served
+//! alone.
 #![tactic(auto)]
 
 mod ended;

@@ -18,8 +18,8 @@ use std::alloc::Global;
 pub enum HttpRead {
     /// No request is whole yet.
     More,
-    /// A whole request: what it asks, or the refusal that is its reply; how many bytes it takes; and whether the connection
-    /// is to be closed after the answer.
+    /// A whole request: what it asks, or the refusal that is its reply; how many bytes it takes; and whether the
+    /// connection is to be closed after the answer.
     One {
         asked: Asked,
         used: usize,
@@ -78,8 +78,8 @@ pub struct RequestReader<'r> {
     pub router: &'r Router<Place>,
 }
 
-/// What the whole request at the front of the bytes asks. Its one error is want of memory for the body of an upload, which is
-/// copied once.
+/// What the whole request at the front of the bytes asks. Its one error is want of memory for the body of an upload,
+/// which is copied once.
 pub fn asked_in(reader: RequestReader<'_>, bytes: &[u8], head: &Head) -> Result<Asked, NoMemory>
     requires routes { reader.router.now ≡ routes }
     requires read { IsRead bytes.now (HeadRead.Whole head.now) }

@@ -43,7 +43,8 @@ pub fn send_response<L: Link>(
 ) -> Result<(), SinkFault>
     ensures sent { IsSent (L.written link.old) (L.written link.new) (response_bytes last reply.now) result }
     ensures kept { ¬ (IsErrOf result SinkFault.Failed) → L.write_faults link.new ≡ L.write_faults link.old }
-    ensures failed { IsErrOf result SinkFault.Failed → Rose (L.write_faults link.old) (L.write_faults link.new) }
+    ensures failed { IsErrOf result SinkFault.Failed
+        → Rose (L.write_faults link.old) (L.write_faults link.new) }
     ensures left { L.left link.new ≡ L.left link.old }
     ensures read_count { L.read_faults link.new ≡ L.read_faults link.old }
 {
@@ -89,7 +90,8 @@ fn send_refusal<L: Wire>(
     last: bool,
     refusal: Refusal,
 ) -> Result<(), SinkFault>
-    ensures sent { IsSent (L.written link.old) (L.written link.new) (response_bytes last (Reply.Words refusal)) result }
+    ensures sent { IsSent (L.written link.old) (L.written link.new)
+        (response_bytes last (Reply.Words refusal)) result }
     ensures kept { ¬ (IsErrOf result SinkFault.Failed) → L.write_faults link.new ≡ L.write_faults link.old }
     ensures failed { IsErrOf result SinkFault.Failed →
         FailsLast (told_by L.left L.written) L.write_faults link.old link.new }
@@ -117,7 +119,8 @@ fn send<L: Wire>(
     response: &Response,
     text: &[u8],
 ) -> Result<(), SinkFault>
-    ensures sent { IsSent (L.written link.old) (L.written link.new) (response_head response.now ++ text.now) result }
+    ensures sent { IsSent (L.written link.old) (L.written link.new)
+        (response_head response.now ++ text.now) result }
     ensures kept { ¬ (IsErrOf result SinkFault.Failed) → L.write_faults link.new ≡ L.write_faults link.old }
     ensures failed { IsErrOf result SinkFault.Failed →
         FailsLast (told_by L.left L.written) L.write_faults link.old link.new }

@@ -21,9 +21,9 @@ use std::thread::Threads;
 /// The bytes of a connection at which it ends. This project's profile.
 pub const MAX_INPUT: usize = 1_073_741_824;
 
-/// Serves one connection: reads requests from the link, puts them to the office one after the other, and writes the response
-/// to each before the next is put. The clock is asked for one moment for each request that is put to the office, after its
-/// bytes were read.
+/// Serves one connection: reads requests from the link, puts them to the office one after the other, and writes the
+/// response to each before the next is put. The clock is asked for one moment for each request that is put to the
+/// office, after its bytes were read.
 pub fn serve_alone<R: Threads + Sync, K: Keeper, L: Link, C: Clock>(
     rt: &R,
     alloc: Global,
@@ -39,8 +39,10 @@ pub fn serve_alone<R: Threads + Sync, K: Keeper, L: Link, C: Clock>(
         result }
     ensures read_fault { result ≡ Ended.ReadFault → Rose (L.read_faults link.old) (L.read_faults link.new) }
     ensures no_read_fault { ¬ (result ≡ Ended.ReadFault) → L.read_faults link.new ≡ L.read_faults link.old }
-    ensures write_fault { result ≡ Ended.WriteFault → Rose (L.write_faults link.old) (L.write_faults link.new) }
-    ensures no_write_fault { ¬ (result ≡ Ended.WriteFault) → L.write_faults link.new ≡ L.write_faults link.old }
+    ensures write_fault { result ≡ Ended.WriteFault
+        → Rose (L.write_faults link.old) (L.write_faults link.new) }
+    ensures no_write_fault { ¬ (result ≡ Ended.WriteFault)
+        → L.write_faults link.new ≡ L.write_faults link.old }
     ensures complete { (bytes : List ℕ) → L.left link.old ≡ Some bytes → ¬ (result ≡ Ended.NoMemory)
         → ¬ (Rose (L.read_faults link.old) (L.read_faults link.new))
         → ¬ (Rose (L.write_faults link.old) (L.write_faults link.new))
@@ -74,8 +76,10 @@ pub fn serve_with<R: Threads + Sync, K: Keeper, L: Link, C: Clock>(
         result }
     ensures read_fault { result ≡ Ended.ReadFault → Rose (L.read_faults link.old) (L.read_faults link.new) }
     ensures no_read_fault { ¬ (result ≡ Ended.ReadFault) → L.read_faults link.new ≡ L.read_faults link.old }
-    ensures write_fault { result ≡ Ended.WriteFault → Rose (L.write_faults link.old) (L.write_faults link.new) }
-    ensures no_write_fault { ¬ (result ≡ Ended.WriteFault) → L.write_faults link.new ≡ L.write_faults link.old }
+    ensures write_fault { result ≡ Ended.WriteFault
+        → Rose (L.write_faults link.old) (L.write_faults link.new) }
+    ensures no_write_fault { ¬ (result ≡ Ended.WriteFault)
+        → L.write_faults link.new ≡ L.write_faults link.old }
     ensures complete { (bytes : List ℕ) → L.left link.old ≡ Some bytes → ¬ (result ≡ Ended.NoMemory)
         → ¬ (Rose (L.read_faults link.old) (L.read_faults link.new))
         → ¬ (Rose (L.write_faults link.old) (L.write_faults link.new))
@@ -104,8 +108,10 @@ fn serve_by<R, A: Answers<R, Asked = Asked, Reply = Reply>, L: Link, C: Clock>(
         (progress_of who.new (C.given clock.new) (L.written link.new)) (L.left link.new) result }
     ensures read_fault { result ≡ Ended.ReadFault → Rose (L.read_faults link.old) (L.read_faults link.new) }
     ensures no_read_fault { ¬ (result ≡ Ended.ReadFault) → L.read_faults link.new ≡ L.read_faults link.old }
-    ensures write_fault { result ≡ Ended.WriteFault → Rose (L.write_faults link.old) (L.write_faults link.new) }
-    ensures no_write_fault { ¬ (result ≡ Ended.WriteFault) → L.write_faults link.new ≡ L.write_faults link.old }
+    ensures write_fault { result ≡ Ended.WriteFault
+        → Rose (L.write_faults link.old) (L.write_faults link.new) }
+    ensures no_write_fault { ¬ (result ≡ Ended.WriteFault)
+        → L.write_faults link.new ≡ L.write_faults link.old }
     ensures complete { (bytes : List ℕ) → L.left link.old ≡ Some bytes → ¬ (result ≡ Ended.NoMemory)
         → ¬ (Rose (L.read_faults link.old) (L.read_faults link.new))
         → ¬ (Rose (L.write_faults link.old) (L.write_faults link.new))

@@ -173,7 +173,8 @@ impl<K: Keeper> Hall<K> {
         ensures faults { K.faults self.office.keeper ≤ K.faults result.keeper }
         ensures stretches { AreBetween (K.faults self.office.keeper) (K.faults result.keeper) passes.items }
         ensures apart { AreApart passes.items }
-        ensures refuses { RoseBy (faults_told passes.items) (K.faults self.office.keeper) (K.faults result.keeper) }
+        ensures refuses { RoseBy (faults_told passes.items) (K.faults self.office.keeper)
+            (K.faults result.keeper) }
     {
         let Hall { turnstile } = self;
         let office = office_in(turnstile.close(passes));

@@ -33,7 +33,8 @@ MayBeAsked (Refuse refusal) = refusal_status_code refusal ≢ 503
 
 -- What was asked got this reply, at these moments, by one step from one office to the other. The reply is KEEPER_FAULT
 -- only where a call of the keeper failed. If the keeper tells its tables after the step, it told them before.
-pub record OfficeStep (old : CountedOffice) (asked : Asked) (moments : List ℤ) (reply : Reply) (new : CountedOffice) : Type 0
+pub record OfficeStep (old : CountedOffice) (asked : Asked) (moments : List ℤ) (reply : Reply)
+    (new : CountedOffice) : Type 0
   where
     pub made : AskStep old.office asked moments reply new.office
     pub refuses : RoseBy (keeper_faults (reply ∷ [])) old.faults new.faults

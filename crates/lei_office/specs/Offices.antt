@@ -30,5 +30,6 @@ FaultRose before now (NoMemory keeper) = now ≡ before
 -- Where a store is told to be damaged and its keeper tells its tables, this is their first difference.
 abbrev pub IsRefused : {K : Type 0} → Limits → (K → Option KeptTables) → OpenFault K → Type 0
 IsRefused limits tables (KeeperFault keeper) = ⊤
-IsRefused limits tables (StoreDamaged keeper damage) = IfSome (tables keeper) (λ told. IsDamage limits told damage)
+IsRefused limits tables (StoreDamaged keeper damage) = IfSome (tables keeper)
+    (λ told. IsDamage limits told damage)
 IsRefused limits tables (NoMemory keeper) = ⊤

@@ -19,7 +19,8 @@ use Rattle.register_state.specs.declared.decision.Decision.TheVariants.{Adds, St
 use Rattle.lei_office.specs.declared.opening.Found.{Found}
 use Rattle.lei_office.specs.declared.opening.Found.TheVariants.{Damaged, Sound}
 
--- What is told where this is decided in the place of a stored entry: the words of a reply, or the line of another entry.
+-- What is told where this is decided in the place of a stored entry: the words of a reply, or the line of another
+-- entry.
 abbrev pub decision_text : Decision → Text
 decision_text (Stays reply) = reply_words reply
 decision_text (Adds e list) = entry_line e
@@ -30,8 +31,8 @@ abbrev pub Replays : OfficeState → KeptEntry → OfficeState → Option Text �
 Replays before e after None = IsNext before e × (after ≡ with_entry before e)
 Replays before e after (Some text) = (IsNext before e → ⊥) × (text ≡ replayed before e)
 
--- What differs where a stored entry of the next number should be: none up to the last number of a page is stored, or this
--- is stored first.
+-- What differs where a stored entry of the next number should be: none up to the last number of a page is stored, or
+-- this is stored first.
 abbrev pub NextDiffers : OfficeState → ℕ → ℕ → History → Damage → Type 0
 NextDiffers office number upto [] damage = (number ≤ upto) × (damage ≡ missing number)
 NextDiffers office number upto (e ∷ rest) damage = EntryDiffers office number e damage
@@ -43,7 +44,8 @@ pub record IsPageDamage (limits : Limits) (before page : History) (upto : ℕ) (
   pub rest : History
   pub are : page ≡ front ++ rest
   pub legal : Legal (office_of limits (before ++ front))
-  pub differs : NextDiffers (office_of limits (before ++ front)) (length (before ++ front) + 1) upto rest damage
+  pub differs : NextDiffers (office_of limits (before ++ front)) (length (before ++ front) + 1)
+      upto rest damage
 
 -- The stored entries of a page were replayed: all of them lead on a legal history up to the number; or the first that
 -- differs was found.
@@ -63,8 +65,8 @@ abbrev pub Compares : List KeptCell → List KeptCell → Option Damage → Type
 Compares kept made None = kept ≡ made
 Compares kept made (Some damage) = DifferFirst kept made damage
 
--- A store was read: its entries are a legal history under these limits whose tables the keeper tells; or this is damage of
--- the tables that the keeper tells.
+-- A store was read: its entries are a legal history under these limits whose tables the keeper tells; or this is damage
+-- of the tables that the keeper tells.
 abbrev pub IsRead : Limits → Option KeptTables → OfficeState → Option Damage → Type 0
 IsRead limits told office None = (office.limits ≡ limits) × Legal office × Keeps told office
 IsRead limits told office (Some damage) = IfSome told (λ tables. IsDamage limits tables damage)
@@ -74,7 +76,8 @@ abbrev pub IsFound : Limits → Option KeptTables → Found → Type 0
 IsFound limits told (Sound register) = IsRead limits told register None
 IsFound limits told (Damaged damage) = IfSome told (λ tables. IsDamage limits tables damage)
 
--- All pages of cells are the same, so that the keeper tells the cells of the register; or the first difference was found.
+-- All pages of cells are the same, so that the keeper tells the cells of the register; or the first difference was
+-- found.
 abbrev pub AllCompare : OfficeState → Option KeptTables → Option Damage → Type 0
 AllCompare office told None =
     IfSome told (λ tables. AreCellsOf (held_after office.limits office.history) tables.cells)

@@ -30,8 +30,8 @@ use std::alloc::Global;
 use std::marker::Model;
 use std::thread::Threads;
 
-/// The register of one caller at a time, over a keeper of what it takes. Contracts see it as its limits with its history,
-/// the list of the entries that it took, and beside them the keeper.
+/// The register of one caller at a time, over a keeper of what it takes. Contracts see it as its limits with its
+/// history, the list of the entries that it took, and beside them the keeper.
 #[derive(Drop)]
 pub struct Office<K: Keeper> {
     register: Register,
@@ -52,8 +52,8 @@ impl<K: Keeper> Model for Office<K> {
 
 impl<K: Keeper> Office<K> {
     /// The office of what a keeper has kept, which has to be what a history leaves under these limits. The entries are
-    /// read and replayed, and then the cells compared, in pages of 16 entries. Where it can't be opened, the keeper comes
-    /// back.
+    /// read and replayed, and then the cells compared, in pages of 16 entries. Where it can't be opened, the keeper
+    /// comes back.
     pub fn open<R: Threads + Sync>(
         rt: &R,
         alloc: Global,
@@ -64,8 +64,10 @@ impl<K: Keeper> Office<K> {
         ensures limits { IfOk result (λ opened. opened.office.limits ≡ limits) }
         ensures legal { IfOk result (λ opened. Legal opened.office) }
         ensures sound { IfOk result (λ opened. IsSound (after opened.office.limits opened.office.history)) }
-        ensures chained { IfOk result (λ opened. SuccessorChainsEnd (after opened.office.limits opened.office.history)) }
-        ensures parents { IfOk result (λ opened. ParentChainsEnd (after opened.office.limits opened.office.history)) }
+        ensures chained { IfOk result
+            (λ opened. SuccessorChainsEnd (after opened.office.limits opened.office.history)) }
+        ensures parents { IfOk result
+            (λ opened. ParentChainsEnd (after opened.office.limits opened.office.history)) }
         ensures apart { IfOk result (λ opened. AreApart (after opened.office.limits opened.office.history)) }
         ensures permitted { IfOk result (λ opened. ChangesArePermitted opened.office) }
         ensures moments { IfOk result (λ opened. MomentsNeverFall opened.office.history) }
@@ -76,8 +78,10 @@ impl<K: Keeper> Office<K> {
         ensures faultless { IfOk result (λ opened. K.faults opened.keeper ≡ K.faults keeper) }
         ensures refused { IfErr result (IsRefused limits K.tables) }
         ensures back { IfErr result (λ fault. Stays (K.tables keeper) (K.tables (keeper_back fault))) }
-        ensures back_crash { IfErr result (λ fault. LeavesNoMore (K.leaves keeper) (K.leaves (keeper_back fault))) }
-        ensures failed { IfErr result (λ fault. FaultRose (K.faults keeper) (K.faults (keeper_back fault)) fault) }
+        ensures back_crash { IfErr result
+            (λ fault. LeavesNoMore (K.leaves keeper) (K.leaves (keeper_back fault))) }
+        ensures failed { IfErr result
+            (λ fault. FaultRose (K.faults keeper) (K.faults (keeper_back fault)) fault) }
     {
         match read_store(rt, alloc, limits, &mut keeper) {
             Ok(Found::Sound(register)) => Ok(Office { register, keeper }),
@@ -115,18 +119,21 @@ impl<K: Keeper> Office<K> {
     }
 
     /// Answers a request that came at this moment, by one step of the history. An entry that is added has the
-    /// moment, or that of the last entry where it is later, and is kept before it is answered. A repeat of an upload gets
-    /// the answer that was kept.
+    /// moment, or that of the last entry where it is later, and is kept before it is answered. A repeat of an upload
+    /// gets the answer that was kept.
     pub fn answer<R: Threads + Sync>(&mut self, rt: &R, request: &Request, moment: Moment) -> Reply
         requires { IsNumbered request.now }
         ensures step { Step self.old.office request.now moment result self.new.office }
         ensures kept { Keeps (K.tables self.new.keeper) self.new.office }
         ensures untold { StaysUntold (K.tables self.old.keeper) (K.tables self.new.keeper) }
-        ensures crash { CrashStays self.old.office self.new.office (K.tables self.new.keeper) (K.leaves self.old.keeper)
+        ensures crash { CrashStays self.old.office self.new.office (K.tables self.new.keeper)
+            (K.leaves self.old.keeper)
             (K.leaves self.new.keeper) }
         ensures count { K.faults self.old.keeper ≤ K.faults self.new.keeper }
-        ensures faultless { ¬ (result ≡ Words KeeperFault) → K.faults self.new.keeper ≡ K.faults self.old.keeper }
-        ensures fault { result ≡ Words KeeperFault → Rose (K.faults self.old.keeper) (K.faults self.new.keeper) }
+        ensures faultless { ¬ (result ≡ Words KeeperFault)
+            → K.faults self.new.keeper ≡ K.faults self.old.keeper }
+        ensures fault { result ≡ Words KeeperFault
+            → Rose (K.faults self.old.keeper) (K.faults self.new.keeper) }
         ensures legal { Legal self.new.office }
         ensures sound { IsSound (after self.new.office.limits self.new.office.history) }
         ensures chained { SuccessorChainsEnd (after self.new.office.limits self.new.office.history) }
@@ -139,18 +146,21 @@ impl<K: Keeper> Office<K> {
         reply_or(self.register.answer(rt, &mut self.keeper, request, moment))
     }
 
-    /// Answers an upload that came at this moment, as `answer` does its request. The upload is lent, and nothing of it is
-    /// copied but what is kept.
+    /// Answers an upload that came at this moment, as `answer` does its request. The upload is lent, and nothing of it
+    /// is copied but what is kept.
     pub fn settle(&mut self, call: &Call, moment: Moment) -> Reply
         requires { IsUploadNumber call.now.number }
         ensures step { Step self.old.office (Upload call.now) moment result self.new.office }
         ensures kept { Keeps (K.tables self.new.keeper) self.new.office }
         ensures untold { StaysUntold (K.tables self.old.keeper) (K.tables self.new.keeper) }
-        ensures crash { CrashStays self.old.office self.new.office (K.tables self.new.keeper) (K.leaves self.old.keeper)
+        ensures crash { CrashStays self.old.office self.new.office (K.tables self.new.keeper)
+            (K.leaves self.old.keeper)
             (K.leaves self.new.keeper) }
         ensures count { K.faults self.old.keeper ≤ K.faults self.new.keeper }
-        ensures faultless { ¬ (result ≡ Words KeeperFault) → K.faults self.new.keeper ≡ K.faults self.old.keeper }
-        ensures fault { result ≡ Words KeeperFault → Rose (K.faults self.old.keeper) (K.faults self.new.keeper) }
+        ensures faultless { ¬ (result ≡ Words KeeperFault)
+            → K.faults self.new.keeper ≡ K.faults self.old.keeper }
+        ensures fault { result ≡ Words KeeperFault
+            → Rose (K.faults self.old.keeper) (K.faults self.new.keeper) }
         ensures legal { Legal self.new.office }
     {
         reply_or(self.register.settle(&mut self.keeper, call, moment))

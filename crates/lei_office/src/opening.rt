@@ -56,8 +56,8 @@ pub fn read_store<K: Keeper, R: Threads + Sync>(
     }
 }
 
-// Replays all stored entries, of which the last has this number, and compares the cells with those that they leave. Says
-// the first difference.
+// Replays all stored entries, of which the last has this number, and compares the cells with those that they leave.
+// Says the first difference.
 fn replay_store<K: Keeper, R: Threads + Sync>(
     rt: &R,
     alloc: Global,

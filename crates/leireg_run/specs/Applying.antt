@@ -38,7 +38,8 @@ TellsAnswer answer before after status =
 -- What comes of a copy and a delta was told; or nothing was written, since memory was wanted for the new copy.
 abbrev pub TellsOf : Sheet → Form → Text → Text → Option (List ℕ) → Option (List ℕ) → ℕ → Type 0
 TellsOf sheet form copy delta before after status =
-    ((answer : Result Text ApplyFault) × IsAnswer copy delta sheet form answer × TellsAnswer answer before after status)
+    ((answer : Result Text ApplyFault) × IsAnswer copy delta sheet form answer
+    × TellsAnswer answer before after status)
     ⊎ ((status ≡ 6) × (after ≡ before))
 
 -- ---- what is read
@@ -60,7 +61,8 @@ AreLeft before after stop =
     ⊎ ((copy : List ℕ) × IsReadWhole before.copy after.copy copy × IsFileStop before.delta after.delta stop)
 
 -- A read of one of two sources failed, and nothing was read behind it; no read of the other one failed.
-abbrev pub FailsOneOf : {S T : Type 0} → (S → Option (List ℕ)) → (S → ℕ) → S → S → (T → Option (List ℕ)) → (T → ℕ) → T → T → Type 0
+abbrev pub FailsOneOf : {S T : Type 0} → (S → Option (List ℕ)) → (S → ℕ) → S → S → (T → Option (List ℕ))
+    → (T → ℕ) → T → T → Type 0
 FailsOneOf left faults old new other_left other_faults other_old other_new =
     (FailsLast left faults old new × (other_faults other_new ≡ other_faults other_old))
     ⊎ ((faults new ≡ faults old) × FailsLast other_left other_faults other_old other_new)
@@ -92,5 +94,6 @@ abbrev pub CompletesFiles : Sheet → Form → Files → Files → ℕ → Type 
 CompletesFiles sheet form before after status =
     (copy delta : List ℕ) → before.copy ≡ Some copy → before.delta ≡ Some delta
     → length copy < file_limit → length delta < file_limit
-    → (answer : Result Text ApplyFault) × IsAnswer copy delta sheet form answer × (status ≡ answer_status answer)
+    → (answer : Result Text ApplyFault) × IsAnswer copy delta sheet form answer
+    × (status ≡ answer_status answer)
     × Grows before.written after.written (answer_text answer)

@@ -44,7 +44,8 @@ AnswersLines asked_lines course =
 abbrev pub AnswersSome : List Line → Course → Type 0
 AnswersSome all_lines course =
     (front : List Line) × (rest : List Line) × (all_lines ≡ front ++ rest)
-    × AnswersCutShort course.first (asks_of_lines front) course.moments course.replies course.written course.last
+    × AnswersCutShort course.first (asks_of_lines front) course.moments course.replies
+    course.written course.last
 
 -- Fewer bytes were read than end a run.
 abbrev pub IsShort : Course → Type 0
@@ -98,7 +99,8 @@ MayTell {K} tables told = (keeper : K) × (tables keeper ≡ told)
 -- The office was opened of what the keeper told before: there was a state of the keeper in which it told that, or
 -- nothing any more, and the office is that of what it told then. If the keeper tells its tables afterwards, it told
 -- them then.
-pub record Opens (may : Option KeptTables → Type 0) (before after : Option KeptTables) (office : OfficeState) : Type 0
+pub record Opens (may : Option KeptTables → Type 0) (before after : Option KeptTables)
+    (office : OfficeState) : Type 0
   where
     pub told : Option KeptTables
     pub met : may told
@@ -107,7 +109,8 @@ pub record Opens (may : Option KeptTables → Type 0) (before after : Option Kep
     pub untold : StaysUntold told after
 
 -- Lines were answered from the office that was opened on.
-pub record OpensAndRuns (may : Option KeptTables → Type 0) (before after : Outside) (status : ℕ) : Type 0 where
+pub record OpensAndRuns (may : Option KeptTables → Type 0) (before after : Outside)
+    (status : ℕ) : Type 0 where
   pub first : OfficeState
   pub opened : Opens may before.kept after.kept first
   pub runs : RunsFrom first before after status
@@ -168,7 +171,8 @@ TellsSummary records before after status =
 -- What was meant was done, with this status: a store was opened, where the keeper may tell so, and the lines of the
 -- input were answered; the line of a text was written; two files were read, of which the second is told apart, and what
 -- comes of them was written; or the summary of a made-up register was. No server is run so.
-abbrev pub Does : (Option KeptTables → Type 0) → Invocation → Outside → Outside → Option (List ℕ) → Option (List ℕ) → ℕ → Type 0
+abbrev pub Does : (Option KeptTables → Type 0) → Invocation → Outside → Outside → Option (List ℕ)
+    → Option (List ℕ) → ℕ → Type 0
 Does may to_answer_lines before after second_before second_after status = RunsLines may before after status
 Does may to_serve before after second_before second_after status = ⊥
 Does may (to_check text) before after second_before second_after status =
@@ -176,12 +180,14 @@ Does may (to_check text) before after second_before second_after status =
 Does may (to_make_digits text) before after second_before second_after status =
     TellsLine (digits_fault text) (digits_line text) before.written after.written status
 Does may (to_patch sheet form) before after second_before second_after status =
-    AppliesFiles sheet form (files before.left second_before before.written) (files after.left second_after after.written) status
+    AppliesFiles sheet form (files before.left second_before before.written)
+    (files after.left second_after after.written) status
 Does may (to_make_up records) before after second_before second_after status =
     TellsSummary records before.written after.written status
 
 -- What was meant was done, with this status; or memory was wanting to read the words, and all is as it was.
-abbrev pub DoesIfRead : (Option KeptTables → Type 0) → Invocation → Outside → Outside → Option (List ℕ) → Option (List ℕ) → ℕ → Type 0
+abbrev pub DoesIfRead : (Option KeptTables → Type 0) → Invocation → Outside → Outside → Option (List ℕ)
+    → Option (List ℕ) → ℕ → Type 0
 DoesIfRead may what before after second_before second_after status =
     Does may what before after second_before second_after status
     ⊎ ((status ≡ 6) × (after ≡ before) × (second_after ≡ second_before))
@@ -189,7 +195,8 @@ DoesIfRead may what before after second_before second_after status =
 -- All of these bytes were read, their lines answered at moments of the clock from the office that was opened on, and
 -- the replies written, with status 0. Where the keeper doesn't fail and memory is never wanting, the replies are those
 -- that the lines and the moments determine.
-pub record IsComplete (may : Option KeptTables → Type 0) (bytes : List ℕ) (before after : Outside) (status : ℕ) : Type 0
+pub record IsComplete (may : Option KeptTables → Type 0) (bytes : List ℕ) (before after : Outside)
+    (status : ℕ) : Type 0
   where
     pub ok : status ≡ 0
     pub first : OfficeState
@@ -209,16 +216,20 @@ pub record IsComplete (may : Option KeptTables → Type 0) (bytes : List ℕ) (b
 -- answered whole, unless a call of the keeper failed while its store was opened, or the store is damaged, which is told
 -- whole; a text is told, with status 0 or 2; files that are told and short enough are answered, with status 0 or 2; and
 -- a register is made up and told, with status 0.
-abbrev pub Completes : (Option KeptTables → Type 0) → Invocation → Outside → Outside → Option (List ℕ) → Option (List ℕ) → ℕ → Type 0
+abbrev pub Completes : (Option KeptTables → Type 0) → Invocation → Outside → Outside → Option (List ℕ)
+    → Option (List ℕ) → ℕ → Type 0
 Completes may to_answer_lines before after second_before second_after status =
     (bytes : List ℕ) → before.left ≡ Some bytes → length bytes < input_limit
     → IsComplete may bytes before after status
     ⊎ ((status ≡ 5) × Rose before.faults after.faults)
     ⊎ ((status ≡ 7) × TellsDamage {E = Unit {0}} before after (Ok (tt {0})))
 Completes may to_serve before after second_before second_after status = ⊥
-Completes may (to_check text) before after second_before second_after status = status ≡ told_status (fault_of text)
-Completes may (to_make_digits text) before after second_before second_after status = status ≡ told_status (digits_fault text)
+Completes may (to_check text) before after second_before second_after status = status
+    ≡ told_status (fault_of text)
+Completes may (to_make_digits text) before after second_before second_after status = status
+    ≡ told_status (digits_fault text)
 Completes may (to_patch sheet form) before after second_before second_after status =
-    CompletesFiles sheet form (files before.left second_before before.written) (files after.left second_after after.written) status
+    CompletesFiles sheet form (files before.left second_before before.written)
+    (files after.left second_after after.written) status
 Completes may (to_make_up records) before after second_before second_after status =
     (status ≡ 0) × ((text : Text) × IsSummary records text × Grows before.written after.written text)

@@ -26,8 +26,8 @@ pub record IsReadToLimit (before after : Option (List ℕ)) : Type 0 where
   pub lost : Loses before after bytes
   pub long : length bytes ≡ file_limit
 
--- Why a file wasn't read to its end: a read failed, memory was wanted, or the file is too long, exactly where so many bytes
--- were read.
+-- Why a file wasn't read to its end: a read failed, memory was wanted, or the file is too long, exactly where so many
+-- bytes were read.
 abbrev pub IsFileStop : Option (List ℕ) → Option (List ℕ) → Stop → Type 0
 IsFileStop before after stops.Refused = ⊥
 IsFileStop before after stops.ReadFault = IsReadShort before after

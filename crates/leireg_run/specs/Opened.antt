@@ -6,8 +6,8 @@ use Rattle.register_history.specs.Kept.{Keeps}
 use Rattle.register_history.specs.Legal.{Legal}
 use Rattle.register_history.specs.State.{OfficeState}
 
--- The office of what a keeper tells: it has the standard limits and a legal history, and where the keeper tells its tables,
--- they are those of this office.
+-- The office of what a keeper tells: it has the standard limits and a legal history, and where the keeper tells its
+-- tables, they are those of this office.
 pub record IsOpened (told : Option KeptTables) (office : OfficeState) : Type 0 where
   pub limits : office.limits ≡ standard
   pub legal : Legal office

@@ -29,8 +29,8 @@ outside left given written kept faults = record {
   faults = faults;
 }
 
--- What a run does to the outside: the office that it begins with, the bytes that it reads, the moments that it is given,
--- the replies that it gives, the bytes that it writes, each in their order, and the office that it ends with.
+-- What a run does to the outside: the office that it begins with, the bytes that it reads, the moments that it is
+-- given, the replies that it gives, the bytes that it writes, each in their order, and the office that it ends with.
 pub record Course : Type 0 where
   pub first : OfficeState
   pub read : List ℕ

@@ -13,7 +13,8 @@ input_limit = 4_294_967_296
 
 -- These replies answer what was asked, in order, at these moments, from one office to the other, and these bytes are
 -- their texts in order.
-pub record Answers (old : OfficeState) (asks : List Asked) (moments : List ℤ) (replies : List Reply) (written : List ℕ)
+pub record Answers (old : OfficeState) (asks : List Asked) (moments : List ℤ) (replies : List Reply)
+    (written : List ℕ)
     (new : OfficeState) : Type 0 where
   pub session : Session old asks moments replies new
   pub texts : written ≡ reply_texts asks replies

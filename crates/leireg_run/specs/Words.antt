@@ -1,4 +1,5 @@
--- What a run between an input and an output is asked for by the words behind the program's name. This project's profile.
+-- What a run between an input and an output is asked for by the words behind the program's name. This project's
+-- profile.
 use Rattle.std.specs.Prelude.{◌≡◌, List, Bool, true, false, map, string_bytes, String, Option, None, Some, option_and_then}
 use Rattle.std.specs.Global.{Global}
 use Rattle.lei_code.specs.Texts.{Text}

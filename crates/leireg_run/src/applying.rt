@@ -47,7 +47,8 @@ fn tell<W: Sink>(
     delta: &[u8],
     out: &mut W,
 ) -> Result<(), Stop>
-    ensures tells { TellsOf sheet form copy.now delta.now (W.written out.old) (W.written out.new) (end_status result) }
+    ensures tells { TellsOf sheet form copy.now delta.now (W.written out.old) (W.written out.new)
+        (end_status result) }
     ensures no_read_fault { ¬ (IsErrOf result Stop.ReadFault) }
     ensures kept { ¬ (IsErrOf result Stop.WriteFault) → W.faults out.new ≡ W.faults out.old }
     ensures failed { IsErrOf result Stop.WriteFault → FailsLast W.written W.faults out.old out.new }

@@ -77,7 +77,8 @@ fn write_refusal<W: Sink>(fault: LeiFault, out: &mut W) -> Result<(), SinkFault>
 
 /// Writes pieces of a text, one behind the other.
 pub fn write_pieces<W: Sink>(out: &mut W, pieces: &[&[u8]]) -> Result<(), SinkFault>
-    ensures written { IsSent (W.written out.old) (W.written out.new) (flat_map (λ piece. piece.now) pieces.now) result }
+    ensures written { IsSent (W.written out.old) (W.written out.new)
+        (flat_map (λ piece. piece.now) pieces.now) result }
     ensures kept { ¬ (IsErrOf result SinkFault.Failed) → W.faults out.new ≡ W.faults out.old }
     ensures failed { IsErrOf result SinkFault.Failed → FailsLast W.written W.faults out.old out.new }
 {

@@ -11,7 +11,8 @@ use std::alloc::Global;
 pub fn command_of<'a>(alloc: Global, words: &'a [String]) -> Result<Command<'a>, WordsFault>
     ensures meant { Finds invocation_of (invocation_in (map string_bytes words.now)) result }
     ensures range { IfOk result IsInRange }
-    ensures run { IfOk result (λ command. unless_serving (invocation_of command) ≡ Some (invocation_of command)) }
+    ensures run { IfOk result
+        (λ command. unless_serving (invocation_of command) ≡ Some (invocation_of command)) }
 {
     match wanted(alloc, words)?.command {
         Command::Serve => Err(WordsFault::Usage),

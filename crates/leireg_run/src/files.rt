@@ -45,7 +45,8 @@ pub fn read_file<S: Source>(alloc: Global, input: &mut S) -> Result<Vec<u8>, Sto
 fn read_block<S: Source>(input: &mut S, block: &mut Vec<u8>, most: usize) -> Result<usize, Failed>
     requires room { vec_len block.old ≡ BLOCK }
     requires some { 0 < most }
-    ensures ok { IfOk result (λ count. Fills (S.left input.old) (S.left input.new) [] (take count block.new.items) count most) }
+    ensures ok { IfOk result (λ count. Fills (S.left input.old) (S.left input.new) []
+        (take count block.new.items) count most) }
     ensures block { IfOk result (λ count. count ≤ BLOCK) }
     ensures err { OnErr result (Loses (S.left input.old) (S.left input.new) []) }
     ensures len { vec_len block.new ≡ vec_len block.old }

@@ -36,8 +36,8 @@ use std::thread::Threads;
 pub const MAX_INPUT: usize = 4_294_967_296;
 
 /// Does what the words ask for, which are the program's words without its name. Says the status that it ends with, and
-/// gives the keeper back. Lines are answered from the office of what the keeper has. The clock is asked for one moment for
-/// each line that asks something, after the line was read.
+/// gives the keeper back. Lines are answered from the office of what the keeper has. The clock is asked for one moment
+/// for each line that asks something, after the line was read.
 pub fn run<R: Threads + Sync, S: Source, T: Source, W: Sink, K: Keeper, C: Clock, P: Progress>(
     rt: &R,
     alloc: Global,
@@ -53,8 +53,10 @@ pub fn run<R: Threads + Sync, S: Source, T: Source, W: Sink, K: Keeper, C: Clock
     ensures refused { invocation_in (map string_bytes words.now) ≡ None → (result.0 ≡ 1) ⊎ (result.0 ≡ 6) }
     ensures untouched { invocation_in (map string_bytes words.now) ≡ None
         → (out.new ≡ out.old) × (input.new ≡ input.old) × (second.new ≡ second.old) }
-    ensures unread { (what : Invocation) → Mean words.now what → reads_input what ≡ false → input.new ≡ input.old }
-    ensures second_unread { (what : Invocation) → Mean words.now what → reads_second what ≡ false → second.new ≡ second.old }
+    ensures unread { (what : Invocation) → Mean words.now what → reads_input what ≡ false
+        → input.new ≡ input.old }
+    ensures second_unread { (what : Invocation) → Mean words.now what → reads_second what ≡ false
+        → second.new ≡ second.old }
     ensures unasked { ¬ (Mean words.now to_answer_lines) → clock.new ≡ clock.old }
     ensures unkept { ¬ (Mean words.now to_answer_lines) → result.1 ≡ keeper }
     ensures unopened { IsUnopened result.0 → (input.new ≡ input.old) × (clock.new ≡ clock.old) }
@@ -68,13 +70,16 @@ pub fn run<R: Threads + Sync, S: Source, T: Source, W: Sink, K: Keeper, C: Clock
     ensures no_second_fault { result.0 ≢ 3 → T.faults second.new ≡ T.faults second.old }
     ensures write_fault { result.0 ≡ 4 → FailsLast W.written W.faults out.old out.new }
     ensures no_write_fault { result.0 ≢ 4 → result.0 ≢ 7 → W.faults out.new ≡ W.faults out.old }
-    ensures damage_fault { result.0 ≡ 7 → Rose (W.faults out.old) (W.faults out.new) → FailsLast W.written W.faults out.old out.new }
-    ensures damage_told { result.0 ≡ 7 → ¬ (Rose (W.faults out.old) (W.faults out.new)) → TellsDamage {E = Unit {0}}
+    ensures damage_fault { result.0 ≡ 7 → Rose (W.faults out.old) (W.faults out.new)
+        → FailsLast W.written W.faults out.old out.new }
+    ensures damage_told { result.0 ≡ 7 → ¬ (Rose (W.faults out.old) (W.faults out.new))
+        → TellsDamage {E = Unit {0}}
         (outside (S.left input.old) (C.given clock.old) (W.written out.old) (K.tables keeper) (K.faults keeper))
         (outside (S.left input.new) (C.given clock.new) (W.written out.new) (K.tables result.1) (K.faults result.1))
         (Ok (tt {0})) }
     ensures complete { (what : Invocation) → Mean words.now what → result.0 ≢ 6
-        → ¬ (Rose (S.faults input.old) (S.faults input.new)) → ¬ (Rose (T.faults second.old) (T.faults second.new))
+        → ¬ (Rose (S.faults input.old) (S.faults input.new))
+        → ¬ (Rose (T.faults second.old) (T.faults second.new))
         → ¬ (Rose (W.faults out.old) (W.faults out.new))
         → Completes (MayTell K.tables) what
         (outside (S.left input.old) (C.given clock.old) (W.written out.old) (K.tables keeper) (K.faults keeper))
@@ -119,7 +124,8 @@ fn run_command<R: Threads + Sync, S: Source, T: Source, W: Sink, K: Keeper, C: C
     ensures read_fault { IsErrOf result.0 Stop.ReadFault → FailsOneOf S.left S.faults input.old input.new
         T.left T.faults second.old second.new }
     ensures no_read_fault { ¬ (IsErrOf result.0 Stop.ReadFault) → S.faults input.new ≡ S.faults input.old }
-    ensures no_second_fault { ¬ (IsErrOf result.0 Stop.ReadFault) → T.faults second.new ≡ T.faults second.old }
+    ensures no_second_fault { ¬ (IsErrOf result.0 Stop.ReadFault)
+        → T.faults second.new ≡ T.faults second.old }
     ensures write_fault { IsErrOf result.0 Stop.WriteFault → FailsLast W.written W.faults out.old out.new }
     ensures no_write_fault { ¬ (IsErrOf result.0 Stop.WriteFault) → ¬ (IsErrOf result.0 Stop.StoreDamaged)
         → W.faults out.new ≡ W.faults out.old }
@@ -187,7 +193,8 @@ fn tell_damage<W: Sink>(damage: &Damage, out: &mut W) -> Stop
     ensures kept { result ≡ Stop.NoMemory → W.faults out.new ≡ W.faults out.old }
     ensures whole { result ≡ Stop.StoreDamaged → ¬ (Rose (W.faults out.old) (W.faults out.new))
         → Grows (W.written out.old) (W.written out.new) (damage_text damage.now) }
-    ensures failed { Rose (W.faults out.old) (W.faults out.new) → FailsLast W.written W.faults out.old out.new }
+    ensures failed { Rose (W.faults out.old) (W.faults out.new)
+        → FailsLast W.written W.faults out.old out.new }
 {
     match write_damage(damage, out) {
         Ok(()) => Stop::StoreDamaged,
@@ -207,7 +214,8 @@ fn open_office<R: Threads + Sync, K: Keeper>(
     ensures faultless { IfOk result (λ office. K.faults office.keeper ≡ K.faults keeper) }
     ensures refused { IfErr result (IsRefused standard K.tables) }
     ensures same { IfErr result (λ fault. Stays (K.tables keeper) (K.tables (keeper_back fault))) }
-    ensures failed { IfErr result (λ fault. FaultRose (K.faults keeper) (K.faults (keeper_back fault)) fault) }
+    ensures failed { IfErr result
+        (λ fault. FaultRose (K.faults keeper) (K.faults (keeper_back fault)) fault) }
 {
     Office::open(rt, alloc, keeper, Limits::standard())
 }
@@ -224,7 +232,8 @@ fn answer_input<R: Threads + Sync, S: Source, W: Sink, K: Keeper, C: Clock>(
     requires holds { Holds framing.old.skips framing.old.seen [] [] }
     requires none_waits { framing.old.refusals ≡ [] }
     ensures runs { (kept : Option KeptTables) → Keeps kept office.new.office → RunsFrom office.old.office
-        (outside (S.left input.old) (C.given clock.old) (W.written out.old) (K.tables office.old.keeper) (K.faults office.old.keeper))
+        (outside (S.left input.old) (C.given clock.old) (W.written out.old) (K.tables office.old.keeper)
+        (K.faults office.old.keeper))
         (outside (S.left input.new) (C.given clock.new) (W.written out.new) kept (K.faults office.new.keeper))
         (end_status result) }
     ensures untold { StaysUntold (K.tables office.old.keeper) (K.tables office.new.keeper) }
@@ -254,11 +263,14 @@ fn serve_lines<R: Threads + Sync, S: Source, W: Sink, K: Keeper, C: Clock>(
         (K.faults office.new.keeper))
         (end_status result) }
     ensures untold { StaysUntold (K.tables office.old.keeper) (K.tables office.new.keeper) }
-    ensures read_fault { IsErrOf result Stop.ReadFault → FailsLast S.left S.faults wire.old.input.now wire.new.input.now }
+    ensures read_fault { IsErrOf result Stop.ReadFault
+        → FailsLast S.left S.faults wire.old.input.now wire.new.input.now }
     ensures no_read_fault { ¬ (IsErrOf result Stop.ReadFault)
         → S.faults wire.new.input.now ≡ S.faults wire.old.input.now }
-    ensures write_fault { IsErrOf result Stop.WriteFault → FailsLast W.written W.faults wire.old.out.now wire.new.out.now }
-    ensures no_write_fault { ¬ (IsErrOf result Stop.WriteFault) → W.faults wire.new.out.now ≡ W.faults wire.old.out.now }
+    ensures write_fault { IsErrOf result Stop.WriteFault
+        → FailsLast W.written W.faults wire.old.out.now wire.new.out.now }
+    ensures no_write_fault { ¬ (IsErrOf result Stop.WriteFault)
+        → W.faults wire.new.out.now ≡ W.faults wire.old.out.now }
     ensures input { wire.new.input.ghost_name ≡ wire.old.input.ghost_name }
     ensures out { wire.new.out.ghost_name ≡ wire.old.out.ghost_name }
 {

@@ -6,7 +6,8 @@ use Rattle.register_history.specs.State.{OfficeState}
 use Rattle.issuer_http.specs.Serving.{Serves, progress}
 use Rattle.issuer_http.specs.declared.ended.Ended.{Ended}
 
--- What lines tell: the bytes that are left to be read and those that were written, and how many reads and writes have failed.
+-- What lines tell: the bytes that are left to be read and those that were written, and how many reads and writes have
+-- failed.
 pub record LineTells (L : Type 0) : Type 0 where
   pub left : L → Option (List ℕ)
   pub written : L → Option (List ℕ)
@@ -14,7 +15,8 @@ pub record LineTells (L : Type 0) : Type 0 where
   pub write_faults : L → ℕ
 
 -- What lines tell by these four.
-abbrev pub line_tells : {L : Type 0} → (L → Option (List ℕ)) → (L → Option (List ℕ)) → (L → ℕ) → (L → ℕ) → LineTells L
+abbrev pub line_tells : {L : Type 0} → (L → Option (List ℕ)) → (L → Option (List ℕ)) → (L → ℕ)
+    → (L → ℕ) → LineTells L
 line_tells left written read_faults write_faults = record {
   left = left;
   written = written;
@@ -22,8 +24,8 @@ line_tells left written read_faults write_faults = record {
   write_faults = write_faults;
 }
 
--- How far serving has come: the office, what its keeper tells, how many calls of the keeper have failed, and the moments
--- that the clock has given.
+-- How far serving has come: the office, what its keeper tells, how many calls of the keeper have failed, and the
+-- moments that the clock has given.
 pub record Stage : Type 0 where
   pub office : OfficeState
   pub kept : Option KeptTables
@@ -36,11 +38,13 @@ stage office kept faults given = record { office = office; kept = kept; faults =
 
 -- ---- one line
 
--- A line was served, from one stage to the other: what it was when it came and when it was given back, and how that ended.
--- A read failed exactly where the end says so, and a write likewise.
-pub record ServesLine {L : Type 0} (tells : LineTells L) (before : Stage) (came back : L) (ended : Ended) (after : Stage)
+-- A line was served, from one stage to the other: what it was when it came and when it was given back, and how that
+-- ended. A read failed exactly where the end says so, and a write likewise.
+pub record ServesLine {L : Type 0} (tells : LineTells L) (before : Stage) (came back : L)
+    (ended : Ended) (after : Stage)
     : Type 0 where
-  pub serves : Serves (progress before.office before.kept before.faults before.given (tells.written came)) (tells.left came)
+  pub serves : Serves (progress before.office before.kept before.faults before.given (tells.written came))
+      (tells.left came)
       (progress after.office after.kept after.faults after.given (tells.written back)) (tells.left back) ended
   pub read_fault : ended ≡ Ended.ReadFault → Rose (tells.read_faults came) (tells.read_faults back)
   pub no_read_fault : ¬ (ended ≡ Ended.ReadFault) → tells.read_faults back ≡ tells.read_faults came
@@ -81,7 +85,8 @@ IsNoneToCome told = IfSome told (λ lines. lines ≡ [])
 
 -- The lines that a door gave were served one after the other, from one stage to the other, and each came back to it, in
 -- order.
-pub record ServesDesk {L : Type 0} (tells : LineTells L) (before : Stage) (to_come came_back : Option (List L))
+pub record ServesDesk {L : Type 0} (tells : LineTells L) (before : Stage)
+    (to_come came_back : Option (List L))
     (after : Stage) (to_come_now came_back_now : Option (List L)) : Type 0 where
   pub lines : List (ServedLine L)
   pub each : ServesEach tells before lines after

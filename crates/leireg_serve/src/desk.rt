@@ -31,9 +31,9 @@ pub enum DeskEnd {
     Failed,
 }
 
-/// Serves the lines of a desk's door, one after the other, until the door is closed or fails, by the router of all routes. Each
-/// line is given back to the door before the next one is asked for. How a line's serving ends has no part in how the desk's
-/// does.
+/// Serves the lines of a desk's door, one after the other, until the door is closed or fails, by the router of all
+/// routes. Each line is given back to the door before the next one is asked for. How a line's serving ends has no part
+/// in how the desk's does.
 pub fn serve_desk<R: Threads + Wait + Sync, K: Keeper, D: Door, C: Clock>(
     rt: &R,
     alloc: Global,

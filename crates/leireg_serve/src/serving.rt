@@ -21,9 +21,9 @@ use std::alloc::Global;
 use std::sync::Wait;
 use std::thread::Threads;
 
-/// Serves the register that a keeper has, where the words ask for it: the lines of the one desk's door, one after the other,
-/// until the door is closed or fails. Says the status that it ends with, and gives the keeper and the desk back. It writes
-/// nothing but what goes to the lines. There is one worker, and nothing passes the gate.
+/// Serves the register that a keeper has, where the words ask for it: the lines of the one desk's door, one after the
+/// other, until the door is closed or fails. Says the status that it ends with, and gives the keeper and the desk back.
+/// It writes nothing but what goes to the lines. There is one worker, and nothing passes the gate.
 pub fn serve<R: Threads + Wait + Sync, K: Keeper, D: Door, C: Clock, G: Gate>(
     rt: &R,
     alloc: Global,
@@ -37,13 +37,15 @@ pub fn serve<R: Threads + Wait + Sync, K: Keeper, D: Door, C: Clock, G: Gate>(
     ensures usage { result.0 ≡ 1 → served_by (map string_bytes words.now) ≡ None }
     ensures refused { served_by (map string_bytes words.now) ≡ None → (result.0 ≡ 1) ⊎ (result.0 ≡ 6) }
     ensures unserved { IsUnserved result.0 → result.2.items ≡ desks.items }
-    ensures unkept { served_by (map string_bytes words.now) ≡ None → (result.1 ≡ keeper) × (result.2.items ≡ desks.items) }
+    ensures unkept { served_by (map string_bytes words.now) ≡ None
+        → (result.1 ≡ keeper) × (result.2.items ≡ desks.items) }
     ensures serves { (what : Meant) → Mean words.now what → (old : Desk D C) → desks.items ≡ old ∷ []
         → (new : Desk D C) × (result.2.items ≡ new ∷ []) × (D.out new.door ≡ false)
         × EndsServing (MayTell K.tables)
         (line_tells D.Line.left D.Line.written D.Line.read_faults D.Line.write_faults)
         (outside (K.tables keeper) (K.faults keeper) (C.given old.clock) (D.to_come old.door) (D.came_back old.door))
-        (outside (K.tables result.1) (K.faults result.1) (C.given new.clock) (D.to_come new.door) (D.came_back new.door))
+        (outside (K.tables result.1) (K.faults result.1) (C.given new.clock) (D.to_come new.door)
+        (D.came_back new.door))
         result.0
         × (result.0 ≡ 9 → Rose (D.faults old.door) (D.faults new.door))
         × (result.0 ≢ 9 → D.faults new.door ≡ D.faults old.door) }
@@ -68,8 +70,10 @@ fn serve_over<R: Threads + Wait + Sync, K: Keeper, D: Door, C: Clock>(
     requires { D.out desk.old.door ≡ false }
     ensures ends { EndsServing (MayTell K.tables)
         (line_tells D.Line.left D.Line.written D.Line.read_faults D.Line.write_faults)
-        (outside (K.tables keeper) (K.faults keeper) (C.given desk.old.clock) (D.to_come desk.old.door) (D.came_back desk.old.door))
-        (outside (K.tables result.1) (K.faults result.1) (C.given desk.new.clock) (D.to_come desk.new.door) (D.came_back desk.new.door))
+        (outside (K.tables keeper) (K.faults keeper) (C.given desk.old.clock) (D.to_come desk.old.door)
+        (D.came_back desk.old.door))
+        (outside (K.tables result.1) (K.faults result.1) (C.given desk.new.clock) (D.to_come desk.new.door)
+        (D.came_back desk.new.door))
         result.0 }
     ensures unserved { IsUnserved result.0 → desk.new ≡ desk.old }
     ensures meant { result.0 ≢ 1 }
@@ -95,8 +99,10 @@ fn open_and_serve<R: Threads + Wait + Sync, K: Keeper, D: Door, C: Clock>(
     requires door { D.out desk.old.door ≡ false }
     ensures ends { EndsServing (MayTell K.tables)
         (line_tells D.Line.left D.Line.written D.Line.read_faults D.Line.write_faults)
-        (outside (K.tables keeper) (K.faults keeper) (C.given desk.old.clock) (D.to_come desk.old.door) (D.came_back desk.old.door))
-        (outside (K.tables result.1) (K.faults result.1) (C.given desk.new.clock) (D.to_come desk.new.door) (D.came_back desk.new.door))
+        (outside (K.tables keeper) (K.faults keeper) (C.given desk.old.clock) (D.to_come desk.old.door)
+        (D.came_back desk.old.door))
+        (outside (K.tables result.1) (K.faults result.1) (C.given desk.new.clock) (D.to_come desk.new.door)
+        (D.came_back desk.new.door))
         result.0 }
     ensures unserved { IsUnserved result.0 → desk.new ≡ desk.old }
     ensures meant { result.0 ≢ 1 }

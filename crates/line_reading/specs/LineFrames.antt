@@ -45,8 +45,8 @@ abbrev pub RefusesBy : Asked → Reply → Type 0
 RefusesBy (Ask request) reply = ⊥
 RefusesBy (Refuse refusal) reply = (reply ≡ Words refusal) × (refusal_status_code refusal ≢ 503)
 
--- How an input is cut into lines, and what is written for the replies. The bytes after the last LF are a line without its
--- end.
+-- How an input is cut into lines, and what is written for the replies. The bytes after the last LF are a line without
+-- its end.
 abbrev pub line_rules : Rules Asked Reply NoEnd
 line_rules = record {
   whole = IsLine;
@@ -71,8 +71,8 @@ line_whole_on bytes rest more frame is = (
 
 -- ---- what is held of a line
 
--- These bytes have no line's end up to where they were searched, and all of them are held; or those of a line that is too
--- long were dropped, and what came after them is held.
+-- These bytes have no line's end up to where they were searched, and all of them are held; or those of a line that is
+-- too long were dropped, and what came after them is held.
 abbrev pub Holds : Bool → ℕ → List ℕ → List ℕ → Type 0
 Holds false seen held bytes = (held ≡ bytes) × (seen ≤ length held) × HasNoEnd (take seen held)
 Holds true seen held bytes =
@@ -87,7 +87,8 @@ TakesLine line texts texts_now =
     ⊎ ((0 < length line) × (refusal : Refusal) × (asked line ≡ Refuse refusal)
     × (texts_now ≡ texts ++ reply_bytes (Words refusal) false))
 
--- The bytes begin with lines that are empty or refused, and go on with the rest. These are the bytes of the replies to them.
+-- The bytes begin with lines that are empty or refused, and go on with the rest. These are the bytes of the replies to
+-- them.
 pub record Gathers (bytes rest texts : List ℕ) : Type 0 where
   pub frames : List (Option (Want Asked NoEnd))
   pub replies : List Reply

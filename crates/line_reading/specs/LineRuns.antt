@@ -13,7 +13,8 @@ use Rattle.line_reading.specs.Replies.{reply_text, reply_texts}
 -- What lines ask, in order; an empty line asks nothing.
 abbrev pub asks_of_lines : List Line → List Asked
 asks_of_lines [] = []
-asks_of_lines (line ∷ others) = if length line == 0 then asks_of_lines others else asked line ∷ asks_of_lines others
+asks_of_lines (line ∷ others) = if length line == 0 then asks_of_lines others else asked line
+    ∷ asks_of_lines others
 
 -- The texts of the replies to what was asked in order, of the last one perhaps a front alone.
 abbrev pub AreTextsOf : List Asked → List Reply → List ℕ → Type 0
@@ -23,9 +24,10 @@ AreTextsOf (asked ∷ asks) (reply ∷ []) written = (n : ℕ) × (written ≡ t
 AreTextsOf (asked ∷ asks) (reply ∷ next ∷ replies) written =
     (rest : List ℕ) × (written ≡ reply_text asked reply ++ rest) × AreTextsOf asks (next ∷ replies) rest
 
--- From the start on these lines were answered, in order, at moments of the clock, and what was written are the replies, in
--- order.
-pub record AnsweredLines {A : Type 0} (step : A → Asked → List ℤ → Reply → A → Type 0) (start : Progress A) (all : List Line)
+-- From the start on these lines were answered, in order, at moments of the clock, and what was written are the replies,
+-- in order.
+pub record AnsweredLines {A : Type 0} (step : A → Asked → List ℤ → Reply → A → Type 0) (start : Progress A)
+    (all : List Line)
     (now : Progress A) : Type 0 where
   pub moments : List ℤ
   pub gives : ClockGives start.given now.given moments
@@ -33,8 +35,10 @@ pub record AnsweredLines {A : Type 0} (step : A → Asked → List ℤ → Reply
   pub session : Session step start.who (asks_of_lines all) moments replies now.who
   pub writes : Grows start.written now.written (reply_texts (asks_of_lines all) replies)
 
--- The same of a front of these lines alone: what was written are the replies to them, and of the last one perhaps a front.
-pub record AnsweredFront {A : Type 0} (step : A → Asked → List ℤ → Reply → A → Type 0) (start : Progress A) (all : List Line)
+-- The same of a front of these lines alone: what was written are the replies to them, and of the last one perhaps a
+-- front.
+pub record AnsweredFront {A : Type 0} (step : A → Asked → List ℤ → Reply → A → Type 0) (start : Progress A)
+    (all : List Line)
     (now : Progress A) : Type 0 where
   pub front : List Line
   pub rest : List Line

@@ -8,5 +8,6 @@ use Rattle.line_reading.specs.declared.requests.LineWords.TheVariants as words
 -- What that asks.
 abbrev pub asked_of : LineWords → Asked
 asked_of (words.Refused refusal) = Refuse refusal
-asked_of (words.Upload office number body) = Ask (Upload (record { office = office; number = number; body = body.now }))
+asked_of (words.Upload office number body) = Ask
+    (Upload (record { office = office; number = number; body = body.now }))
 asked_of (words.Other request) = Ask request

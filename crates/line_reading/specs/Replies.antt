@@ -24,8 +24,8 @@ abbrev pub asks_file : Asked → Bool
 asks_file (Refuse refusal) = false
 asks_file (Ask request) = wants_file request
 
--- What a reply tells behind its status code: a text, with the number of its bytes in a line before it where it is a file, or
--- a refusal in words.
+-- What a reply tells behind its status code: a text, with the number of its bytes in a line before it where it is a
+-- file, or a refusal in words.
 abbrev pub told : Reply → Bool → List ℕ
 told (replies.Text code kind text) is_file = if is_file then decimal (length text) ++ 10 ∷ text else text
 told (replies.Words refusal) is_file = refusal_words refusal

@@ -16,9 +16,9 @@ use std::alloc::Global;
 #[derive(Drop)]
 pub enum NoEnd {}
 
-/// Cuts an input into lines. Each line that asks a request is a frame of its own. Lines that ask nothing or are refused are
-/// taken together, as far as they are held, and the replies to them wait to be sent at once. A line that is too long isn't
-/// held.
+/// Cuts an input into lines. Each line that asks a request is a frame of its own. Lines that ask nothing or are refused
+/// are taken together, as far as they are held, and the replies to them wait to be sent at once. A line that is too
+/// long isn't held.
 #[derive(Drop)]
 pub struct LineFraming {
     pub alloc: Global,
@@ -57,7 +57,8 @@ impl LineFraming {
         requires skips { self.old.skips ≡ true }
         requires none { self.old.refusals ≡ [] }
         ensures { (bytes : List ℕ) → Holds true self.old.seen held.now bytes
-            → ReadsFront line_rules (Holds self.new.skips self.new.seen) self.new.refusals bytes held.now result }
+            → ReadsFront line_rules (Holds self.new.skips self.new.seen) self.new.refusals bytes
+            held.now result }
     {
         match next_end(held, 0) {
             None => Front::More(held.len()),
@@ -74,7 +75,8 @@ impl LineFraming {
         requires skips { self.old.skips ≡ false }
         requires none { self.old.refusals ≡ [] }
         ensures { HasNoEnd held.now
-            → ReadsFront line_rules (Holds self.new.skips self.new.seen) self.new.refusals held.now held.now result }
+            → ReadsFront line_rules (Holds self.new.skips self.new.seen) self.new.refusals held.now
+            held.now result }
     {
         if held.len() > MAX_LINE + 1 {
             self.skips = true;
@@ -167,8 +169,8 @@ fn read_line(alloc: Global, line: &[u8]) -> Option<Want<Asked, NoEnd>>
     }
 }
 
-// Takes the lines at the front of the bytes that ask nothing or are refused, as long as there is room for the replies. The
-// first `seen` bytes have no line's end. Says how many bytes these lines take.
+// Takes the lines at the front of the bytes that ask nothing or are refused, as long as there is room for the replies.
+// The first `seen` bytes have no line's end. Says how many bytes these lines take.
 fn gather(refusals: &mut WriteBuffer, held: &[u8], mut seen: usize) -> usize
     requires none { refusals.old ≡ [] }
     requires within { seen ≤ length held.now }

@@ -58,9 +58,12 @@ impl WriteBuffer {
 
     /// Puts a piece after what waits, and sends what has no room. A piece of more than a block isn't copied.
     pub fn put<L: Wire>(&mut self, link: &mut L, piece: &[u8]) -> Result<(), SinkFault>
-        ensures ok { OnOk result (Sends (L.written link.old) (L.written link.new) (self.old ++ piece.now) self.new) }
-        ensures err { OnErr result (WritesFront (L.written link.old) (L.written link.new) (self.old ++ piece.now)) }
-        ensures kept { ¬ (IsErrOf result SinkFault.Failed) → L.write_faults link.new ≡ L.write_faults link.old }
+        ensures ok { OnOk result (Sends (L.written link.old) (L.written link.new)
+            (self.old ++ piece.now) self.new) }
+        ensures err { OnErr result
+            (WritesFront (L.written link.old) (L.written link.new) (self.old ++ piece.now)) }
+        ensures kept { ¬ (IsErrOf result SinkFault.Failed)
+            → L.write_faults link.new ≡ L.write_faults link.old }
         ensures failed { IsErrOf result SinkFault.Failed →
             FailsLast (told_by L.left L.written) L.write_faults link.old link.new }
         ensures left { L.left link.new ≡ L.left link.old }
@@ -83,7 +86,8 @@ impl WriteBuffer {
     pub fn flush<L: Wire>(&mut self, link: &mut L) -> Result<(), SinkFault>
         ensures sent { IsSent (L.written link.old) (L.written link.new) self.old result }
         ensures empty { OnOk result (self.new ≡ []) }
-        ensures kept { ¬ (IsErrOf result SinkFault.Failed) → L.write_faults link.new ≡ L.write_faults link.old }
+        ensures kept { ¬ (IsErrOf result SinkFault.Failed)
+            → L.write_faults link.new ≡ L.write_faults link.old }
         ensures failed { IsErrOf result SinkFault.Failed →
             FailsLast (told_by L.left L.written) L.write_faults link.old link.new }
         ensures left { L.left link.new ≡ L.left link.old }

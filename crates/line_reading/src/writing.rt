@@ -72,7 +72,8 @@ fn put_reply<L: Wire>(
     reply: &Reply,
     is_file: bool,
 ) -> Result<(), SinkFault>
-    ensures puts { Puts (L.written link.old) (L.written link.new) (buffer.old ++ reply_bytes reply.now is_file) result buffer.new }
+    ensures puts { Puts (L.written link.old) (L.written link.new)
+        (buffer.old ++ reply_bytes reply.now is_file) result buffer.new }
     ensures kept { ¬ (IsErrOf result SinkFault.Failed) → L.write_faults link.new ≡ L.write_faults link.old }
     ensures failed { IsErrOf result SinkFault.Failed →
         FailsLast (told_by L.left L.written) L.write_faults link.old link.new }

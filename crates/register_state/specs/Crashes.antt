@@ -18,12 +18,14 @@ abbrev pub LeavesOnly : OfficeState → (Option KeptTables → Type 0) → Type 
 LeavesOnly office leaves = (left : Option KeptTables) → leaves left → IsLeftOf office left
 
 -- What a crash may leave is what it might have left before, or such tables.
-abbrev pub LeavesAlso : (KeptTables → Type 0) → (Option KeptTables → Type 0) → (Option KeptTables → Type 0) → Type 0
+abbrev pub LeavesAlso : (KeptTables → Type 0) → (Option KeptTables → Type 0)
+    → (Option KeptTables → Type 0) → Type 0
 LeavesAlso P old new =
-    (left : Option KeptTables) → new left → old left ⊎ ((tables : KeptTables) × (left ≡ Some tables) × P tables)
+    (left : Option KeptTables) → new left
+    → old left ⊎ ((tables : KeptTables) × (left ≡ Some tables) × P tables)
 
--- If a crash might have left nothing but tables of the old office or of it with one more entry, then it may leave nothing
--- but those of the new one. Where an entry was added, the keeper has to tell its tables for that.
+-- If a crash might have left nothing but tables of the old office or of it with one more entry, then it may leave
+-- nothing but those of the new one. Where an entry was added, the keeper has to tell its tables for that.
 abbrev pub CrashStays : OfficeState → OfficeState → Option KeptTables → (Option KeptTables → Type 0)
     → (Option KeptTables → Type 0) → Type 0
 CrashStays old new told before after =

@@ -21,7 +21,8 @@ use Rattle.upload_ledger.specs.Limits.{AreFew}
 -- takes it
 abbrev pub Decides : OfficeState → Request → Outcome → Result Decision NoMemory → Type 0
 Decides office request outcome (Ok (Stays reply)) = outcome ≡ stays reply
-Decides office request outcome (Ok (Adds entry list)) = (outcome ≡ adds entry) × (list ≡ writes_of office entry)
+Decides office request outcome (Ok (Adds entry list)) = (outcome ≡ adds entry)
+    × (list ≡ writes_of office entry)
 Decides office request outcome (Err wanted) = IsTrue (takes_memory request (reply_of outcome))
 
 -- the reply to a request that adds nothing, or want of memory, where the reply takes it

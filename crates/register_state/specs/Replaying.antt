@@ -10,11 +10,12 @@ use Rattle.register_state.specs.Books.{with_entry}
 use Rattle.register_state.specs.declared.decision.Decision.{Decision}
 use Rattle.register_state.specs.declared.decision.Decision.TheVariants.{Adds, Stays}
 
--- The request adds the stored entry at the entry's own moment, and the entry was added; or this is what the request comes
--- to in its place, and nothing was added.
+-- The request adds the stored entry at the entry's own moment, and the entry was added; or this is what the request
+-- comes to in its place, and nothing was added.
 abbrev pub ReplaysRequest : OfficeState → Request → KeptEntry → OfficeState → Option Decision → Type 0
 ReplaysRequest before request e after None =
-    (outcome before request e.moment ≡ adds e) × IsRequest request × IsMoment e.moment × (after ≡ with_entry before e)
+    (outcome before request e.moment ≡ adds e) × IsRequest request × IsMoment e.moment
+    × (after ≡ with_entry before e)
 ReplaysRequest before request e after (Some (Stays reply)) =
     (outcome before request e.moment ≡ stays reply) × (after ≡ before)
 ReplaysRequest before request e after (Some (Adds entry list)) =

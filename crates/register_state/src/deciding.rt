@@ -61,7 +61,8 @@ impl Books {
 
     // Shows the record of this LEI.
     fn show(&self, lei: &Lei) -> Result<Reply, NoMemory>
-        ensures { Tells (Show lei.now) (show_outcome (row_at (after self.now.limits self.now.history) lei.now)) result }
+        ensures { Tells (Show lei.now)
+            (show_outcome (row_at (after self.now.limits self.now.history) lei.now)) result }
     {
         match self.table.show(lei) {
             Some(record) => {
@@ -87,7 +88,8 @@ impl Books {
 
     // Tells how much is kept and held.
     fn status(&self) -> Result<Reply, NoMemory>
-        ensures { Tells Status (status_outcome self.now.history (after self.now.limits self.now.history)) result }
+        ensures { Tells Status (status_outcome self.now.history
+            (after self.now.limits self.now.history)) result }
     {
         let text = status_text(self.alloc, self.ledger.totals(), self.table.counts())?;
         Ok(json_reply(text))
@@ -119,7 +121,8 @@ impl Books {
         moment: Moment,
     ) -> Result<Decision, NoMemory>
         requires { IsUploadNumber call.now.number }
-        ensures decides { Decides self.now (Upload call.now) (upload_outcome self.now call.now moment) result }
+        ensures decides { Decides self.now (Upload call.now)
+            (upload_outcome self.now call.now moment) result }
         ensures next { AddsNext self.now (Upload call.now) result }
     {
         if call.body.len() as u64 > self.limits.body {

@@ -1,4 +1,5 @@
-//! Publications: what changed since the last one goes onto the shelf, which gives copies of the latest and deltas to it.
+//! Publications: what changed since the last one goes onto the shelf, which gives copies of the latest and deltas to
+//! it.
 ghost use Rattle.std.specs.Prelude.{◌≡◌, ◌<◌, ◌++◌, ◌∷◌, [], IfOk, OnErr, OnOk, Some, length, map};
 ghost use Rattle.copy_csv.specs.Sheets as sheets;
 ghost use Rattle.copy_forms.specs.Trails.{Publication, Trail};
@@ -91,7 +92,8 @@ impl Books {
 
     // What the next publication changes.
     fn next_changes(&self) -> Result<Vec<(RowKey, Option<Row>)>, NoMemory>
-        ensures changes { IfOk result (λ changes. AreNextChanges self.now.limits self.now.history changes.items) }
+        ensures changes { IfOk result
+            (λ changes. AreNextChanges self.now.limits self.now.history changes.items) }
         ensures own { IfOk result (λ changes. AreOwnChanges changes.items) }
     {
         let entries = self.ledger.entries();
@@ -112,8 +114,8 @@ fn published_reply(alloc: Global, text: &[u8]) -> Result<Reply, NoMemory>
     })
 }
 
-// The number of the entry that made the latest publication, 0 where there is none. Only the entries behind it are looked
-// at.
+// The number of the entry that made the latest publication, 0 where there is none. Only the entries behind it are
+// looked at.
 fn last_published(entries: &[KeptEntry]) -> u64
     ensures { result ≡ last_published entries.now }
 {
@@ -140,7 +142,8 @@ fn shelve<L: Counted, R: Threads + Sync>(
     requires parts { blank.parts ≡ L.parts }
     requires one { blank.parts ≡ 1 }
     ensures next { OnOk result ((trail : Trail) (next : Publication) → KeepsTrail trail shelf.old.now
-        → IsIssued (latest_rows trail) moment changes.now next → KeepsTrail (trail ++ next ∷ []) shelf.new.now) }
+        → IsIssued (latest_rows trail) moment changes.now next
+        → KeepsTrail (trail ++ next ∷ []) shelf.new.now) }
     ensures before { OnOk result (shelf.new.before ≡ Some shelf.old.now) }
     ensures err { OnErr result (shelf.new ≡ shelf.old) }
 {
@@ -148,8 +151,8 @@ fn shelve<L: Counted, R: Threads + Sync>(
     shelf.publish(rt, moment, changes, &mut steps)
 }
 
-// The keys that entries touched last whose numbers are greater than `after` and at most `upto`, each with the row that is
-// published of it, or with none.
+// The keys that entries touched last whose numbers are greater than `after` and at most `upto`, each with the row that
+// is published of it, or with none.
 fn changes_since(
     alloc: Global,
     table: &Table,
@@ -222,7 +225,8 @@ fn bytes_of(fields: &FieldTexts) -> usize {
 
 /// The copy of a sheet in the latest publication.
 pub fn copy(shelf: &Shelf, sheet: Sheet, form: Form) -> Result<Reply, NoMemory>
-    ensures { (trail : Trail) → KeepsTrail trail shelf.now.now → Tells (Copy sheet form) (copy_outcome sheet form trail) result }
+    ensures { (trail : Trail) → KeepsTrail trail shelf.now.now
+        → Tells (Copy sheet form) (copy_outcome sheet form trail) result }
 {
     match shelf.latest() {
         Some(_) => latest_copy(shelf, sheet, form),
@@ -233,7 +237,8 @@ pub fn copy(shelf: &Shelf, sheet: Sheet, form: Form) -> Result<Reply, NoMemory>
 // The copy of a sheet in the latest publication, of which there is one.
 fn latest_copy(shelf: &Shelf, sheet: Sheet, form: Form) -> Result<Reply, NoMemory>
     requires { ¬ (shelf.now.now.issues ≡ []) }
-    ensures { (trail : Trail) → KeepsTrail trail shelf.now.now → Tells (Copy sheet form) (copy_outcome sheet form trail) result }
+    ensures { (trail : Trail) → KeepsTrail trail shelf.now.now
+        → Tells (Copy sheet form) (copy_outcome sheet form trail) result }
 {
     match shelf.copy(sheet, form) {
         Ok(text) => Ok(file_reply(form, text)),
@@ -243,7 +248,8 @@ fn latest_copy(shelf: &Shelf, sheet: Sheet, form: Form) -> Result<Reply, NoMemor
 
 /// The delta of a sheet from its base to the latest publication.
 pub fn delta(shelf: &Shelf, base: Base, sheet: Sheet, form: Form) -> Result<Reply, NoMemory>
-    ensures { (trail : Trail) → KeepsTrail trail shelf.now.now → Tells (Delta base sheet form) (delta_outcome base sheet form trail) result }
+    ensures { (trail : Trail) → KeepsTrail trail shelf.now.now
+        → Tells (Delta base sheet form) (delta_outcome base sheet form trail) result }
 {
     match shelf.delta(base, sheet, form) {
         Ok(text) => Ok(file_reply(form, text)),

@@ -106,7 +106,8 @@ impl Register {
         ensures legal { Legal self.new }
         ensures kept { Keeps (K.tables keeper.new) self.new }
         ensures untold { StaysUntold (K.tables keeper.old) (K.tables keeper.new) }
-        ensures crash { CrashStays self.old self.new (K.tables keeper.new) (K.leaves keeper.old) (K.leaves keeper.new) }
+        ensures crash { CrashStays self.old self.new (K.tables keeper.new) (K.leaves keeper.old)
+            (K.leaves keeper.new) }
         ensures reply { IfOk result (λ reply. ¬ (reply ≡ Words KeeperFault)) }
         ensures count { K.faults keeper.old ≤ K.faults keeper.new }
         ensures faultless { ¬ (IsErrOf result KeepFault.Failed) → K.faults keeper.new ≡ K.faults keeper.old }
@@ -145,7 +146,8 @@ impl Register {
         ensures legal { Legal self.new }
         ensures kept { Keeps (K.tables keeper.new) self.new }
         ensures untold { StaysUntold (K.tables keeper.old) (K.tables keeper.new) }
-        ensures crash { CrashStays self.old self.new (K.tables keeper.new) (K.leaves keeper.old) (K.leaves keeper.new) }
+        ensures crash { CrashStays self.old self.new (K.tables keeper.new) (K.leaves keeper.old)
+            (K.leaves keeper.new) }
         ensures reply { IfOk result (λ reply. ¬ (reply ≡ Words KeeperFault)) }
         ensures count { K.faults keeper.old ≤ K.faults keeper.new }
         ensures faultless { ¬ (IsErrOf result KeepFault.Failed) → K.faults keeper.new ≡ K.faults keeper.old }

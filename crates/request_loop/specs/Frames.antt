@@ -20,8 +20,8 @@ pub record Rules (W P E : Type 0) : Type 1 where
   -- the bytes of a reply to what was wanted
   pub text : Want W E → P → List ℕ
 
--- What a frame wants, and what was read in its place: what it asks is the same or may be read so, it ends the session alike,
--- and each reply to it is written alike.
+-- What a frame wants, and what was read in its place: what it asks is the same or may be read so, it ends the session
+-- alike, and each reply to it is written alike.
 pub record IsMeant {W P E : Type 0} (rules : Rules W P E) (meant read : Want W E) : Type 0 where
   pub asked : (read.asked ≡ meant.asked) ⊎ rules.reads_as meant.asked read.asked
   pub ends : read.ends ≡ meant.ends
@@ -41,8 +41,8 @@ abbrev pub GoesOn : {W E : Type 0} → Option (Want W E) → Type 0
 GoesOn None = Unit {0}
 GoesOn (Some want) = want.ends ≡ None
 
--- The bytes begin with these whole frames, one after the other, after each of which the session goes on, and go on with the
--- rest.
+-- The bytes begin with these whole frames, one after the other, after each of which the session goes on, and go on with
+-- the rest.
 abbrev pub Frames : {W P E : Type 0} → Rules W P E → List ℕ → List (Option (Want W E)) → List ℕ → Type 0
 Frames rules bytes [] rest = bytes ≡ rest
 Frames rules bytes (frame ∷ frames) rest =
@@ -80,8 +80,8 @@ pub record ReadsMore {W P E : Type 0} (rules : Rules W P E) (holding : List ℕ 
   pub holds : (more : List ℕ) → holding (drop count held ++ more) (bytes ++ more)
   pub waits : waiting ≡ []
 
--- The bytes begin with frames that ask nothing or that the framing refuses, and so many held bytes are the end of theirs.
--- What waits to be sent are the bytes of the replies.
+-- The bytes begin with frames that ask nothing or that the framing refuses, and so many held bytes are the end of
+-- theirs. What waits to be sent are the bytes of the replies.
 pub record ReadsRefused {W P E : Type 0} (rules : Rules W P E) (holding : List ℕ → List ℕ → Type 0)
     (bytes held waiting : List ℕ) (count : ℕ) : Type 0 where
   pub within : count ≤ length held
@@ -108,16 +108,19 @@ pub record ReadsWhole {W P E : Type 0} (rules : Rules W P E) (holding : List ℕ
 abbrev pub ReadsFront : {W P E : Type 0} → Rules W P E → (List ℕ → List ℕ → Type 0) → List ℕ → List ℕ → List ℕ
     → Front W E → Type 0
 ReadsFront rules holds waiting bytes held (Front.More count) = ReadsMore rules holds bytes held waiting count
-ReadsFront rules holds waiting bytes held (Front.Refused count) = ReadsRefused rules holds bytes held waiting count
-ReadsFront rules holds waiting bytes held (Front.Whole read count) = ReadsWhole rules holds bytes held waiting read count
+ReadsFront rules holds waiting bytes held (Front.Refused count) = ReadsRefused rules holds bytes
+    held waiting count
+ReadsFront rules holds waiting bytes held (Front.Whole read count) = ReadsWhole rules holds bytes held
+    waiting read count
 
 -- ---- frames and an answerer
 
--- What frames ask may be put to the answerer, also what is read in its place, which is answered as what was meant may be.
--- What the framing refuses the answerer would answer so, at no moment, and stays as it is.
+-- What frames ask may be put to the answerer, also what is read in its place, which is answered as what was meant may
+-- be. What the framing refuses the answerer would answer so, at no moment, and stays as it is.
 pub record Fits {A W P E : Type 0} (takes : W → Type 0) (step : A → W → List ℤ → P → A → Type 0)
     (rules : Rules W P E) : Type 0 where
-  pub whole : (bytes : List ℕ) (want : Want W E) (rest : List ℕ) → rules.whole bytes (Some want) rest → takes want.asked
+  pub whole : (bytes : List ℕ) (want : Want W E) (rest : List ℕ) → rules.whole bytes (Some want) rest
+      → takes want.asked
   pub ends : (bytes : List ℕ) (want : Want W E) → rules.ends bytes (Some want) → takes want.asked
   pub reads : (meant read : W) → rules.reads_as meant read → takes read
   pub same : (meant read : W) (old new : A) (moments : List ℤ) (reply : P) → rules.reads_as meant read

@@ -27,8 +27,8 @@ pub record Progress (A : Type 0) : Type 0 where
 abbrev pub progress : {A : Type 0} → A → Option (List ℤ) → Option (List ℕ) → Progress A
 progress who given written = record { who = who; given = given; written = written }
 
--- From the start on these frames were answered, in order, at moments of the clock, by steps from one state of the answerer to
--- another. What was written are the replies, in order.
+-- From the start on these frames were answered, in order, at moments of the clock, by steps from one state of the
+-- answerer to another. What was written are the replies, in order.
 pub record Ran {A W P E : Type 0} (step : A → W → List ℤ → P → A → Type 0) (rules : Rules W P E)
     (start : Progress A) (frames : List (Option (Want W E))) (now : Progress A) : Type 0 where
   pub moments : List ℤ
@@ -39,15 +39,18 @@ pub record Ran {A W P E : Type 0} (step : A → W → List ℤ → P → A → T
 
 -- The same, and after these frames what one more wants: of the reply to it a front alone was written, and not all.
 pub record Stopped {A W P E : Type 0} (step : A → W → List ℤ → P → A → Type 0) (rules : Rules W P E)
-    (start : Progress A) (frames : List (Option (Want W E))) (want : Want W E) (now : Progress A) : Type 0 where
+    (start : Progress A) (frames : List (Option (Want W E))) (want : Want W E)
+    (now : Progress A) : Type 0 where
   pub moments : List ℤ
   pub gives : ClockGives start.given now.given moments
   pub replies : List P
   pub reply : P
-  pub session : Session step start.who (asks_of (frames ++ Some want ∷ [])) moments (replies ++ reply ∷ []) now.who
+  pub session : Session step start.who (asks_of (frames ++ Some want ∷ [])) moments
+      (replies ++ reply ∷ []) now.who
   pub part : ℕ
   pub short : part < length (rules.text want reply)
-  pub writes : Grows start.written now.written (texts_of rules frames replies ++ take part (rules.text want reply))
+  pub writes : Grows start.written now.written
+      (texts_of rules frames replies ++ take part (rules.text want reply))
 
 -- ---- by the bytes that were taken
 
@@ -92,8 +95,8 @@ AnswersInPart {A} {W} {P} {E} step rules start bytes left now =
     (frames : List (Option (Want W E))) × (rest : List ℕ) × (want : Want W E)
     × Frames rules bytes frames rest × Wants rules left rest want × Stopped step rules start frames want now
 
--- The bytes were as many as end a session, and of those before some last ones, at most as many as one read gives, all whole
--- frames were answered.
+-- The bytes were as many as end a session, and of those before some last ones, at most as many as one read gives, all
+-- whole frames were answered.
 abbrev pub AnswersToLimit : {A W P E : Type 0} → (A → W → List ℤ → P → A → Type 0) → Rules W P E
     → ℕ → Progress A → List ℕ → Progress A → Type 0
 AnswersToLimit step rules most start bytes now =
@@ -113,21 +116,24 @@ EndsWith step rules most Ended.ReadFault start bytes left now =
     (length bytes < most) × AnswersAll step rules start bytes now
 EndsWith step rules most Ended.WriteFault start bytes left now =
     (length bytes < most) × AnswersInPart step rules start bytes left now
-EndsWith step rules most Ended.InputLimit start bytes left now = AnswersToLimit step rules most start bytes now
+EndsWith step rules most Ended.InputLimit start bytes left now = AnswersToLimit step rules
+    most start bytes now
 EndsWith step rules most Ended.NoMemory start bytes left now =
     (length bytes < most)
     × (AnswersAll step rules start bytes now ⊎ AnswersInPart step rules start bytes left now)
 
 -- What serving does: it takes bytes from the wire, answers the frames that they are, and ends.
 pub record Serves {A W P E : Type 0} (step : A → W → List ℤ → P → A → Type 0) (rules : Rules W P E) (most : ℕ)
-    (start : Progress A) (left : Option (List ℕ)) (now : Progress A) (left_now : Option (List ℕ)) (ended : Ended E) : Type 0
+    (start : Progress A) (left : Option (List ℕ)) (now : Progress A) (left_now : Option (List ℕ))
+    (ended : Ended E) : Type 0
   where
     pub bytes : List ℕ
     pub takes : Loses left left_now bytes
     pub ends : EndsWith step rules most ended start bytes left_now now
 
--- What comes of a wire that has these bytes left, where neither of its sides fails and memory is never wanting: they were all
--- taken and answered, or those up to the first frame that ends the session; or they are as many as end a session.
+-- What comes of a wire that has these bytes left, where neither of its sides fails and memory is never wanting: they
+-- were all taken and answered, or those up to the first frame that ends the session; or they are as many as end a
+-- session.
 abbrev pub Completes : {A W P E : Type 0} → (A → W → List ℤ → P → A → Type 0) → Rules W P E → ℕ → Ended E
     → Progress A → List ℕ → Progress A → Type 0
 Completes step rules most Ended.AtEnd start bytes now =
@@ -140,10 +146,11 @@ Completes step rules most Ended.NoMemory start bytes now = ⊥
 
 -- ---- inside
 
--- What was wanted got its reply, by one step, at moments of the clock, and the reply was written; or a front of it, and not
--- all.
+-- What was wanted got its reply, by one step, at moments of the clock, and the reply was written; or a front of it, and
+-- not all.
 pub record AnswersWant {A W P E : Type 0} (step : A → W → List ℤ → P → A → Type 0) (rules : Rules W P E)
-    (before : Progress A) (want : Want W E) (sent : Result (Unit {0}) SinkFault) (after : Progress A) : Type 0 where
+    (before : Progress A) (want : Want W E) (sent : Result (Unit {0}) SinkFault)
+    (after : Progress A) : Type 0 where
   pub moments : List ℤ
   pub gives : ClockGives before.given after.given moments
   pub reply : P
@@ -176,7 +183,8 @@ AnswersLast step rules before None Ended.ReadFault after = ⊥
 AnswersLast step rules before None Ended.WriteFault after = ⊥
 AnswersLast step rules before None Ended.InputLimit after = ⊥
 AnswersLast step rules before None Ended.NoMemory after = ⊥
-AnswersLast step rules before (Some want) Ended.AtEnd after = AnswersWant step rules before want (Ok (tt {0})) after
+AnswersLast step rules before (Some want) Ended.AtEnd after = AnswersWant step rules before want
+    (Ok (tt {0})) after
 AnswersLast step rules before (Some want) (Ended.By end) after = ⊥
 AnswersLast step rules before (Some want) Ended.ReadFault after = ⊥
 AnswersLast step rules before (Some want) Ended.WriteFault after =

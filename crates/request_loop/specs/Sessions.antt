@@ -3,7 +3,8 @@ use Rattle.std.specs.Prelude.{◌≡◌, ℤ, List, [], ◌∷◌, ◌++◌, Opt
 use Rattle.request_loop.specs.Moments.{ClockGives}
 
 -- These replies answer what was asked, in order, at these moments, by steps from one state of the answerer to another.
-abbrev pub Session : {A W P : Type 0} → (A → W → List ℤ → P → A → Type 0) → A → List W → List ℤ → List P → A → Type 0
+abbrev pub Session : {A W P : Type 0} → (A → W → List ℤ → P → A → Type 0) → A → List W → List ℤ
+    → List P → A → Type 0
 Session step old [] moments [] new = (moments ≡ []) × (new ≡ old)
 Session step old [] moments (reply ∷ replies) new = ⊥
 Session step old (asked ∷ asks) moments [] new = ⊥

@@ -97,7 +97,8 @@ pub fn answer_last<
         (progress who.old (C.given clock.old) (L.written link.old)) frame result
         (progress who.new (C.given clock.new) (L.written link.new)) }
     ensures kept { ¬ (result ≡ Ended.WriteFault) → L.write_faults link.new ≡ L.write_faults link.old }
-    ensures failed { result ≡ Ended.WriteFault → FailsLast (told_by L.left L.written) L.write_faults link.old link.new }
+    ensures failed { result ≡ Ended.WriteFault
+        → FailsLast (told_by L.left L.written) L.write_faults link.old link.new }
     ensures left { L.left link.new ≡ L.left link.old }
     ensures read_count { L.read_faults link.new ≡ L.read_faults link.old }
     ensures wire { L.lends_same link.old link.new }

@@ -4,8 +4,8 @@ ghost use Rattle.request_loop.specs.Sessions.{Replies};
 
 use lei_outside::Clock;
 
-/// Who answers what is asked, by a runtime of type `R`. A function that is generic over an answerer has no bound of its own
-/// on `R`, so it returns wherever the answerer does.
+/// Who answers what is asked, by a runtime of type `R`. A function that is generic over an answerer has no bound of its
+/// own on `R`, so it returns wherever the answerer does.
 pub trait Answers<R> {
     type Asked: Drop;
 

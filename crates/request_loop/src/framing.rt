@@ -46,8 +46,10 @@ pub trait Framing {
         reply: &Self::Reply,
         link: &mut L,
     ) -> Result<(), SinkFault>
-        ensures sent { IsSent (L.written link.old) (L.written link.new) (rules.text want.now reply.now) result }
-        ensures kept { ¬ (IsErrOf result SinkFault.Failed) → L.write_faults link.new ≡ L.write_faults link.old }
+        ensures sent { IsSent (L.written link.old) (L.written link.new)
+            (rules.text want.now reply.now) result }
+        ensures kept { ¬ (IsErrOf result SinkFault.Failed)
+            → L.write_faults link.new ≡ L.write_faults link.old }
         ensures failed { IsErrOf result SinkFault.Failed →
             FailsLast (told_by L.left L.written) L.write_faults link.old link.new }
         ensures left { L.left link.new ≡ L.left link.old }
@@ -59,7 +61,8 @@ pub trait Framing {
     /// Writes the replies that wait. After an `Err` some front of them was written.
     fn send_refused<L: Wire>(&mut self, link: &mut L) -> Result<(), SinkFault>
         ensures sent { IsSent (L.written link.old) (L.written link.new) (waiting self.old) result }
-        ensures kept { ¬ (IsErrOf result SinkFault.Failed) → L.write_faults link.new ≡ L.write_faults link.old }
+        ensures kept { ¬ (IsErrOf result SinkFault.Failed)
+            → L.write_faults link.new ≡ L.write_faults link.old }
         ensures failed { IsErrOf result SinkFault.Failed →
             FailsLast (told_by L.left L.written) L.write_faults link.old link.new }
         ensures left { L.left link.new ≡ L.left link.old }

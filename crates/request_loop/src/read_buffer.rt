@@ -70,7 +70,8 @@ impl ReadBuffer {
     /// Reads once, at most a block and at most this many bytes, and says how many came. It is none only at the end.
     pub fn read_from<L: Wire>(&mut self, link: &mut L, most: usize) -> Result<usize, ReadFault>
         requires { 0 < most }
-        ensures ok { IfOk result (λ count. Fills (L.left link.old) (L.left link.new) self.old self.new count most) }
+        ensures ok { IfOk result (λ count. Fills (L.left link.old) (L.left link.new) self.old
+            self.new count most) }
         ensures block { IfOk result (λ count. count ≤ 65536) }
         ensures unread { OnErr result (Loses (L.left link.old) (L.left link.new) []) }
         ensures same { OnErr result (self.new ≡ self.old) }

@@ -25,8 +25,8 @@ pub struct Intake {
     pub most: usize,
 }
 
-/// Serves one session: reads frames from the wire, hands what each asks to the answerer, and writes the reply before the next
-/// is asked. Only the replies to frames that the framing refuses by itself are written together.
+/// Serves one session: reads frames from the wire, hands what each asks to the answerer, and writes the reply before
+/// the next is asked. Only the replies to frames that the framing refuses by itself are written together.
 pub fn serve<R, A: Answers<R>, F: Framing<Asked = A::Asked, Reply = A::Reply>, L: Wire, C: Clock>(
     rt: &R,
     intake: Intake,
@@ -42,10 +42,13 @@ pub fn serve<R, A: Answers<R>, F: Framing<Asked = A::Asked, Reply = A::Reply>, L
     ensures serves { Serves A.step F.rules intake.most
         (progress who.old (C.given clock.old) (L.written link.old)) (L.left link.old)
         (progress who.new (C.given clock.new) (L.written link.new)) (L.left link.new) result }
-    ensures read_fault { result ≡ Ended.ReadFault → FailsLast (told_by L.left L.written) L.read_faults link.old link.new }
+    ensures read_fault { result ≡ Ended.ReadFault
+        → FailsLast (told_by L.left L.written) L.read_faults link.old link.new }
     ensures no_read_fault { ¬ (result ≡ Ended.ReadFault) → L.read_faults link.new ≡ L.read_faults link.old }
-    ensures write_fault { result ≡ Ended.WriteFault → FailsLast (told_by L.left L.written) L.write_faults link.old link.new }
-    ensures no_write_fault { ¬ (result ≡ Ended.WriteFault) → L.write_faults link.new ≡ L.write_faults link.old }
+    ensures write_fault { result ≡ Ended.WriteFault
+        → FailsLast (told_by L.left L.written) L.write_faults link.old link.new }
+    ensures no_write_fault { ¬ (result ≡ Ended.WriteFault)
+        → L.write_faults link.new ≡ L.write_faults link.old }
     ensures wire { L.lends_same link.old link.new }
     ensures complete { (bytes : List ℕ) → L.left link.old ≡ Some bytes → ¬ (result ≡ Ended.NoMemory)
         → ¬ (Rose (L.read_faults link.old) (L.read_faults link.new))
@@ -73,10 +76,13 @@ fn serve_on<R, A: Answers<R>, F: Framing<Asked = A::Asked, Reply = A::Reply>, L:
     ensures serves { Serves A.step F.rules intake.most
         (progress who.old (C.given clock.old) (L.written link.old)) (L.left link.old)
         (progress who.new (C.given clock.new) (L.written link.new)) (L.left link.new) result }
-    ensures read_fault { result ≡ Ended.ReadFault → FailsLast (told_by L.left L.written) L.read_faults link.old link.new }
+    ensures read_fault { result ≡ Ended.ReadFault
+        → FailsLast (told_by L.left L.written) L.read_faults link.old link.new }
     ensures no_read_fault { ¬ (result ≡ Ended.ReadFault) → L.read_faults link.new ≡ L.read_faults link.old }
-    ensures write_fault { result ≡ Ended.WriteFault → FailsLast (told_by L.left L.written) L.write_faults link.old link.new }
-    ensures no_write_fault { ¬ (result ≡ Ended.WriteFault) → L.write_faults link.new ≡ L.write_faults link.old }
+    ensures write_fault { result ≡ Ended.WriteFault
+        → FailsLast (told_by L.left L.written) L.write_faults link.old link.new }
+    ensures no_write_fault { ¬ (result ≡ Ended.WriteFault)
+        → L.write_faults link.new ≡ L.write_faults link.old }
     ensures wire { L.lends_same link.old link.new }
 {
     let mut buffer = ReadBuffer::new(intake.alloc);

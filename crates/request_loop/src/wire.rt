@@ -8,8 +8,8 @@ ghost use Rattle.request_loop.specs.Wires.{IsSent};
 
 use lei_outside::{Failed, Link, Sink, SinkFault, Source};
 
-/// Both sides of a session: bytes are read from it and written to it. The two sides have counts of their own, and a call of
-/// one side leaves the other as it was.
+/// Both sides of a session: bytes are read from it and written to it. The two sides have counts of their own, and a
+/// call of one side leaves the other as it was.
 pub trait Wire {
     /// The bytes that are left to be read, where the wire tells them.
     ghost left: { Self → Option (List ℕ) };
@@ -44,7 +44,8 @@ pub trait Wire {
         ensures bytes { Writes (written self.old) (written self.new) result piece.now }
         ensures count { write_faults self.old ≤ write_faults self.new }
         ensures kept { ¬ (IsErrOf result SinkFault.Failed) → write_faults self.new ≡ write_faults self.old }
-        ensures failed { IsErrOf result SinkFault.Failed → Rose (write_faults self.old) (write_faults self.new) }
+        ensures failed { IsErrOf result SinkFault.Failed
+            → Rose (write_faults self.old) (write_faults self.new) }
         ensures left { left self.new ≡ left self.old }
         ensures read_count { read_faults self.new ≡ read_faults self.old }
         ensures wire { lends_same self.old self.new };

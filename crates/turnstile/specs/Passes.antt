@@ -46,7 +46,14 @@ module _ {E D : Type 0} where
 
   abbrev pub pass_at : TableId → View E D → Account D → PassView E D
   pass_at table v a =
-      record { table = table; number = a.number; seen = v.seen; mine = a.mine; told = a.told; stays = a.stays }
+      record {
+        table = table;
+        number = a.number;
+        seen = v.seen;
+        mine = a.mine;
+        told = a.told;
+        stays = a.stays;
+      }
 
   -- the pass of a badge with these views
   abbrev pub pass_of : TableId → List (View E D) → PassView E D
@@ -78,7 +85,14 @@ module _ {E D : Type 0} where
   -- the same pass, which has seen another list
   abbrev pub with_seen : PassView E D → List E → PassView E D
   with_seen p seen =
-      record { table = p.table; number = p.number; seen = seen; mine = p.mine; told = p.told; stays = p.stays }
+      record {
+        table = p.table;
+        number = p.number;
+        seen = seen;
+        mine = p.mine;
+        told = p.told;
+        stays = p.stays;
+      }
 
   -- each is a pass of this table
   abbrev pub AreOf : TableId → List (PassView E D) → Type 0
@@ -86,7 +100,8 @@ module _ {E D : Type 0} where
 
   -- each number below n is that of some pass
   abbrev pub HaveAll : ℕ → List (PassView E D) → Type 0
-  HaveAll n passes = (k : ℕ) → k < n → (i : ℕ) × (p : PassView E D) × (slice_get passes i ≡ Some p) × (p.number ≡ k)
+  HaveAll n passes = (k : ℕ) → k < n
+      → (i : ℕ) × (p : PassView E D) × (slice_get passes i ≡ Some p) × (p.number ≡ k)
 
   -- the place stands in the `mine` of exactly one pass
   abbrev pub IsMadeOnce : List (PassView E D) → ℕ → Type 0
@@ -97,8 +112,10 @@ module _ {E D : Type 0} where
   -- the stretches of any two members, of one pass or of two, share at most an end
   abbrev pub AreApart : List (PassView E D) → Type 0
   AreApart passes =
-      (i j a b : ℕ) (p q : PassView E D) (s t : Member D) → slice_get passes i ≡ Some p → slice_get passes j ≡ Some q →
-      slice_get p.told a ≡ Some s → slice_get q.told b ≡ Some t → (i ≢ j) ⊎ (a ≢ b) → (s.to ≤ t.from) ⊎ (t.to ≤ s.from)
+      (i j a b : ℕ) (p q : PassView E D) (s t : Member D) → slice_get passes i ≡ Some p
+      → slice_get passes j ≡ Some q →
+      slice_get p.told a ≡ Some s → slice_get q.told b ≡ Some t → (i ≢ j) ⊎ (a ≢ b)
+      → (s.to ≤ t.from) ⊎ (t.to ≤ s.from)
 
   -- The stretch of each member lies between two counts of faults.
   abbrev pub AreBetween : ℕ → ℕ → List (PassView E D) → Type 0

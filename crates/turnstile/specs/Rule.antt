@@ -16,7 +16,8 @@ use Rattle.turnstile.specs.Meaning.{Meaning}
 -- The places of the entries that the pass k made. Each entry has its maker, and the first of them stands at `at`.
 abbrev pub made_by : ℕ → ℕ → List ℕ → List ℕ
 made_by k at [] = []
-made_by k at (maker ∷ makers) = if k == maker then at ∷ made_by k (at + 1) makers else made_by k (at + 1) makers
+made_by k at (maker ∷ makers) = if k == maker then at
+    ∷ made_by k (at + 1) makers else made_by k (at + 1) makers
 
 module _ {D : Type 0} where
   -- what the pass k was told, of all that was told, each with the number of its pass
@@ -104,11 +105,25 @@ module _ {E D : Type 0} where
 
   abbrev pub waiting_view : View E D → ℕ → View E D
   waiting_view v t =
-      record { stage = Stage.Waiting; ticket = t; from = v.from; seen = v.seen; aside = v.aside; accounts = v.accounts }
+      record {
+        stage = Stage.Waiting;
+        ticket = t;
+        from = v.from;
+        seen = v.seen;
+        aside = v.aside;
+        accounts = v.accounts;
+      }
 
   abbrev pub turn_view : View E D → List E → ℕ → View E D
   turn_view v list faults =
-      record { stage = Stage.InTurn; ticket = v.ticket; from = faults; seen = list; aside = []; accounts = v.accounts }
+      record {
+        stage = Stage.InTurn;
+        ticket = v.ticket;
+        from = faults;
+        seen = list;
+        aside = [];
+        accounts = v.accounts;
+      }
 
   -- An idle view is cut in two: the new seat has the first account, and the old one keeps the others.
   abbrev pub left_part : View E D → View E D
@@ -147,7 +162,8 @@ module _ {T E D : Type 0} (m : Meaning T E D) (opened : T) where
     pub accounts : Each (AccountFits past.makers past.members) v.accounts
     pub ticket : busy v ≡ 1 → (past.serving ≤ v.ticket) × (v.ticket < past.drawn) × (1 ≤ passes v)
     pub turn : in_turn v ≡ 1 →
-        (v.ticket ≡ past.serving) × (v.seen ≡ past.history) × (last_count (m.faults opened) past.members ≤ v.from)
+        (v.ticket ≡ past.serving) × (v.seen ≡ past.history)
+        × (last_count (m.faults opened) past.members ≤ v.from)
 
   -- All views fit. There are as many tickets out as seats that have one, and each such seat has its own. There are n
   -- passes, with the numbers below n, each in one account of one seat.
@@ -162,7 +178,8 @@ module _ {T E D : Type 0} (m : Meaning T E D) (opened : T) where
   -- What happened since the opening: each entry that was added has a maker, a number below n, the stretches of
   -- faults are in order, and of each member holds what has to.
   pub record PastFits (n : ℕ) (past : Past E D) : Type 0 where
-    pub list : (added : List E) × (past.history ≡ m.entries opened ++ added) × (length added ≡ length past.makers)
+    pub list : (added : List E) × (past.history ≡ m.entries opened ++ added)
+        × (length added ≡ length past.makers)
     pub makers : Each (λ k. k < n) past.makers
     pub faults : InOrder (m.faults opened) past.members
     pub told : Each (λ t. m.tells t.1) past.members

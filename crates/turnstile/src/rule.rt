@@ -23,7 +23,8 @@ pub struct TurnRule<T> {
 }
 
 impl<T: Tally> TableRule<T, View<T::Entry, T::Told>, Key<T>> for TurnRule<T> {
-    ghost holds = { λ k. IsKept (meaning T.entries T.faults T.stays T.first T.tells) k.opened.value k.passes };
+    ghost holds = { λ k. IsKept (meaning T.entries T.faults T.stays T.first T.tells)
+        k.opened.value k.passes };
 
     ghost first = { λ k. idle_view (T.entries k.opened.value) []
         (accounts_from 0 k.passes (T.stays k.opened.value)) };

@@ -266,7 +266,8 @@ impl<T: Tally> Turnstile<T> {
         ensures mine { (place : ℕ)
             → IsAdded (meaning T.entries T.faults T.stays T.first T.tells) self.value result place
             → IsMadeOnce passes.items place }
-        ensures others { AreAdded (meaning T.entries T.faults T.stays T.first T.tells) self.value result passes.items }
+        ensures others { AreAdded (meaning T.entries T.faults T.stays T.first T.tells) self.value
+            result passes.items }
         ensures faults { T.faults self.value ≤ T.faults result }
         ensures stretches { AreBetween (T.faults self.value) (T.faults result) passes.items }
         ensures apart { AreApart passes.items }
