@@ -2,3 +2,4 @@ pub mod Ranging
 pub mod Sending
 pub mod Fronts
 pub mod Offices
+pub mod Callers

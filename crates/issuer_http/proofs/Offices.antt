@@ -1,15 +1,14 @@
 -- What serving an office does.
-use Rattle.std.proofs.Common.{◌≡◌, ℕ, ℤ, List, [], Option, Some, inl, inr, refl, sym, subst, arith}
+use Rattle.std.proofs.Common.{ℕ, List, [], Option, Some, inl, inr, refl, sym, subst, arith}
 use Rattle.lei_office.specs.Answering.{CountedOffice, MayBeAsked, OfficeStep, StepsBy}
 use Rattle.lei_office.proofs.Sessions.{office_counts, office_exact, office_fits, serves_untold}
 use Rattle.lei_outside.proofs.Told.{Loses-none}
-use Rattle.register_words.specs.declared.reply.Reply.{Reply}
 use Rattle.register_words.specs.declared.request.Asked.{Asked}
 use Rattle.request_loop.specs.Frames.{Fits}
 use Rattle.request_loop.specs.Serving as any
 use Rattle.request_loop.specs.declared.frames.Ended.TheVariants as loop
 use Rattle.request_loop.specs.declared.frames.Want.{Want}
-use Rattle.request_loop.proofs.Parts.{StepsOf, completes_of, progress_of, serves_of}
+use Rattle.request_loop.proofs.Parts.{completes_of, progress_of, serves_of}
 use Rattle.request_loop.proofs.Running.{ran_nothing}
 use Rattle.issuer_http.specs.Frames.{IsFrame, http_rules}
 use Rattle.issuer_http.specs.Serving.{Completes, CompletesBy, Progress, Serves, ServesBy, input_limit}
@@ -19,7 +18,7 @@ use Rattle.issuer_http.proofs.Ranging.{refusal_asked, request_asked}
 
 -- ---- what requests ask may be put to an office
 
-frame_asked : (bytes : List ℕ) (want : Want Asked HttpEnd) (rest : List ℕ) → IsFrame bytes (Some want) rest
+pub frame_asked : (bytes : List ℕ) (want : Want Asked HttpEnd) (rest : List ℕ) → IsFrame bytes (Some want) rest
     → MayBeAsked want.asked
 frame_asked bytes want rest (inl (head, read, is, after)) =
     let M : Want Asked HttpEnd → Type 0 = λ w. MayBeAsked w.asked in subst M (sym is) (request_asked bytes head)

@@ -3,3 +3,4 @@ pub mod Responses
 pub mod Frames
 pub mod FramesStay
 pub mod Serving
+pub mod Callers

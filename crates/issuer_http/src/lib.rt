@@ -2,12 +2,14 @@
 //! alone.
 #![tactic(auto)]
 
+mod connection;
 mod ended;
 mod framing;
 mod requests;
 mod responses;
 mod serving;
 
+pub use connection::{serve_caller, serve_connection};
 pub use ended::Ended;
 pub use requests::{HttpRead, next_head, next_request};
 pub use responses::{Scratch, send_response};

@@ -93,7 +93,7 @@ pub fn serve_with<R: Threads + Sync, K: Keeper, L: Link, C: Clock>(
 }
 
 // The same, whoever answers the requests.
-fn serve_by<R, A: Answers<R, Asked = Asked, Reply = Reply>, L: Link, C: Clock>(
+pub fn serve_by<R, A: Answers<R, Asked = Asked, Reply = Reply>, L: Link, C: Clock>(
     rt: &R,
     alloc: Global,
     who: &mut A,

@@ -1,5 +1,5 @@
 -- A turn at the turnstile as a turn of the hall.
-use Rattle.std.proofs.Common.{◌≡◌, ◌⊎◌, inl, inr, ⊎_elim, ℕ, ℤ, ◌+◌, ◌≤◌, List, [], ◌∷◌, ◌++◌, length, length-append, append-nil, Some, refl, sym, ap, ◌∙◌, subst, arith}
+use Rattle.std.proofs.Common.{◌≡◌, ℕ, ℤ, Some, refl, sym, ap, ◌∙◌, subst}
 use Rattle.lei_outside.specs.declared.entry.KeptEntry.{KeptEntry}
 use Rattle.register_words.specs.declared.limits.Limits.{Limits}
 use Rattle.register_words.specs.declared.reply.Reply.{Reply}
@@ -7,12 +7,11 @@ use Rattle.register_words.specs.declared.request.Request.{Request}
 use Rattle.register_history.specs.Legal.{Legal}
 use Rattle.register_history.specs.Replies.{Step}
 use Rattle.register_history.specs.State.{OfficeState, office_of}
-use Rattle.lei_office.specs.Offices.{KeptOffice}
 use Rattle.turnstile.specs.Meaning.{Meaning, meaning}
-use Rattle.turnstile.specs.Passes.{IsTurn, pass_after}
+use Rattle.turnstile.specs.Passes.{IsTurn}
 use Rattle.lei_hall.specs.declared.answers.Told.{Told}
 use Rattle.lei_hall.specs.declared.slot.Slot.{Slot}
-use Rattle.lei_hall.specs.Passes.{HallPass, ReportsSo, limits_of, numbers_of, seen_by, told}
+use Rattle.lei_hall.specs.Passes.{HallPass, ReportsSo, limits_of, numbers_of, told}
 use Rattle.lei_hall.specs.Turns.{Answers, Turn}
 
 -- The turn of a pass at the turnstile, in which a request was put to the office, is a turn of the hall.

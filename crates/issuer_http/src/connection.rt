@@ -1,0 +1,78 @@
+//! A connection whose requests a caller puts to the office of a hall.
+ghost use Rattle.std.specs.Prelude.{◌≡◌, ℕ, List, Some};
+ghost use Rattle.http_heads.specs.Routes.{routes};
+ghost use Rattle.lei_outside.specs.Count.{Rose};
+ghost use Rattle.lei_hall.specs.Calling.{AskTurn};
+ghost use Rattle.request_loop.specs.Serving.{progress as progress_of};
+ghost use Rattle.issuer_http.specs.Callers.{ServesCaller};
+ghost use Rattle.issuer_http.specs.Serving.{CompletesBy};
+ghost use Rattle.issuer_http.specs.declared.ended.Ended.{Ended};
+
+use crate::ended::Ended;
+use crate::serving::serve_by;
+use http_heads::{Place, router};
+use lei_hall::{Caller, Pass};
+use lei_outside::{Clock, Gate, Keeper, Link};
+use matchit::Router;
+use std::alloc::Global;
+use std::sync::Wait;
+use std::thread::Threads;
+
+/// Serves one connection: reads requests from the link, has the caller put them to the office of its hall one
+/// after the other, each in one turn, and writes the response to each before the next is put. The clock is
+/// asked for one moment for each request that is put to the office, after its bytes were read. The pass comes
+/// back.
+pub fn serve_connection<R: Threads + Wait + Sync, K: Keeper, G: Gate, L: Link, C: Clock>(
+    rt: &R,
+    alloc: Global,
+    caller: Caller<'_, K, G>,
+    link: &mut L,
+    clock: &mut C,
+) -> (Pass, Ended)
+    ensures serves { ServesCaller
+        (progress_of caller.entry (C.given clock.old) (L.written link.old)) (L.left link.old)
+        (progress_of result.0 (C.given clock.new) (L.written link.new)) (L.left link.new) result.1 }
+    ensures read_fault { result.1 ≡ Ended.ReadFault → Rose (L.read_faults link.old) (L.read_faults link.new) }
+    ensures no_read_fault { ¬ (result.1 ≡ Ended.ReadFault) → L.read_faults link.new ≡ L.read_faults link.old }
+    ensures write_fault { result.1 ≡ Ended.WriteFault → Rose (L.write_faults link.old) (L.write_faults link.new) }
+    ensures no_write_fault { ¬ (result.1 ≡ Ended.WriteFault) → L.write_faults link.new ≡ L.write_faults link.old }
+    ensures complete { (bytes : List ℕ) → L.left link.old ≡ Some bytes → ¬ (result.1 ≡ Ended.NoMemory)
+        → ¬ (Rose (L.read_faults link.old) (L.read_faults link.new))
+        → ¬ (Rose (L.write_faults link.old) (L.write_faults link.new))
+        → CompletesBy AskTurn result.1
+        (progress_of caller.entry (C.given clock.old) (L.written link.old)) bytes
+        (progress_of result.0 (C.given clock.new) (L.written link.new)) }
+{
+    match router(alloc) {
+        Ok(router) => serve_caller(rt, alloc, caller, &router, link, clock),
+        Err(_) => (caller.into_pass(), Ended::NoMemory),
+    }
+}
+
+/// The same by a router that was made before, as for all connections of a server.
+pub fn serve_caller<R: Threads + Wait + Sync, K: Keeper, G: Gate, L: Link, C: Clock>(
+    rt: &R,
+    alloc: Global,
+    mut caller: Caller<'_, K, G>,
+    router: &Router<Place>,
+    link: &mut L,
+    clock: &mut C,
+) -> (Pass, Ended)
+    requires { router.now ≡ routes }
+    ensures serves { ServesCaller
+        (progress_of caller.entry (C.given clock.old) (L.written link.old)) (L.left link.old)
+        (progress_of result.0 (C.given clock.new) (L.written link.new)) (L.left link.new) result.1 }
+    ensures read_fault { result.1 ≡ Ended.ReadFault → Rose (L.read_faults link.old) (L.read_faults link.new) }
+    ensures no_read_fault { ¬ (result.1 ≡ Ended.ReadFault) → L.read_faults link.new ≡ L.read_faults link.old }
+    ensures write_fault { result.1 ≡ Ended.WriteFault → Rose (L.write_faults link.old) (L.write_faults link.new) }
+    ensures no_write_fault { ¬ (result.1 ≡ Ended.WriteFault) → L.write_faults link.new ≡ L.write_faults link.old }
+    ensures complete { (bytes : List ℕ) → L.left link.old ≡ Some bytes → ¬ (result.1 ≡ Ended.NoMemory)
+        → ¬ (Rose (L.read_faults link.old) (L.read_faults link.new))
+        → ¬ (Rose (L.write_faults link.old) (L.write_faults link.new))
+        → CompletesBy AskTurn result.1
+        (progress_of caller.entry (C.given clock.old) (L.written link.old)) bytes
+        (progress_of result.0 (C.given clock.new) (L.written link.new)) }
+{
+    let ended = serve_by(rt, alloc, &mut caller, router, link, clock);
+    (caller.into_pass(), ended)
+}
