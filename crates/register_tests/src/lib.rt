@@ -13,6 +13,7 @@ mod echoes;
 mod fakes;
 #[cfg(test)]
 mod file_keeper;
+pub mod halls;
 #[cfg(test)]
 mod http;
 #[cfg(test)]
