@@ -1,31 +1,20 @@
-//! Callers of one office: what each call of a hall asks can be met.
-ghost use Rattle.std.specs.Prelude.{◌≡◌};
-ghost use Rattle.register_words.specs.Requests.{IsUploadNumber};
+//! Callers of one office: each pass of a hall has a turn, passes meet, and the hall is closed.
+ghost use Rattle.std.specs.Prelude.{◌≡◌, [], IfOk};
+ghost use Rattle.register_words.specs.Requests.{IsNumbered, IsUploadNumber};
+ghost use Rattle.turnstile.specs.Passes.{AreOf, HaveAll};
 
+use lei_code::Lei;
 use lei_hall::{Hall, Pass};
-use lei_office::{Call, Office, Request};
-use lei_outside::{Keeper, OpenGate};
+use lei_office::{Call, Limits, Office, Request};
+use lei_outside::{KeepFault, Keeper, OpenGate, SureKeeper};
 use lei_shapes::Moment;
-use std::alloc::Global;
+use std::alloc::{AllocError, Global};
 use std::sync::Wait;
+use std::test::Fail;
 use std::thread::Threads;
 
-// Asks for the status.
-pub fn ask_status<K: Keeper, R: Threads + Wait + Sync>(
-    rt: &R,
-    hall: &Hall<K>,
-    pass: Pass,
-    moment: Moment,
-) -> Pass
-    requires { pass.table ≡ hall.now.table }
-    ensures { (result.table ≡ pass.table) × (result.number ≡ pass.number) }
-{
-    let (pass, _reply) = hall.ask(rt, pass, &Request::Status, moment);
-    pass
-}
-
 // A turn of each of two callers, who meet afterwards.
-pub fn ask_and_meet<K: Keeper, R: Threads + Wait + Sync>(
+fn ask_and_meet<K: Keeper, R: Threads + Wait + Sync>(
     rt: &R,
     hall: &Hall<K>,
     first: Pass,
@@ -43,10 +32,73 @@ pub fn ask_and_meet<K: Keeper, R: Threads + Wait + Sync>(
     hall.meet(rt, first, second)
 }
 
-// The office of a hall with so many passes, of which none was used.
-pub fn opened_and_closed<K: Keeper>(alloc: Global, office: Office<K>) -> Office<K> {
-    match Hall::open(alloc, office, 4) {
-        Ok((hall, passes)) => hall.close(passes),
-        Err(office) => office,
+// One turn of each pass, the last one first.
+fn one_turn_each<K: Keeper, R: Threads + Wait + Sync>(
+    rt: &R,
+    hall: &Hall<K>,
+    mut passes: Vec<Pass>,
+    mut done: Vec<Pass>,
+    request: &Request,
+    moment: Moment,
+) -> Result<Vec<Pass>, AllocError>
+    requires passes { AreOf hall.now.table passes.items }
+    requires all { HaveAll hall.now.passes passes.items }
+    requires none { done.items ≡ [] }
+    requires numbered { IsNumbered request.now }
+    ensures passes { IfOk result (λ done. AreOf hall.now.table done.items) }
+    ensures all { IfOk result (λ done. HaveAll hall.now.passes done.items) }
+{
+    while let Some(pass) = passes.pop() {
+        let (pass, _reply) = hall.ask(rt, pass, request, moment);
+        done.push(pass)?;
     }
+    Ok(done)
+}
+
+// The keeper of an office after a turn of each of three passes, who all accredit the same issuer.
+fn keeper_after<K: Keeper + Drop, R: Threads + Wait + Sync>(
+    rt: &R,
+    alloc: Global,
+    office: Office<K>,
+    issuer: Lei,
+    moment: Moment,
+) -> Option<K> {
+    let (hall, passes) = match Hall::open(alloc, office, 3) {
+        Ok(opened) => opened,
+        Err(office) => return Some(office.close()),
+    };
+    match one_turn_each(
+        rt,
+        &hall,
+        passes,
+        Vec::new(alloc),
+        &Request::Accredit(issuer),
+        moment,
+    ) {
+        Ok(passes) => Some(hall.close(passes).close()),
+        Err(_) => None,
+    }
+}
+
+// How many entries a keeper has.
+fn last<K: Keeper + Drop>(mut keeper: K) -> Result<u64, KeepFault> {
+    keeper.last()
+}
+
+fn entries_of_three<R: Threads + Wait + Sync>(rt: &R, alloc: Global) -> Option<u64> {
+    let issuer = Lei::read(b"506700GE1G29325QX363").ok()?;
+    let moment = Moment::of(1_736_553_600)?;
+    match Office::open(rt, alloc, SureKeeper::new(alloc), Limits::standard()) {
+        Ok(office) => {
+            let keeper = keeper_after(rt, alloc, office, issuer, moment)?;
+            last(keeper).ok()
+        }
+        Err(_) => None,
+    }
+}
+
+#[test]
+fn what_three_passes_ask_for_is_one_history(rt: HostRuntime) -> Result<(), Fail> {
+    assert!(rt; entries_of_three(&rt, rt.alloc()) == Some(1));
+    Ok(())
 }

@@ -13,7 +13,8 @@ mod echoes;
 mod fakes;
 #[cfg(test)]
 mod file_keeper;
-pub mod halls;
+#[cfg(test)]
+mod halls;
 #[cfg(test)]
 mod http;
 #[cfg(test)]
