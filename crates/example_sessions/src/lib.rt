@@ -18,5 +18,5 @@ pub use document::{Document, LineFault};
 pub use fault::Fault;
 pub use run::{Change, Run};
 pub use session::Session;
-pub use telling::is_wanted;
+pub use telling::{Trial, is_wanted};
 pub use texts::Named;

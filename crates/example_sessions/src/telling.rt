@@ -6,14 +6,20 @@ use crate::run::Run;
 use std::alloc::Global;
 use std::io;
 
-/// Whether a run came out as wanted, of a session with this title in this file, by reads and writes of at most so many
-/// bytes. Where it didn't, that is told.
+/// The session in which a run is made, and how: with this title, in this file, by reads and writes of at most so
+/// many bytes.
+#[derive(Clone, Copy)]
+pub struct Trial<'a> {
+    pub file: &'a str,
+    pub title: &'a str,
+    pub size: usize,
+}
+
+/// Whether a run came out as wanted. Where it didn't, that is printed, with the trial that it was made in.
 pub fn is_wanted<R: Print + AllocGlobal>(
     rt: &R,
     alloc: Global,
-    file: &str,
-    title: &str,
-    size: usize,
+    trial: Trial<'_>,
     run: &Run,
     came: &Came,
 ) -> io::Result<bool>
@@ -23,6 +29,7 @@ pub fn is_wanted<R: Print + AllocGlobal>(
     if came.is(run) {
         return Ok(true);
     }
+    let Trial { file, title, size } = trial;
     println!(rt; "{file}: {title}: FAILED by at most {size} bytes")?;
     tell_difference(rt, alloc, run, came)?;
     Ok(false)

@@ -3,7 +3,7 @@ ghost use Rattle.std.specs.Prelude.{◌≤◌};
 
 use crate::stores::Store;
 use crate::trial::came_in_memory;
-use example_sessions::{Came, Session, is_wanted};
+use example_sessions::{Came, Session, Trial, is_wanted};
 use lei_outside::KeepFault;
 use program_words::help_of;
 use std::alloc::Global;
@@ -55,10 +55,12 @@ fn passes<R: Print + AllocGlobal + Threads + Sync>(
 ) -> io::Result<bool>
     requires { 1 ≤ size }
 {
+    let title = session.title();
+    let trial = Trial { file, title, size };
     let mut stores: Vec<Store> = Vec::new(alloc);
     for run in session.runs() {
         let came = told(came_in_memory(rt, alloc, run, size, &mut stores))?;
-        if !is_wanted(rt, alloc, file, session.title(), size, run, &came)? {
+        if !is_wanted(rt, alloc, trial, run, &came)? {
             return Ok(false);
         }
     }
