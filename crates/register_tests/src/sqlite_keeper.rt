@@ -164,22 +164,16 @@ fn session_ending<R: Threads + Sync>(
     }
 }
 
-// How many calls of a disk are passed on in turn.
-#[derive(Clone, Copy)]
-struct Stops {
-    failing: Failing,
-    first: usize,
-    step: usize,
-}
-
-// The first number of calls with which the session isn't stopped, and how it ended there.
+// The first number of calls with which the session isn't stopped, of every second one from the first on, and how
+// the session ended there.
 fn first_unstopped<R: Threads + Sync>(
     rt: &R,
     alloc: Global,
-    stops: Stops,
-) -> Result<(usize, Ending), NoMemory> {
-    for calls in (stops.first..20_000).step_by(stops.step) {
-        let ending = session_ending(rt, alloc, stops.failing, calls as u64)?;
+    failing: Failing,
+    first: u64,
+) -> Result<(u64, Ending), NoMemory> {
+    for calls in (first..20_000).step_by(2) {
+        let ending = session_ending(rt, alloc, failing, calls)?;
         if ending != Ending::Stopped {
             return Ok((calls, ending));
         }
@@ -187,39 +181,34 @@ fn first_unstopped<R: Threads + Sync>(
     Ok((20_000, Ending::Stopped))
 }
 
-// Whether a crash at each call of these loses nothing.
-fn lose_nothing<R: Threads + Sync>(
+// Whether a crash at every second call from the first on loses nothing.
+fn loses_nothing<R: Threads + Sync>(
     rt: &R,
     alloc: Global,
     failing: Failing,
-    first: usize,
-    step: usize,
+    first: u64,
 ) -> Result<bool, NoMemory> {
-    let stops = Stops {
-        failing,
-        first,
-        step,
-    };
-    let (calls, ending) = first_unstopped(rt, alloc, stops)?;
-    Ok(ending == Ending::Whole && calls > step)
+    let (calls, ending) = first_unstopped(rt, alloc, failing, first)?;
+    Ok(ending == Ending::Whole && calls > 2)
 }
 
 #[test]
 fn a_crash_at_any_call_of_the_database_file_loses_nothing(rt: HostRuntime) -> Result<(), Fail> {
-    assert!(rt; lose_nothing(&rt, rt.alloc(), Failing::Database, 0, 1)?);
+    assert!(rt; loses_nothing(&rt, rt.alloc(), Failing::Database, 0)?);
+    assert!(rt; loses_nothing(&rt, rt.alloc(), Failing::Database, 1)?);
     Ok(())
 }
 
 // The calls of the log are parted, so that each test is short.
 #[test]
 fn a_crash_at_any_even_call_of_the_log_loses_nothing(rt: HostRuntime) -> Result<(), Fail> {
-    assert!(rt; lose_nothing(&rt, rt.alloc(), Failing::Log, 0, 2)?);
+    assert!(rt; loses_nothing(&rt, rt.alloc(), Failing::Log, 0)?);
     Ok(())
 }
 
 #[test]
 fn a_crash_at_any_odd_call_of_the_log_loses_nothing(rt: HostRuntime) -> Result<(), Fail> {
-    assert!(rt; lose_nothing(&rt, rt.alloc(), Failing::Log, 1, 2)?);
+    assert!(rt; loses_nothing(&rt, rt.alloc(), Failing::Log, 1)?);
     Ok(())
 }
 
