@@ -164,7 +164,7 @@ fn session_ending<R: Threads + Sync>(
     }
 }
 
-// The first number of calls with which the session isn't stopped, of every second one from the first on, and how
+// The first number of calls with which the session isn't stopped, of every fourth one from the first on, and how
 // the session ended there.
 fn first_unstopped<R: Threads + Sync>(
     rt: &R,
@@ -172,7 +172,7 @@ fn first_unstopped<R: Threads + Sync>(
     failing: Failing,
     first: u64,
 ) -> Result<(u64, Ending), NoMemory> {
-    for calls in (first..20_000).step_by(2) {
+    for calls in (first..20_000).step_by(4) {
         let ending = session_ending(rt, alloc, failing, calls)?;
         if ending != Ending::Stopped {
             return Ok((calls, ending));
@@ -181,7 +181,7 @@ fn first_unstopped<R: Threads + Sync>(
     Ok((20_000, Ending::Stopped))
 }
 
-// Whether a crash at every second call from the first on loses nothing.
+// Whether a crash at every fourth call from the first on loses nothing.
 fn loses_nothing<R: Threads + Sync>(
     rt: &R,
     alloc: Global,
@@ -189,26 +189,48 @@ fn loses_nothing<R: Threads + Sync>(
     first: u64,
 ) -> Result<bool, NoMemory> {
     let (calls, ending) = first_unstopped(rt, alloc, failing, first)?;
-    Ok(ending == Ending::Whole && calls > 2)
+    Ok(ending == Ending::Whole && calls > 4)
 }
 
 #[test]
 fn a_crash_at_any_call_of_the_database_file_loses_nothing(rt: HostRuntime) -> Result<(), Fail> {
-    assert!(rt; loses_nothing(&rt, rt.alloc(), Failing::Database, 0)?);
-    assert!(rt; loses_nothing(&rt, rt.alloc(), Failing::Database, 1)?);
+    for first in 0u64..4 {
+        assert!(rt;
+            loses_nothing(&rt, rt.alloc(), Failing::Database, first)?,
+            "{first}"
+        );
+    }
     Ok(())
 }
 
 // The calls of the log are parted, so that each test is short.
 #[test]
-fn a_crash_at_any_even_call_of_the_log_loses_nothing(rt: HostRuntime) -> Result<(), Fail> {
+fn a_crash_in_the_first_of_four_calls_of_the_log_loses_nothing(
+    rt: HostRuntime,
+) -> Result<(), Fail> {
     assert!(rt; loses_nothing(&rt, rt.alloc(), Failing::Log, 0)?);
     Ok(())
 }
 
 #[test]
-fn a_crash_at_any_odd_call_of_the_log_loses_nothing(rt: HostRuntime) -> Result<(), Fail> {
+fn a_crash_in_the_second_of_four_calls_of_the_log_loses_nothing(
+    rt: HostRuntime,
+) -> Result<(), Fail> {
     assert!(rt; loses_nothing(&rt, rt.alloc(), Failing::Log, 1)?);
+    Ok(())
+}
+
+#[test]
+fn a_crash_in_the_third_of_four_calls_of_the_log_loses_nothing(
+    rt: HostRuntime,
+) -> Result<(), Fail> {
+    assert!(rt; loses_nothing(&rt, rt.alloc(), Failing::Log, 2)?);
+    Ok(())
+}
+
+#[test]
+fn a_crash_in_the_last_of_four_calls_of_the_log_loses_nothing(rt: HostRuntime) -> Result<(), Fail> {
+    assert!(rt; loses_nothing(&rt, rt.alloc(), Failing::Log, 3)?);
     Ok(())
 }
 
