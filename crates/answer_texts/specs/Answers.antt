@@ -47,9 +47,12 @@ upload_text entry issuer upload verdicts =
 -- records, relationships and exceptions it has
 abbrev pub publication_answer : ℕ → ℕ → ℤ → ℕ × ℕ × ℕ → Data
 publication_answer entry publication moment counts =
-    object (member (codes "contentDate") (string (moment_text moment)) (member (codes "entry") (number (unsigned entry))
-    (member (codes "lei") (number (unsigned counts.0)) (member (codes "publication") (number (unsigned publication))
-    (member (codes "repex") (number (unsigned counts.2)) (member (codes "rr") (number (unsigned counts.1)) no_members))))))
+    object (member (codes "contentDate") (string (moment_text moment))
+    (member (codes "entry") (number (unsigned entry))
+    (member (codes "lei") (number (unsigned counts.0))
+    (member (codes "publication") (number (unsigned publication))
+    (member (codes "repex") (number (unsigned counts.2))
+    (member (codes "rr") (number (unsigned counts.1)) no_members))))))
 
 -- its text
 unfoldable pub publication_text : ℕ → ℕ → ℤ → ℕ × ℕ × ℕ → Text

@@ -222,7 +222,8 @@ publication_from name bytes = publication_behind (number_begin name) bytes
 -- How many records a file has, and the bytes behind the bracket that opens their array.
 unfoldable pub count_from : List ℕ → Option (ℕ × List ℕ)
 count_from bytes =
-    option_and_then (λ read. option_map (λ rest. (read.0, rest)) (after records_begin read.1)) (number_behind (number_begin (codes "recordCount")) bytes)
+    option_and_then (λ read. option_map (λ rest. (read.0, rest)) (after records_begin read.1))
+    (number_behind (number_begin (codes "recordCount")) bytes)
 
 -- ---- files
 

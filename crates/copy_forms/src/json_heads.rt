@@ -114,7 +114,8 @@ fn number_behind<'a>(bytes: &'a [u8], front: &[u8]) -> Option<(u64, &'a [u8])>
 /// The number of a publication, and the bytes behind it.
 #[tactic(auto, unfolding(json::specs::Print::escape_byte))]
 pub fn publication_from(bytes: &[u8]) -> Option<(u32, &[u8])>
-    ensures { option_map (λ read. (read.0, read.1.now)) result ≡ spec.publication_from (codes "publication") bytes.now }
+    ensures { option_map (λ read. (read.0, read.1.now)) result
+        ≡ spec.publication_from (codes "publication") bytes.now }
 {
     publication_behind(bytes, b",\"publication\":")
 }
@@ -122,7 +123,8 @@ pub fn publication_from(bytes: &[u8]) -> Option<(u32, &[u8])>
 /// The number of the publication that a delta goes from, and the bytes behind it.
 #[tactic(auto, unfolding(json::specs::Print::escape_byte))]
 pub fn base_from(bytes: &[u8]) -> Option<(u32, &[u8])>
-    ensures { option_map (λ read. (read.0, read.1.now)) result ≡ spec.publication_from (codes "fromPublication") bytes.now }
+    ensures { option_map (λ read. (read.0, read.1.now)) result
+        ≡ spec.publication_from (codes "fromPublication") bytes.now }
 {
     publication_behind(bytes, b",\"fromPublication\":")
 }

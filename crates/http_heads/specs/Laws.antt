@@ -34,7 +34,8 @@ rows_in_order =
     route_row (codes "/v1/copies/" ++ param (codes "/" ++ param [])) (codes "table" ∷ codes "form" ∷ []) Place.Copy
     ∷ route_row (codes "/v1/deltas/" ++ param (codes "/" ++ param (codes "/" ++ param [])))
     (codes "base" ∷ codes "table" ∷ codes "form" ∷ []) Place.Delta
-    ∷ route_row (codes "/v1/issuers/" ++ param (codes "/uploads/" ++ param [])) (codes "lou" ∷ codes "number" ∷ []) Place.Upload
+    ∷ route_row (codes "/v1/issuers/" ++ param (codes "/uploads/" ++ param []))
+    (codes "lou" ∷ codes "number" ∷ []) Place.Upload
     ∷ route_row (codes "/v1/issuers/" ++ param []) (codes "lou" ∷ []) Place.Issuer
     ∷ route_row (codes "/v1/publications/" ++ param []) (codes "number" ∷ []) Place.Publication
     ∷ route_row (codes "/v1/records/" ++ param []) (codes "lei" ∷ []) Place.Record

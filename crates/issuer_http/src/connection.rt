@@ -35,7 +35,8 @@ pub fn serve_connection<R: Threads + Wait + Sync, K: Keeper, G: Gate, L: Link, C
     ensures read_fault { result.1 ≡ Ended.ReadFault → Rose (L.read_faults link.old) (L.read_faults link.new) }
     ensures no_read_fault { ¬ (result.1 ≡ Ended.ReadFault) → L.read_faults link.new ≡ L.read_faults link.old }
     ensures write_fault { result.1 ≡ Ended.WriteFault → Rose (L.write_faults link.old) (L.write_faults link.new) }
-    ensures no_write_fault { ¬ (result.1 ≡ Ended.WriteFault) → L.write_faults link.new ≡ L.write_faults link.old }
+    ensures no_write_fault { ¬ (result.1 ≡ Ended.WriteFault)
+        → L.write_faults link.new ≡ L.write_faults link.old }
     ensures complete { (bytes : List ℕ) → L.left link.old ≡ Some bytes → ¬ (result.1 ≡ Ended.NoMemory)
         → ¬ (Rose (L.read_faults link.old) (L.read_faults link.new))
         → ¬ (Rose (L.write_faults link.old) (L.write_faults link.new))
@@ -65,7 +66,8 @@ pub fn serve_caller<R: Threads + Wait + Sync, K: Keeper, G: Gate, L: Link, C: Cl
     ensures read_fault { result.1 ≡ Ended.ReadFault → Rose (L.read_faults link.old) (L.read_faults link.new) }
     ensures no_read_fault { ¬ (result.1 ≡ Ended.ReadFault) → L.read_faults link.new ≡ L.read_faults link.old }
     ensures write_fault { result.1 ≡ Ended.WriteFault → Rose (L.write_faults link.old) (L.write_faults link.new) }
-    ensures no_write_fault { ¬ (result.1 ≡ Ended.WriteFault) → L.write_faults link.new ≡ L.write_faults link.old }
+    ensures no_write_fault { ¬ (result.1 ≡ Ended.WriteFault)
+        → L.write_faults link.new ≡ L.write_faults link.old }
     ensures complete { (bytes : List ℕ) → L.left link.old ≡ Some bytes → ¬ (result.1 ≡ Ended.NoMemory)
         → ¬ (Rose (L.read_faults link.old) (L.read_faults link.new))
         → ¬ (Rose (L.write_faults link.old) (L.write_faults link.new))

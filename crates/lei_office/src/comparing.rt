@@ -61,7 +61,8 @@ fn compare_page<K: Keeper>(
     bounds: (u64, u64),
 ) -> Result<Option<Damage>, KeepFault>
     ensures compares { IfOk result (λ found. IfSome (K.tables keeper.new)
-        (λ told. Compares (kept_page told bounds) (made_page (held_after register.now.limits register.now.history) bounds) found)) }
+        (λ told. Compares (kept_page told bounds)
+            (made_page (held_after register.now.limits register.now.history) bounds) found)) }
     ensures same { Stays (K.tables keeper.old) (K.tables keeper.new) }
     ensures crash { LeavesNoMore (K.leaves keeper.old) (K.leaves keeper.new) }
     ensures count { K.faults keeper.old ≤ K.faults keeper.new }

@@ -88,7 +88,8 @@ apply_by None form copy delta = None
 -- The file of the copy is the first, and that of the delta the second. A path may be any text, the empty one too.
 abbrev pub apply_meant : List Row → Option Meant
 apply_meant rows = apply_by (option_and_then sheet_of (first_of (codes "TABLE") rows))
-    (option_and_then form_of (first_of (codes "FORM") rows)) (first_of (codes "COPY") rows) (first_of (codes "DELTA") rows)
+    (option_and_then form_of (first_of (codes "FORM") rows))
+    (first_of (codes "COPY") rows) (first_of (codes "DELTA") rows)
 
 -- Any text is checked, the empty one too.
 abbrev pub check_meant : List Row → Option Meant

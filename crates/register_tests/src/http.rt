@@ -190,7 +190,7 @@ content-type: text/plain
 content-length: 15
 connection: close
 
-LENGTH_REQUIRED^an upload without a length, of no number~BadHead~PUT /v1/issuers/506700GE1G29325QX363/uploads/01 HTTP/1.1
+LENGTH_REQUIRED^an upload of no number and no length~BadHead~PUT /v1/issuers/506700GE1G29325QX363/uploads/01 HTTP/1.1
 
 ~HTTP/1.1 411 Length Required
 content-type: text/plain
@@ -318,9 +318,9 @@ PUT /v1/publications/1 HTTP/1.1
 
 GET /v1/copies/repex/csv HTTP/1.1
 
-GET /v1/deltas/1/lei/json HTTP/1.1
-
 GET /v1/deltas/last-day/lei/json HTTP/1.1
+
+GET /v1/deltas/1/lei/json HTTP/1.1
 
 ~HTTP/1.1 200 OK
 content-type: application/json
@@ -362,15 +362,15 @@ content-length: 89
 content-type: text/csv
 content-length: 65
 
-"LEI","ExceptionCategory","ExceptionReason","ExceptionReference"&HTTP/1.1 200 OK
-content-type: application/json
-content-length: 103
-
-{"contentDate":"2025-01-11T00:00:00Z","fromPublication":1,"publication":1,"recordCount":0,"records":[]}HTTP/1.1 404 Not Found
+"LEI","ExceptionCategory","ExceptionReason","ExceptionReference"&HTTP/1.1 404 Not Found
 content-type: text/plain
 content-length: 7
 
-NO_BASE"#;
+NO_BASEHTTP/1.1 200 OK
+content-type: application/json
+content-length: 103
+
+{"contentDate":"2025-01-11T00:00:00Z","fromPublication":1,"publication":1,"recordCount":0,"records":[]}"#;
 
 const STATUS: &str =
     r#"{"entries":0,"exceptions":0,"issuers":0,"keptBytes":0,"publications":0,"records":0,"relationships":0}"#;
