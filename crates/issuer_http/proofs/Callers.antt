@@ -31,11 +31,10 @@ caller_serves before after left left_now ended (end, is, serves) = record {
 
 -- the same where the pass comes back
 pub comes_back : (before : any.Progress HallPass) (who back : HallPass) (given : Option (List ℤ)) (written left left_now : Option (List ℕ)) (ended : Ended)
-    → back ≡ who → ServesBy AskTurn before left (any.progress who given written) left_now ended
+    → back ≡ who → ServesCaller before left (any.progress who given written) left_now ended
     → ServesCaller before left (any.progress back given written) left_now ended
 comes_back before who back given written left left_now ended same serves =
-    subst (λ (p : HallPass). ServesCaller before left (any.progress p given written) left_now ended) (sym same)
-    (caller_serves before (any.progress who given written) left left_now ended serves)
+    subst (λ (p : HallPass). ServesCaller before left (any.progress p given written) left_now ended) (sym same) serves
 
 pub completes_back : (before : any.Progress HallPass) (who back : HallPass) (given : Option (List ℤ)) (written : Option (List ℕ)) (bytes : List ℕ) (ended : Ended)
     → back ≡ who → CompletesBy AskTurn ended before bytes (any.progress who given written)

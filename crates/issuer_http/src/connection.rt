@@ -25,7 +25,7 @@ use std::thread::Threads;
 pub fn serve_connection<R: Threads + Wait + Sync, K: Keeper, G: Gate, L: Link, C: Clock>(
     rt: &R,
     alloc: Global,
-    caller: Caller<'_, K, G>,
+    mut caller: Caller<'_, K, G>,
     link: &mut L,
     clock: &mut C,
 ) -> (Pass, Ended)
@@ -45,36 +45,39 @@ pub fn serve_connection<R: Threads + Wait + Sync, K: Keeper, G: Gate, L: Link, C
         (progress_of result.0 (C.given clock.new) (L.written link.new)) }
 {
     match router(alloc) {
-        Ok(router) => serve_caller(rt, alloc, caller, &router, link, clock),
+        Ok(router) => {
+            let ended = serve_caller(rt, alloc, &mut caller, &router, link, clock);
+            (caller.into_pass(), ended)
+        }
         Err(_) => (caller.into_pass(), Ended::NoMemory),
     }
 }
 
-/// The same by a router that was made before, as for all connections of a server.
+/// The same by a router that was made before, as for all connections of a server, for a caller that is lent.
 pub fn serve_caller<R: Threads + Wait + Sync, K: Keeper, G: Gate, L: Link, C: Clock>(
     rt: &R,
     alloc: Global,
-    mut caller: Caller<'_, K, G>,
+    caller: &mut Caller<'_, K, G>,
     router: &Router<Place>,
     link: &mut L,
     clock: &mut C,
-) -> (Pass, Ended)
+) -> Ended
     requires { router.now ≡ routes }
     ensures serves { ServesCaller
-        (progress_of caller.entry (C.given clock.old) (L.written link.old)) (L.left link.old)
-        (progress_of result.0 (C.given clock.new) (L.written link.new)) (L.left link.new) result.1 }
-    ensures read_fault { result.1 ≡ Ended.ReadFault → Rose (L.read_faults link.old) (L.read_faults link.new) }
-    ensures no_read_fault { ¬ (result.1 ≡ Ended.ReadFault) → L.read_faults link.new ≡ L.read_faults link.old }
-    ensures write_fault { result.1 ≡ Ended.WriteFault → Rose (L.write_faults link.old) (L.write_faults link.new) }
-    ensures no_write_fault { ¬ (result.1 ≡ Ended.WriteFault)
+        (progress_of caller.old (C.given clock.old) (L.written link.old)) (L.left link.old)
+        (progress_of caller.new (C.given clock.new) (L.written link.new)) (L.left link.new) result }
+    ensures read_fault { result ≡ Ended.ReadFault → Rose (L.read_faults link.old) (L.read_faults link.new) }
+    ensures no_read_fault { ¬ (result ≡ Ended.ReadFault) → L.read_faults link.new ≡ L.read_faults link.old }
+    ensures write_fault { result ≡ Ended.WriteFault
+        → Rose (L.write_faults link.old) (L.write_faults link.new) }
+    ensures no_write_fault { ¬ (result ≡ Ended.WriteFault)
         → L.write_faults link.new ≡ L.write_faults link.old }
-    ensures complete { (bytes : List ℕ) → L.left link.old ≡ Some bytes → ¬ (result.1 ≡ Ended.NoMemory)
+    ensures complete { (bytes : List ℕ) → L.left link.old ≡ Some bytes → ¬ (result ≡ Ended.NoMemory)
         → ¬ (Rose (L.read_faults link.old) (L.read_faults link.new))
         → ¬ (Rose (L.write_faults link.old) (L.write_faults link.new))
-        → CompletesBy AskTurn result.1
-        (progress_of caller.entry (C.given clock.old) (L.written link.old)) bytes
-        (progress_of result.0 (C.given clock.new) (L.written link.new)) }
+        → CompletesBy AskTurn result
+        (progress_of caller.old (C.given clock.old) (L.written link.old)) bytes
+        (progress_of caller.new (C.given clock.new) (L.written link.new)) }
 {
-    let ended = serve_by(rt, alloc, &mut caller, router, link, clock);
-    (caller.into_pass(), ended)
+    serve_by(rt, alloc, caller, router, link, clock)
 }

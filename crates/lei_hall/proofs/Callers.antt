@@ -14,7 +14,7 @@ use Rattle.lei_office.specs.Answering.{MayBeAsked, ReadsAs, RefusesBy}
 use Rattle.lei_office.proofs.Sessions.{may_be_read}
 use Rattle.turnstile.specs.declared.view.Member.{Member}
 use Rattle.lei_hall.specs.declared.answers.Told.{Told}
-use Rattle.lei_hall.specs.Calling.{AskTurn, GrewBy, IsSamePass}
+use Rattle.lei_hall.specs.Calling.{AskTurn, GrewBy, IsSamePass, TakesTurns, Turns}
 use Rattle.lei_hall.specs.Passes.{HallPass, member}
 
 -- ---- one step
@@ -91,6 +91,30 @@ session_grew before after (Ask request ∷ asks) moments (reply ∷ replies) (gi
 session_grew before after (Ask request ∷ asks) moments (reply ∷ replies) (given, rest, between, parts, inr (takes, none, own, same), others) =
     let grew = unput (Ask request) before between after asks moments given rest replies parts none same (session_grew between after asks rest replies others) in
     record { members = grew.members; told = grew.told; turns = grew.turns; told_of = inr (takes, own, grew.told_of) }
+
+-- ---- turns alone
+
+pub takes_none : (pass : HallPass) → TakesTurns pass pass
+takes_none pass = record { members = []; told = sym (append-nil pass.told); turns = refl }
+
+turns_join : (before mid after : HallPass) (first then : List (Member Told)) → Turns before first mid → Turns mid then after
+    → Turns before (first ++ then) after
+turns_join before mid after [] then same turns = subst (λ (p : HallPass). Turns p then after) same turns
+turns_join before mid after (t ∷ first) then (between, turn, told, others) turns =
+    (between, turn, told, turns_join between mid after first then others turns)
+
+pub takes_join : (before mid after : HallPass) → TakesTurns before mid → TakesTurns mid after → TakesTurns before after
+takes_join before mid after first then = record {
+  members = first.members ++ then.members;
+  told = then.told ∙ ap (λ (l : List (Member Told)). l ++ then.members) first.told ∙ append_assoc before.told first.members then.members;
+  turns = turns_join before mid after first.members then.members first.turns then.turns;
+}
+
+pub session_turns : (before after : HallPass) (asks : List Asked) (moments : List ℤ) (replies : List Reply) → Session AskTurn before asks moments replies after
+    → TakesTurns before after
+session_turns before after asks moments replies session =
+    let grew = session_grew before after asks moments replies session in
+    record { members = grew.members; told = grew.told; turns = grew.turns }
 
 -- ---- the session of serving
 

@@ -1,3 +1,4 @@
 pub mod Turning
 pub mod Closing
 pub mod Callers
+pub mod Sent

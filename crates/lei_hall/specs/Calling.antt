@@ -58,6 +58,13 @@ pub record GrewBy (before : HallPass) (asks : List Asked) (moments : List ℤ) (
   pub turns : Turns before members after
   pub told_of : AreToldOf asks moments replies members
 
+-- What a pass was told grew by some members, and one turn for each leads, in order, from its state before to
+-- the one after.
+pub record TakesTurns (before after : HallPass) : Type 0 where
+  pub members : List (Member Told)
+  pub told : after.told ≡ before.told ++ members
+  pub turns : Turns before members after
+
 -- ---- inside
 
 -- The pass of a caller, which always has one.

@@ -1,3 +1,4 @@
 pub mod Passes
 pub mod Turns
+pub mod Closing
 pub mod Calling

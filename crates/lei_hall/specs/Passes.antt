@@ -1,6 +1,7 @@
 -- Passes and a hall as contracts see them.
-use Rattle.std.specs.Prelude.{ℕ, ℤ, ◌+◌, ◌≤◌, ◌<◌, List, [], ◌∷◌, length, get_or}
+use Rattle.std.specs.Prelude.{ℕ, ℤ, ◌+◌, ◌≤◌, ◌<◌, List, [], ◌∷◌, length, get_or, Option, None, Some}
 use Rattle.atomic_table.specs.Seated.{TableId}
+use Rattle.lei_outside.specs.Keeping.{KeptTables}
 use Rattle.lei_outside.specs.declared.entry.KeptEntry.{KeptEntry}
 use Rattle.register_words.specs.declared.limits.Limits.{Limits}
 use Rattle.register_words.specs.declared.reply.Reply.{Reply}
@@ -20,13 +21,24 @@ pub record HallView (K : Type 0) : Type 0 where
   pub office : KeptOffice K
   pub passes : ℕ
 
--- ---- the limits of an office, which stay
+-- An office in the slot of a turnstile, with the one that it was at first.
+pub record SlotView (K : Type 0) : Type 0 where
+  pub office : KeptOffice K
+  pub first : KeptOffice K
 
--- The limits as four numbers.
-abbrev pub numbers_of : Limits → List ℕ
-numbers_of limits = limits.body ∷ limits.kept ∷ limits.entries ∷ limits.records ∷ []
+-- ---- what stays of an office
 
--- The limits that these numbers are.
+-- Whether tables are told, 1, or not, 0.
+abbrev pub told_number : Option KeptTables → ℕ
+told_number None = 0
+told_number (Some tables) = 1
+
+-- The limits as four numbers, and whether the keeper told its tables when the hall was opened.
+abbrev pub numbers_of : Limits → Option KeptTables → List ℕ
+numbers_of limits kept =
+    limits.body ∷ limits.kept ∷ limits.entries ∷ limits.records ∷ told_number kept ∷ []
+
+-- The limits that these numbers begin with.
 abbrev pub limits_of : List ℕ → Limits
 limits_of numbers = record {
   body = get_or numbers 0 0;
@@ -38,7 +50,7 @@ limits_of numbers = record {
 -- ---- passes
 
 -- A pass: the table that it is for, its number, the history that it has seen, the places of its own entries,
--- what it was told, and the limits of the office as the numbers that stay.
+-- what it was told, and the numbers that stay, which begin with the limits of the office.
 abbrev pub HallPass : Type 0
 HallPass = PassView KeptEntry Told
 

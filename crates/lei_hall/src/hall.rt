@@ -1,15 +1,14 @@
 //! The office, and the turns of its callers.
-ghost use Rattle.std.specs.Prelude.{◌≡◌, ℕ, ◌≤◌, length, All, IfOk, IfErr};
+ghost use Rattle.std.specs.Prelude.{◌≡◌, ◌≤◌, length, IfOk, IfErr};
 ghost use Rattle.std.specs.Thread.{IsSync};
-ghost use Rattle.register_history.specs.Kept.{Keeps};
+ghost use Rattle.register_history.specs.Kept.{Keeps, StaysUntold};
 ghost use Rattle.register_history.specs.Legal.{Legal};
 ghost use Rattle.register_words.specs.Requests.{IsNumbered, IsUploadNumber};
 ghost use Rattle.register_words.specs.declared.request.Request.TheVariants.{Upload};
-ghost use Rattle.request_loop.specs.Counts.{RoseBy};
-ghost use Rattle.turnstile.specs.Lists.{IsPrefix, longer};
-ghost use Rattle.turnstile.specs.Passes.{AreApart, AreBetween, AreFronts, AreNew, AreOf, HaveAll, IsMadeOnce};
-ghost use Rattle.turnstile.specs.Passes.{with_seen};
-ghost use Rattle.lei_hall.specs.Passes.{IsNewPlace, faults_told, numbers_of, seen_by};
+ghost use Rattle.turnstile.specs.Lists.{longer};
+ghost use Rattle.turnstile.specs.Passes.{AreFronts, AreNew, AreOf, HaveAll, with_seen};
+ghost use Rattle.lei_hall.specs.Closing.{Closes};
+ghost use Rattle.lei_hall.specs.Passes.{numbers_of, seen_by};
 ghost use Rattle.lei_hall.specs.Turns.{Answers, Turn};
 
 use crate::answers::{Answer, Settled, Told, put_request, settle_call};
@@ -34,6 +33,7 @@ pub struct Hall<K: Keeper> {
 }
 
 impl<K: Keeper> Model for Hall<K> {
+    ghost use Rattle.std.specs.Prelude.{◌≡◌};
     ghost use Rattle.lei_hall.specs.Passes.{HallView};
 
     ghost Value = { HallView K };
@@ -43,6 +43,8 @@ impl<K: Keeper> Model for Hall<K> {
       office = h.turnstile.value.office;
       passes = h.turnstile.passes;
     } };
+
+    ghost invariant = { λ h. h.turnstile.value.first ≡ h.turnstile.value.office };
 }
 
 impl<K: Keeper> Hall<K> {
@@ -58,14 +60,15 @@ impl<K: Keeper> Hall<K> {
         ensures number { IfOk result (λ made. made.0.passes ≡ passes) }
         ensures count { IfOk result (λ made. length made.1.items ≡ passes) }
         ensures passes { IfOk result (λ made.
-            AreNew made.0.table office.office.history (numbers_of office.office.limits) 0 made.1.items) }
+            AreNew made.0.table office.office.history
+            (numbers_of office.office.limits (K.tables office.keeper)) 0 made.1.items) }
         ensures all { IfOk result (λ made. AreOf made.0.table made.1.items × HaveAll passes made.1.items) }
         ensures legal { IfOk result (λ made. Legal office.office) }
         ensures back { IfErr result (λ back. back ≡ office) }
     {
         // A step of the proof: the history of an office is legal.
         let _limits = office.limits();
-        match Turnstile::open(alloc, Slot { office }, passes) {
+        match Turnstile::open(alloc, Slot::new(office), passes) {
             Ok((turnstile, list)) => Ok((Hall { turnstile }, list)),
             Err(slot) => Err(office_in(slot)),
         }
@@ -89,6 +92,7 @@ impl<K: Keeper> Hall<K> {
             |slot: &mut Slot<K>| -> Answer<'_>
                 requires { IsSync R.row × IsNumbered request.now }
                 ensures asked { (result.request.now ≡ request.entry.now) × (result.moment ≡ moment) }
+                ensures first { slot.new.first ≡ slot.old.first }
                 ensures answers { Answers K.faults
                     slot.old.office request.entry.now moment result.reply slot.new.office }
             { put_request(rt, slot, request, moment) },
@@ -117,6 +121,7 @@ impl<K: Keeper> Hall<K> {
             |slot: &mut Slot<K>| -> Settled<'_>
                 requires { IsUploadNumber call.now.number }
                 ensures asked { (result.call.now ≡ call.entry.now) × (result.moment ≡ moment) }
+                ensures first { slot.new.first ≡ slot.old.first }
                 ensures answers { Answers K.faults
                     slot.old.office (Upload call.entry.now) moment result.reply slot.new.office }
             { settle_call(slot, call, moment) },
@@ -162,19 +167,10 @@ impl<K: Keeper> Hall<K> {
     pub fn close(self, passes: Vec<Pass>) -> Office<K>
         requires passes { AreOf self.table passes.items }
         requires all { HaveAll self.passes passes.items }
-        ensures legal { Legal result.office }
+        ensures closes { Closes self.office.office (K.faults self.office.keeper) passes.items
+            result.office (K.faults result.keeper) }
         ensures kept { Keeps (K.tables result.keeper) result.office }
-        ensures limits { result.office.limits ≡ self.office.office.limits }
-        ensures history { IsPrefix self.office.office.history result.office.history }
-        ensures seen { All (λ p. IsPrefix p.seen result.office.history) passes.items }
-        ensures mine { (place : ℕ) → IsNewPlace self.office.office result.office place
-            → IsMadeOnce passes.items place }
-        ensures others { All (λ p. All (IsNewPlace self.office.office result.office) p.mine) passes.items }
-        ensures faults { K.faults self.office.keeper ≤ K.faults result.keeper }
-        ensures stretches { AreBetween (K.faults self.office.keeper) (K.faults result.keeper) passes.items }
-        ensures apart { AreApart passes.items }
-        ensures refuses { RoseBy (faults_told passes.items) (K.faults self.office.keeper)
-            (K.faults result.keeper) }
+        ensures untold { StaysUntold (K.tables self.office.keeper) (K.tables result.keeper) }
     {
         let Hall { turnstile } = self;
         let office = office_in(turnstile.close(passes));

@@ -1,17 +1,44 @@
 //! The office as the value of a turnstile.
 ghost use Rattle.std.specs.Prelude.{◌≡◌};
+ghost use Rattle.register_history.specs.Kept.{StaysUntold};
 ghost use Rattle.lei_hall.specs.Passes.{ReportsSo, numbers_of};
 
 use crate::answers::Told;
 use lei_office::Office;
 use lei_outside::{Keeper, KeptEntry};
+use std::marker::Model;
+use std::snapshot::Snapshot;
 use turnstile::Tally;
 
-/// An office in the slot of a turnstile. It stands for its history and its keeper's count of faults, and its
-/// limits stay.
+/// An office in the slot of a turnstile. It stands for its history and its keeper's count of faults. Its limits
+/// stay, and so does whether its keeper told its tables at first.
 #[derive(Drop)]
 pub struct Slot<K: Keeper> {
     pub office: Office<K>,
+    // The office as it was at first. It takes no bytes.
+    pub first: Snapshot<Office<K>>,
+}
+
+impl<K: Keeper> Model for Slot<K> {
+    ghost use Rattle.register_history.specs.Kept.{StaysUntold};
+    ghost use Rattle.lei_hall.specs.Passes.{SlotView};
+
+    ghost Value = { SlotView K };
+
+    ghost view = { λ s. record { office = s.office; first = s.first.value } };
+
+    ghost invariant = { λ s. StaysUntold (K.tables s.first.value.keeper) (K.tables s.office.keeper) };
+}
+
+impl<K: Keeper> Slot<K> {
+    /// The slot of an office to which no request was put yet.
+    pub fn new(office: Office<K>) -> Self
+        ensures office { result.office ≡ office }
+        ensures first { result.first ≡ office }
+    {
+        let first = Snapshot::of(&office);
+        Slot { office, first }
+    }
 }
 
 impl<K: Keeper> Tally for Slot<K> {
@@ -23,7 +50,7 @@ impl<K: Keeper> Tally for Slot<K> {
 
     ghost faults = { λ slot. K.faults slot.office.keeper };
 
-    ghost stays = { λ slot. numbers_of slot.office.office.limits };
+    ghost stays = { λ slot. numbers_of slot.office.office.limits (K.tables slot.first.keeper) };
 
     ghost first = { 1 };
 
@@ -32,8 +59,9 @@ impl<K: Keeper> Tally for Slot<K> {
 
 /// The office of a slot.
 pub fn office_in<K: Keeper>(slot: Slot<K>) -> Office<K>
-    ensures { result ≡ slot.office }
+    ensures office { result ≡ slot.office }
+    ensures untold { StaysUntold (K.tables slot.first.keeper) (K.tables result.keeper) }
 {
-    let Slot { office } = slot;
+    let Slot { office, .. } = slot;
     office
 }

@@ -1,16 +1,20 @@
 //! Callers of one office: each pass of a hall has a turn, passes meet, and the hall is closed.
-ghost use Rattle.std.specs.Prelude.{◌≡◌, [], IfOk};
+ghost use Rattle.std.specs.Prelude.{◌≡◌, ◌≤◌, [], All, IfOk, IsSomeAnd};
+ghost use Rattle.std.specs.Thread.{IsSync};
+ghost use Rattle.atomic_table.specs.Seated.{TableId};
 ghost use Rattle.register_words.specs.Requests.{IsNumbered, IsUploadNumber};
 ghost use Rattle.turnstile.specs.Passes.{AreOf, HaveAll};
 
 use lei_code::Lei;
 use lei_hall::{Hall, Pass};
-use lei_office::{Call, Limits, Office, Request};
+use lei_office::{Call, Limits, Office, Reply, Request};
 use lei_outside::{KeepFault, Keeper, OpenGate, SureKeeper};
 use lei_shapes::Moment;
 use std::alloc::{AllocError, Global};
+use std::mem::forget;
 use std::sync::Wait;
 use std::test::Fail;
+use std::thread;
 use std::thread::Threads;
 
 // A turn of each of two callers, who meet afterwards.
@@ -100,5 +104,119 @@ fn entries_of_three<R: Threads + Wait + Sync>(rt: &R, alloc: Global) -> Option<u
 #[test]
 fn what_three_passes_ask_for_is_one_history(rt: HostRuntime) -> Result<(), Fail> {
     assert!(rt; entries_of_three(&rt, rt.alloc()) == Some(1));
+    Ok(())
+}
+
+// A caller with its pass, and what it was answered.
+#[derive(Drop)]
+struct Worker {
+    pass: Option<Pass>,
+    reply: Option<Reply>,
+}
+
+// A worker for each of these passes.
+fn workers_of(alloc: Global, mut passes: Vec<Pass>) -> Result<Vec<Worker>, AllocError>
+    ensures { IfOk result (λ workers. (table : TableId) → AreOf table passes.items
+        → All (λ w. IsSomeAnd w.pass (λ p. p.table ≡ table)) workers.items) }
+{
+    let mut workers = Vec::with_capacity(alloc, passes.len())?;
+    while let Some(pass) = passes.pop() {
+        workers.push(Worker {
+            pass: Some(pass),
+            reply: None,
+        })?;
+    }
+    Ok(workers)
+}
+
+fn ask<K: Keeper, R: Threads + Wait + Sync>(
+    rt: &R,
+    hall: &Hall<K>,
+    worker: &mut Worker,
+    request: &Request,
+    moment: Moment,
+)
+    requires ready { IsSomeAnd worker.old.pass (λ p. p.table ≡ hall.now.table) }
+    requires numbered { IsNumbered request.now }
+{
+    let Some(pass) = worker.pass.take() else {
+        unreachable!()
+    };
+    let (pass, reply) = hall.ask(rt, pass, request, moment);
+    worker.pass = Some(pass);
+    worker.reply = Some(reply);
+}
+
+// All workers at once. The office of the hall goes from thread to thread.
+fn ask_at_once<K: Keeper + Send, R: Threads + Wait + Sync>(
+    rt: &R,
+    hall: &Hall<K>,
+    workers: &mut [Worker],
+    request: &Request,
+    moment: Moment,
+)
+    requires ready { All (λ w. IsSomeAnd w.pass (λ p. p.table ≡ hall.now.table)) workers.old }
+    requires numbered { IsNumbered request.now }
+{
+    thread::for_each_mut(
+        rt,
+        workers,
+        64,
+        &|_: usize, worker: &mut Worker|
+            requires { IsSync R.row × IsNumbered request.now
+                × IsSomeAnd worker.old.pass (λ p. p.table ≡ hall.now.table) }
+        { ask(rt, hall, worker, request, moment) },
+    );
+}
+
+// Whether each of so many callers, who ask for the same at once, is answered this. The office isn't taken apart, since
+// letting it go costs a proof for each of its parts.
+fn are_answered<R: Threads + Wait + Sync>(
+    rt: &R,
+    alloc: Global,
+    callers: u32,
+    request: &Request,
+    moment: Moment,
+    wanted: &[u8],
+) -> bool
+    requires callers { (1 ≤ callers) × (callers ≤ 64) }
+    requires numbered { IsNumbered request.now }
+{
+    let office = match Office::open(rt, alloc, SureKeeper::new(alloc), Limits::standard()) {
+        Ok(office) => office,
+        Err(_) => return false,
+    };
+    let (hall, passes) = match Hall::open(alloc, office, callers) {
+        Ok(opened) => opened,
+        Err(office) => {
+            forget(office);
+            return false;
+        }
+    };
+    let answered = match workers_of(alloc, passes) {
+        Ok(mut workers) => {
+            ask_at_once(rt, &hall, &mut workers, request, moment);
+            workers.iter().all(|worker| is_answered(worker, wanted))
+        }
+        Err(_) => false,
+    };
+    forget(hall);
+    answered
+}
+
+fn is_answered(worker: &Worker, wanted: &[u8]) -> bool {
+    match &worker.reply {
+        Some(Reply::Text { text, .. }) => text.as_slice() == wanted,
+        _ => false,
+    }
+}
+
+#[test]
+fn callers_in_threads_are_answered_of_one_history(rt: HostRuntime) -> Result<(), Fail> {
+    let issuer = Lei::read(b"506700GE1G29325QX363").ok().ok_or("an issuer")?;
+    let moment = Moment::of(1_736_553_600).ok_or("a moment")?;
+    let request = Request::Accredit(issuer);
+    let wanted = br#"{"entry":1,"issuer":"506700GE1G29325QX363"}"#;
+    assert!(rt; are_answered(&rt, rt.alloc(), 8, &request, moment, wanted));
     Ok(())
 }

@@ -7,4 +7,4 @@ pub returns : goal.returns
 returns g c =
     let turn = c.enter-pass.ensures.turn in
     let met = turn.2.met in
-    turned_by g.K.Keeper.faults _ _ turn.0 turn.1 _ _ _ _ _ _ _ turn.2.shows turn.2.leaves (ap Upload met.0.0) met.0.1 met.1 turn.3
+    turned_by g.K.Keeper.tables g.K.Keeper.faults _ _ turn.0 turn.1 _ _ _ _ _ _ _ turn.2.shows turn.2.leaves (ap Upload met.0.0) met.0.1 met.1.1 turn.3
