@@ -156,7 +156,7 @@ with_last known session word rest (Some run) =
 abbrev pub by_word : List Named → SessionState → List ℕ → List ℕ → Option SessionState
 by_word known session word rest = if bytes_eq word (codes "#") then Some session
     else (if bytes_eq word (codes "$")
-        then option_map (λ run. record session { runs = session.runs ++ run ∷ [] }) (run_of rest)
+    then option_map (λ run. record session { runs = session.runs ++ run ∷ [] }) (run_of rest)
     else with_last known session word rest (slice_get session.runs (length session.runs - 1)))
 
 -- a line without a space is its word

@@ -62,7 +62,7 @@ fn compare_page<K: Keeper>(
 ) -> Result<Option<Damage>, KeepFault>
     ensures compares { IfOk result (λ found. IfSome (K.tables keeper.new)
         (λ told. Compares (kept_page told bounds)
-            (made_page (held_after register.now.limits register.now.history) bounds) found)) }
+        (made_page (held_after register.now.limits register.now.history) bounds) found)) }
     ensures same { Stays (K.tables keeper.old) (K.tables keeper.new) }
     ensures crash { LeavesNoMore (K.leaves keeper.old) (K.leaves keeper.new) }
     ensures count { K.faults keeper.old ≤ K.faults keeper.new }
