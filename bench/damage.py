@@ -1,6 +1,6 @@
 #!/usr/bin/env python3
-"""Changes a store of the program from outside, by Python's sqlite3, and opens it again. Each change is refused by name, with
-status 5 or 7, and all entries are there still. Prints a line for each, and ends with status 1 if one isn't so.
+"""Changes a store of the program from outside, by Python's sqlite3, and opens it again. Each change is refused by name,
+with status 5 or 7, and all entries are there still. Prints a line for each, and ends with status 1 if one isn't so.
 
 usage: bench/damage.py [PROGRAM]    PROGRAM is the built program, by itself crates/leireg/out/leireg
 """
@@ -12,16 +12,16 @@ import subprocess
 import sys
 import tempfile
 
+import operating
 from store import OFFICE, upload
 
 ROOT = pathlib.Path(__file__).resolve().parent.parent
 UPLOADS = 3
 NAMES = {5: "KEEPER_FAULT", 7: "STORE_DAMAGED"}
-failures = 0
 
 # What the table of cells is without its second key.
-ONE_KEY = """CREATE TABLE cell (kind INTEGER NOT NULL, name TEXT NOT NULL, touched INTEGER NOT NULL CHECK (touched >= 1),
-row BLOB, PRIMARY KEY (kind, name)) STRICT"""
+ONE_KEY = """CREATE TABLE cell (kind INTEGER NOT NULL, name TEXT NOT NULL,
+touched INTEGER NOT NULL CHECK (touched >= 1), row BLOB, PRIMARY KEY (kind, name)) STRICT"""
 
 # A text where a blob belongs: the table takes it while its schema says that it takes any value.
 TEXT_FOR_BLOB = """PRAGMA writable_schema = ON;
@@ -47,15 +47,8 @@ CHANGES = [
 ]
 
 
-def report(what, seen, wanted):
-    """One line for a change, with what was seen if that wasn't wanted."""
-    global failures
-    good = seen == wanted
-    failures += not good
-    print(f"{'ok  ' if good else 'FAIL'} {what}" + ("" if good else f": {seen!r}, wanted {wanted!r}"), flush=True)
-
-
 def run(program, store, lines):
+    """The program over a store, with these lines as its input."""
     return subprocess.run([program, "lines", "--store", store], input=lines, capture_output=True, timeout=60)
 
 
@@ -65,30 +58,32 @@ def entries(store):
         return [row[0] for row in database.execute("SELECT seq FROM entry ORDER BY seq")]
 
 
-def changed(store, statements):
+def change(store, statements):
+    """Runs statements over a store."""
     with contextlib.closing(sqlite3.connect(store)) as database:
         database.executescript(statements)
 
 
 def main():
-    program = pathlib.Path(sys.argv[1]).resolve() if len(sys.argv) > 1 else ROOT / "crates" / "leireg" / "out" / "leireg"
+    built = ROOT / "crates" / "leireg" / "out" / "leireg"
+    program = pathlib.Path(sys.argv[1]).resolve() if len(sys.argv) > 1 else built
     with tempfile.TemporaryDirectory() as folder:
         store = pathlib.Path(folder) / "register.db"
-        lines = f"ACCREDIT {OFFICE}\n".encode() + b"".join(upload(number, number, 1) for number in range(1, UPLOADS + 1))
-        replies = run(program, store, lines).stdout.splitlines()
-        report("the store is made", [reply[:4] for reply in replies], [b"200 "] * (UPLOADS + 1))
+        uploads = b"".join(upload(number, number, 1) for number in range(1, UPLOADS + 1))
+        replies = run(program, store, f"ACCREDIT {OFFICE}\n".encode() + uploads).stdout.splitlines()
+        operating.report("the store is made", [reply[:4] for reply in replies], [b"200 "] * (UPLOADS + 1))
         for what, statements, status in CHANGES:
             other = pathlib.Path(folder) / "changed.db"
             for end in ("", "-wal"):
                 (pathlib.Path(folder) / f"changed.db{end}").unlink(missing_ok=True)
                 if pathlib.Path(f"{store}{end}").exists():
                     shutil.copyfile(f"{store}{end}", f"{other}{end}")
-            changed(other, statements)
+            change(other, statements)
             kept = entries(other)
             done = run(program, other, b"STATUS\n")
             named = NAMES[status].encode() in done.stderr
-            report(what, (done.returncode, named, entries(other)), (status, True, kept))
-    sys.exit(1 if failures else 0)
+            operating.report(what, (done.returncode, named, entries(other)), (status, True, kept))
+    sys.exit(1 if operating.failures else 0)
 
 
 if __name__ == "__main__":
