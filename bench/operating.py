@@ -35,8 +35,8 @@ def report(what, seen, wanted):
 class Server:
     """A running server, its port, and the lines of its standard error with the moments at which they came."""
 
-    def __init__(self, program, *words, before=None):
-        self.process = subprocess.Popen([program, "serve", "--port", "0", "--workers", "1", *words],
+    def __init__(self, program, *words, workers=1, before=None):
+        self.process = subprocess.Popen([program, "serve", "--port", "0", "--workers", str(workers), *words],
                                         stderr=subprocess.PIPE, text=True, preexec_fn=before)
         self.lines = []
         self.listens = threading.Event()

@@ -1,3 +1,4 @@
+pub mod Faults
 pub mod Ranging
 pub mod Sending
 pub mod Fronts

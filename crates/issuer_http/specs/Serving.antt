@@ -33,6 +33,14 @@ ended_of loop.Ended.WriteFault = Ended.WriteFault
 ended_of loop.Ended.InputLimit = Ended.InputLimit
 ended_of loop.Ended.NoMemory = Ended.NoMemory
 
+-- A read of the link failed exactly if serving ended with a read fault, and a write exactly if it ended with a write
+-- fault. The counts of failed reads and of failed writes are each given before serving and after it.
+pub record ReportsFaults (ended : Ended) (reads reads_now writes writes_now : ℕ) : Type 0 where
+  pub read_fault : ended ≡ Ended.ReadFault → Rose reads reads_now
+  pub no_read_fault : ¬ (ended ≡ Ended.ReadFault) → reads_now ≡ reads
+  pub write_fault : ended ≡ Ended.WriteFault → Rose writes writes_now
+  pub no_write_fault : ¬ (ended ≡ Ended.WriteFault) → writes_now ≡ writes
+
 -- ---- whoever answers
 
 -- What serving does where these are the steps of who answers: it takes bytes from the link, answers the requests that

@@ -5,7 +5,7 @@ ghost use Rattle.lei_outside.specs.Count.{Rose};
 ghost use Rattle.lei_hall.specs.Calling.{AskTurn};
 ghost use Rattle.request_loop.specs.Serving.{progress as progress_of};
 ghost use Rattle.issuer_http.specs.Callers.{ServesCaller};
-ghost use Rattle.issuer_http.specs.Serving.{CompletesBy};
+ghost use Rattle.issuer_http.specs.Serving.{CompletesBy, ReportsFaults};
 ghost use Rattle.issuer_http.specs.declared.ended.Ended.{Ended};
 
 use crate::ended::Ended;
@@ -32,11 +32,8 @@ pub fn serve_connection<R: Threads + Wait + Sync, K: Keeper, G: Gate, L: Link, C
     ensures serves { ServesCaller
         (progress_of caller.entry (C.given clock.old) (L.written link.old)) (L.left link.old)
         (progress_of result.0 (C.given clock.new) (L.written link.new)) (L.left link.new) result.1 }
-    ensures read_fault { result.1 ≡ Ended.ReadFault → Rose (L.read_faults link.old) (L.read_faults link.new) }
-    ensures no_read_fault { ¬ (result.1 ≡ Ended.ReadFault) → L.read_faults link.new ≡ L.read_faults link.old }
-    ensures write_fault { result.1 ≡ Ended.WriteFault → Rose (L.write_faults link.old) (L.write_faults link.new) }
-    ensures no_write_fault { ¬ (result.1 ≡ Ended.WriteFault)
-        → L.write_faults link.new ≡ L.write_faults link.old }
+    ensures faults { ReportsFaults result.1 (L.read_faults link.old) (L.read_faults link.new)
+        (L.write_faults link.old) (L.write_faults link.new) }
     ensures complete { (bytes : List ℕ) → L.left link.old ≡ Some bytes → ¬ (result.1 ≡ Ended.NoMemory)
         → ¬ (Rose (L.read_faults link.old) (L.read_faults link.new))
         → ¬ (Rose (L.write_faults link.old) (L.write_faults link.new))
@@ -66,12 +63,8 @@ pub fn serve_caller<R: Threads + Wait + Sync, K: Keeper, G: Gate, L: Link, C: Cl
     ensures serves { ServesCaller
         (progress_of caller.old (C.given clock.old) (L.written link.old)) (L.left link.old)
         (progress_of caller.new (C.given clock.new) (L.written link.new)) (L.left link.new) result }
-    ensures read_fault { result ≡ Ended.ReadFault → Rose (L.read_faults link.old) (L.read_faults link.new) }
-    ensures no_read_fault { ¬ (result ≡ Ended.ReadFault) → L.read_faults link.new ≡ L.read_faults link.old }
-    ensures write_fault { result ≡ Ended.WriteFault
-        → Rose (L.write_faults link.old) (L.write_faults link.new) }
-    ensures no_write_fault { ¬ (result ≡ Ended.WriteFault)
-        → L.write_faults link.new ≡ L.write_faults link.old }
+    ensures faults { ReportsFaults result (L.read_faults link.old) (L.read_faults link.new)
+        (L.write_faults link.old) (L.write_faults link.new) }
     ensures complete { (bytes : List ℕ) → L.left link.old ≡ Some bytes → ¬ (result ≡ Ended.NoMemory)
         → ¬ (Rose (L.read_faults link.old) (L.read_faults link.new))
         → ¬ (Rose (L.write_faults link.old) (L.write_faults link.new))

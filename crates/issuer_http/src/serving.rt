@@ -5,7 +5,7 @@ ghost use Rattle.lei_outside.specs.Count.{Rose};
 ghost use Rattle.request_loop.specs.Frames.{Fits};
 ghost use Rattle.request_loop.specs.Serving.{progress as progress_of};
 ghost use Rattle.issuer_http.specs.Frames.{http_rules};
-ghost use Rattle.issuer_http.specs.Serving.{Completes, CompletesBy, Serves, ServesBy, ended_of, progress};
+ghost use Rattle.issuer_http.specs.Serving.{Completes, CompletesBy, ReportsFaults, Serves, ServesBy, ended_of, progress};
 ghost use Rattle.issuer_http.specs.declared.ended.Ended.{Ended};
 
 use crate::ended::{Ended, HttpEnd};
@@ -37,12 +37,8 @@ pub fn serve_alone<R: Threads + Sync, K: Keeper, L: Link, C: Clock>(
         (progress office.new.office (K.tables office.new.keeper) (K.faults office.new.keeper) (C.given clock.new)
         (L.written link.new)) (L.left link.new)
         result }
-    ensures read_fault { result ≡ Ended.ReadFault → Rose (L.read_faults link.old) (L.read_faults link.new) }
-    ensures no_read_fault { ¬ (result ≡ Ended.ReadFault) → L.read_faults link.new ≡ L.read_faults link.old }
-    ensures write_fault { result ≡ Ended.WriteFault
-        → Rose (L.write_faults link.old) (L.write_faults link.new) }
-    ensures no_write_fault { ¬ (result ≡ Ended.WriteFault)
-        → L.write_faults link.new ≡ L.write_faults link.old }
+    ensures faults { ReportsFaults result (L.read_faults link.old) (L.read_faults link.new)
+        (L.write_faults link.old) (L.write_faults link.new) }
     ensures complete { (bytes : List ℕ) → L.left link.old ≡ Some bytes → ¬ (result ≡ Ended.NoMemory)
         → ¬ (Rose (L.read_faults link.old) (L.read_faults link.new))
         → ¬ (Rose (L.write_faults link.old) (L.write_faults link.new))
@@ -74,12 +70,8 @@ pub fn serve_with<R: Threads + Sync, K: Keeper, L: Link, C: Clock>(
         (progress office.new.office (K.tables office.new.keeper) (K.faults office.new.keeper) (C.given clock.new)
         (L.written link.new)) (L.left link.new)
         result }
-    ensures read_fault { result ≡ Ended.ReadFault → Rose (L.read_faults link.old) (L.read_faults link.new) }
-    ensures no_read_fault { ¬ (result ≡ Ended.ReadFault) → L.read_faults link.new ≡ L.read_faults link.old }
-    ensures write_fault { result ≡ Ended.WriteFault
-        → Rose (L.write_faults link.old) (L.write_faults link.new) }
-    ensures no_write_fault { ¬ (result ≡ Ended.WriteFault)
-        → L.write_faults link.new ≡ L.write_faults link.old }
+    ensures faults { ReportsFaults result (L.read_faults link.old) (L.read_faults link.new)
+        (L.write_faults link.old) (L.write_faults link.new) }
     ensures complete { (bytes : List ℕ) → L.left link.old ≡ Some bytes → ¬ (result ≡ Ended.NoMemory)
         → ¬ (Rose (L.read_faults link.old) (L.read_faults link.new))
         → ¬ (Rose (L.write_faults link.old) (L.write_faults link.new))
@@ -106,12 +98,8 @@ pub fn serve_by<R, A: Answers<R, Asked = Asked, Reply = Reply>, L: Link, C: Cloc
     ensures serves { ServesBy A.step
         (progress_of who.old (C.given clock.old) (L.written link.old)) (L.left link.old)
         (progress_of who.new (C.given clock.new) (L.written link.new)) (L.left link.new) result }
-    ensures read_fault { result ≡ Ended.ReadFault → Rose (L.read_faults link.old) (L.read_faults link.new) }
-    ensures no_read_fault { ¬ (result ≡ Ended.ReadFault) → L.read_faults link.new ≡ L.read_faults link.old }
-    ensures write_fault { result ≡ Ended.WriteFault
-        → Rose (L.write_faults link.old) (L.write_faults link.new) }
-    ensures no_write_fault { ¬ (result ≡ Ended.WriteFault)
-        → L.write_faults link.new ≡ L.write_faults link.old }
+    ensures faults { ReportsFaults result (L.read_faults link.old) (L.read_faults link.new)
+        (L.write_faults link.old) (L.write_faults link.new) }
     ensures complete { (bytes : List ℕ) → L.left link.old ≡ Some bytes → ¬ (result ≡ Ended.NoMemory)
         → ¬ (Rose (L.read_faults link.old) (L.read_faults link.new))
         → ¬ (Rose (L.write_faults link.old) (L.write_faults link.new))

@@ -17,7 +17,7 @@ use Rattle.lei_hall.specs.Turns.{Answers, Turn}
 -- The turn of a pass at the turnstile, in which a request was put to the office, is a turn of the hall.
 pub turned : {K : Type 0} (tables : K → Option KeptTables) (faults : K → ℕ) (before after : HallPass) (x y : SlotView K) (request : Request) (moment : ℤ) (reply : Reply)
     → Answers faults x.office request moment reply y.office
-    → IsTurn (meaning (λ s. s.office.office.history) (λ s. faults s.office.keeper) (λ s. numbers_of s.office.office.limits (tables s.first.keeper)) 1 ReportsSo)
+    → IsTurn (meaning (λ s. s.office.office.history) (λ s. faults s.office.keeper) (λ s. numbers_of s.office.office.limits (tables s.opened.keeper)) 1 ReportsSo)
     before (Some (told request moment reply)) x y after
     → Turn before request moment reply after
 turned {K} tables faults before after x y request moment reply answers turn =
@@ -48,12 +48,12 @@ turned {K} tables faults before after x y request moment reply answers turn =
 -- The same, where the answer has the request and the moment, and the values that were lent and given back are the turn's.
 pub turned_by : {K : Type 0} (tables : K → Option KeptTables) (faults : K → ℕ) (before after : HallPass) (x y lent back : SlotView K) (asked request : Request) (at moment : ℤ) (reply : Reply)
     → lent ≡ x → back ≡ y → asked ≡ request → at ≡ moment → Answers faults lent.office request moment reply back.office
-    → IsTurn (meaning (λ s. s.office.office.history) (λ s. faults s.office.keeper) (λ s. numbers_of s.office.office.limits (tables s.first.keeper)) 1 ReportsSo)
+    → IsTurn (meaning (λ s. s.office.office.history) (λ s. faults s.office.keeper) (λ s. numbers_of s.office.office.limits (tables s.opened.keeper)) 1 ReportsSo)
     before (Some (told asked at reply)) x y after
     → Turn before request moment reply after
 turned_by {K} tables faults before after x y lent back asked request at moment reply lends leaves same_request same_moment answers turn =
     let m : Meaning (SlotView K) KeptEntry Told =
-    meaning (λ s. s.office.office.history) (λ s. faults s.office.keeper) (λ s. numbers_of s.office.office.limits (tables s.first.keeper)) 1 ReportsSo in
+    meaning (λ s. s.office.office.history) (λ s. faults s.office.keeper) (λ s. numbers_of s.office.office.limits (tables s.opened.keeper)) 1 ReportsSo in
     let left : Answers faults x.office request moment reply back.office =
     subst (λ (s : SlotView K). Answers faults s.office request moment reply back.office) lends answers in
     let both : Answers faults x.office request moment reply y.office =

@@ -21,10 +21,10 @@ pub record HallView (K : Type 0) : Type 0 where
   pub office : KeptOffice K
   pub passes : ℕ
 
--- An office in the slot of a turnstile, with the one that it was at first.
+-- An office in the slot of a turnstile, with the one that the hall was opened with.
 pub record SlotView (K : Type 0) : Type 0 where
   pub office : KeptOffice K
-  pub first : KeptOffice K
+  pub opened : KeptOffice K
 
 -- ---- what stays of an office
 

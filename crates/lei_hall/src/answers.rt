@@ -63,7 +63,7 @@ pub fn put_request<'a, K: Keeper, R: Threads + Sync>(
 ) -> Answer<'a>
     requires { IsNumbered request.now }
     ensures asked { (result.request.now ≡ request.now) × (result.moment ≡ moment) }
-    ensures first { slot.new.first ≡ slot.old.first }
+    ensures opened { slot.new.opened ≡ slot.old.opened }
     ensures answers { Answers K.faults slot.old.office request.now moment result.reply slot.new.office }
 {
     let reply = slot.office.answer(rt, request, moment);
@@ -78,7 +78,7 @@ pub fn put_request<'a, K: Keeper, R: Threads + Sync>(
 pub fn settle_call<'a, K: Keeper>(slot: &mut Slot<K>, call: &'a Call, moment: Moment) -> Settled<'a>
     requires { IsUploadNumber call.now.number }
     ensures asked { (result.call.now ≡ call.now) × (result.moment ≡ moment) }
-    ensures first { slot.new.first ≡ slot.old.first }
+    ensures opened { slot.new.opened ≡ slot.old.opened }
     ensures answers { Answers K.faults slot.old.office (Upload call.now) moment result.reply slot.new.office }
 {
     let reply = slot.office.settle(call, moment);

@@ -44,7 +44,7 @@ impl<K: Keeper> Model for Hall<K> {
       passes = h.turnstile.passes;
     } };
 
-    ghost invariant = { λ h. h.turnstile.value.first ≡ h.turnstile.value.office };
+    ghost invariant = { λ h. h.turnstile.value.opened ≡ h.turnstile.value.office };
 }
 
 impl<K: Keeper> Hall<K> {
@@ -92,7 +92,7 @@ impl<K: Keeper> Hall<K> {
             |slot: &mut Slot<K>| -> Answer<'_>
                 requires { IsSync R.row × IsNumbered request.now }
                 ensures asked { (result.request.now ≡ request.entry.now) × (result.moment ≡ moment) }
-                ensures first { slot.new.first ≡ slot.old.first }
+                ensures opened { slot.new.opened ≡ slot.old.opened }
                 ensures answers { Answers K.faults
                     slot.old.office request.entry.now moment result.reply slot.new.office }
             { put_request(rt, slot, request, moment) },
@@ -121,7 +121,7 @@ impl<K: Keeper> Hall<K> {
             |slot: &mut Slot<K>| -> Settled<'_>
                 requires { IsUploadNumber call.now.number }
                 ensures asked { (result.call.now ≡ call.entry.now) × (result.moment ≡ moment) }
-                ensures first { slot.new.first ≡ slot.old.first }
+                ensures opened { slot.new.opened ≡ slot.old.opened }
                 ensures answers { Answers K.faults
                     slot.old.office (Upload call.entry.now) moment result.reply slot.new.office }
             { settle_call(slot, call, moment) },

@@ -11,12 +11,12 @@ use std::snapshot::Snapshot;
 use turnstile::Tally;
 
 /// An office in the slot of a turnstile. It stands for its history and its keeper's count of faults. Its limits
-/// stay, and so does whether its keeper told its tables at first.
+/// stay, and so does whether its keeper told its tables when the hall was opened.
 #[derive(Drop)]
 pub struct Slot<K: Keeper> {
     pub office: Office<K>,
-    // The office as it was at first. It takes no bytes.
-    pub first: Snapshot<Office<K>>,
+    // The office that the hall was opened with. It takes no bytes.
+    pub opened: Snapshot<Office<K>>,
 }
 
 impl<K: Keeper> Model for Slot<K> {
@@ -25,19 +25,19 @@ impl<K: Keeper> Model for Slot<K> {
 
     ghost Value = { SlotView K };
 
-    ghost view = { λ s. record { office = s.office; first = s.first.value } };
+    ghost view = { λ s. record { office = s.office; opened = s.opened.value } };
 
-    ghost invariant = { λ s. StaysUntold (K.tables s.first.value.keeper) (K.tables s.office.keeper) };
+    ghost invariant = { λ s. StaysUntold (K.tables s.opened.value.keeper) (K.tables s.office.keeper) };
 }
 
 impl<K: Keeper> Slot<K> {
     /// The slot of an office to which no request was put yet.
     pub fn new(office: Office<K>) -> Self
         ensures office { result.office ≡ office }
-        ensures first { result.first ≡ office }
+        ensures opened { result.opened ≡ office }
     {
-        let first = Snapshot::of(&office);
-        Slot { office, first }
+        let opened = Snapshot::of(&office);
+        Slot { office, opened }
     }
 }
 
@@ -50,7 +50,7 @@ impl<K: Keeper> Tally for Slot<K> {
 
     ghost faults = { λ slot. K.faults slot.office.keeper };
 
-    ghost stays = { λ slot. numbers_of slot.office.office.limits (K.tables slot.first.keeper) };
+    ghost stays = { λ slot. numbers_of slot.office.office.limits (K.tables slot.opened.keeper) };
 
     ghost first = { 1 };
 
@@ -60,7 +60,7 @@ impl<K: Keeper> Tally for Slot<K> {
 /// The office of a slot.
 pub fn office_in<K: Keeper>(slot: Slot<K>) -> Office<K>
     ensures office { result ≡ slot.office }
-    ensures untold { StaysUntold (K.tables slot.first.keeper) (K.tables result.keeper) }
+    ensures untold { StaysUntold (K.tables slot.opened.keeper) (K.tables result.keeper) }
 {
     let Slot { office, .. } = slot;
     office

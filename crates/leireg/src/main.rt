@@ -8,7 +8,7 @@ mod store;
 use leireg_commands::{run_command, tell, words};
 use program_words::{Command, WantedRun, WordsFault, wanted};
 use register_words::ExitStatus;
-use serving::serve_wanted;
+use serving::serve_words;
 use std::io;
 use std::process::ExitCode;
 use std::sync::Wait;
@@ -45,7 +45,7 @@ fn run_wanted<R: Threads + Wait + Sync>(
     wanted: &WantedRun<'_>,
 ) -> u8 {
     match wanted.command {
-        Command::Serve => serve_wanted(rt, host, words, wanted),
+        Command::Serve => serve_words(rt, host, words),
         _ => {
             let keeper = keeper_at(host, wanted.store);
             let (status, keeper) = run_command(rt, host, words, wanted, keeper);

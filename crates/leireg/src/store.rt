@@ -4,17 +4,17 @@ use keeper_sqlite::SqliteKeeper;
 use lei_outside::SureKeeper;
 use leireg_commands::OneOf;
 use leireg_devices::Watched;
-use sqlite::{File, FileStore};
+use sqlite::{Alter, File, FileStore};
 use std::mem::forget;
 
-/// A keeper over a file, of whose opening and failures the operator hears.
-pub type FileKeeper<'a> = Watched<'a, Reported<'a, SqliteKeeper<FileStore<File>>>>;
+/// A keeper in memory, or one over a store of SQLite, of whose opening and failures the operator hears.
+pub type StoreKeeper<'a, S> = OneOf<SureKeeper, Watched<'a, Reported<'a, SqliteKeeper<S>>>>;
 
-/// A keeper in memory, or one over a file.
-pub type StoreKeeper<'a> = OneOf<SureKeeper, FileKeeper<'a>>;
-
-/// The keeper over the file at this path, or one in memory where there is no path.
-pub fn keeper_at<'a>(host: &'a HostRuntime, path: Option<&str>) -> StoreKeeper<'a> {
+/// The keeper over the file at this path, or one in memory if there is no path.
+pub fn keeper_at<'a>(
+    host: &'a HostRuntime,
+    path: Option<&str>,
+) -> StoreKeeper<'a, FileStore<File>> {
     match path {
         Some(path) => {
             let keeper = Reported::new(host, SqliteKeeper::on_file(host, path));
@@ -25,7 +25,7 @@ pub fn keeper_at<'a>(host: &'a HostRuntime, path: Option<&str>) -> StoreKeeper<'
 }
 
 /// Lets the file of a keeper go. One in memory isn't taken apart: the program ends, and the system has its memory back.
-pub fn close(keeper: StoreKeeper<'_>) {
+pub fn close<S: Alter + Drop>(keeper: StoreKeeper<'_, S>) {
     match keeper {
         OneOf::First(keeper) => forget(keeper),
         OneOf::Second(keeper) => drop(keeper),

@@ -1,3 +1,6 @@
 pub mod Lines
+pub mod Lists
+pub mod Apart
+pub mod Served
 pub mod Opened
-pub mod Sole
+pub mod Meanings

@@ -1,58 +1,120 @@
 -- Serving over a store that was opened.
-use Rattle.std.proofs.Common.{◌≡◌, ℕ, ℤ, List, Option, None, Some, inl, inr, refl, sym, subst}
+use Rattle.std.proofs.Common.{◌≡◌, ◌⊎◌, ℕ, List, map, Option, None, Some, IfSome, inl, inr, refl, sym, ap, ◌∙◌, subst, arith}
+use Rattle.std.specs.List.{AllZip}
 use Rattle.lei_outside.specs.Keeping.{KeptTables, Stays}
-use Rattle.register_history.specs.Kept.{Keeps}
-use Rattle.register_history.specs.Legal.{Legal}
 use Rattle.register_words.specs.Limits.{standard}
-use Rattle.register_history.specs.State.{OfficeState}
+use Rattle.register_words.specs.declared.limits.Limits.{Limits}
+use Rattle.register_history.specs.Damage.{IsDamage}
+use Rattle.register_history.specs.Kept.{Keeps, StaysUntold}
+use Rattle.register_history.specs.Legal.{Legal}
+use Rattle.lei_office.specs.Offices.{FaultRose, IsRefused, KeptOffice, keeper_back}
+use Rattle.lei_office.specs.declared.opening.OpenFault.{OpenFault}
+use Rattle.lei_office.specs.declared.opening.OpenFault.TheVariants as fault
+use Rattle.turnstile.specs.Passes.{AreNew}
+use Rattle.lei_hall.specs.Closing.{Closes}
+use Rattle.lei_hall.specs.Passes.{HallPass, HallView, numbers_of}
 use Rattle.leireg_run.specs.Ends.{MayTell}
-use Rattle.leireg_serve.specs.Desks.{IsNoneToCome, LineTells, ServesDesk, stage}
-use Rattle.leireg_serve.specs.Ends.{EndsServing, OpensAndServes, Outside, desk_status, outside}
+use Rattle.leireg_serve.specs.Desks.{DeskState, LineTells}
+use Rattle.leireg_serve.specs.Ends.{ClosesOffice, EndsServing, OpensAndServes, Outside, ServesHall, desk_status, fault_status, joint_end, outside}
+use Rattle.leireg_serve.specs.Workers.{Works}
+use Rattle.leireg_serve.specs.declared.desk.Desk.{Desk}
 use Rattle.leireg_serve.specs.declared.desk.DeskEnd.{DeskEnd}
-use Rattle.leireg_serve.proofs.Lines.{desk_untold}
+use Rattle.leireg_serve.specs.declared.workers.Worker.{Worker}
+use Rattle.leireg_serve.proofs.Served.{all_served}
 
--- the status is that of the desk's end
+-- the status is that of the end
 ends_at : {L : Type 0} (may : Option KeptTables → Type 0) (tells : LineTells L) (before after : Outside L) (status : ℕ) (end : DeskEnd)
-    → OpensAndServes may tells before after → (end ≡ DeskEnd.Closed → IsNoneToCome after.to_come) → status ≡ desk_status end
-    → EndsServing may tells before after status
-ends_at may tells before after status DeskEnd.Closed opens none is = inl (is, opens, none refl)
-ends_at may tells before after status DeskEnd.Failed opens none is = inr (inl (is, opens))
+    → OpensAndServes may tells before after end → status ≡ desk_status end → EndsServing may tells before after status
+ends_at may tells before after status DeskEnd.Closed opens is = inl (is, opens)
+ends_at may tells before after status DeskEnd.Failed opens is = inr (inl (is, opens))
 
 -- what is told stays as it is
 pub stays_same : (told : Option KeptTables) → Stays told told
 stays_same None = tt {0}
 stays_same (Some tables) = refl
 
--- the store was opened, the desk served and the office closed
-pub ends_opened : {K L : Type 0} (tables : K → Option KeptTables) (faults : K → ℕ) (tells : LineTells L) (keeper opened mid back : K)
-    (first last : OfficeState) (given given' : Option (List ℤ)) (to_come came_back to_come' came_back' : Option (List L))
-    (status : ℕ) (end : DeskEnd) → first.limits ≡ standard → Legal first → Keeps (tables opened) first
-    → Stays (tables keeper) (tables opened) → faults opened ≡ faults keeper
-    → ServesDesk tells (stage first (tables opened) (faults opened) given) to_come came_back
-    (stage last (tables mid) (faults mid) given') to_come' came_back'
-    → back ≡ mid → Keeps (tables back) last → (end ≡ DeskEnd.Closed → IsNoneToCome to_come') → status ≡ desk_status end
-    → EndsServing (MayTell tables) tells (outside (tables keeper) (faults keeper) given to_come came_back)
-    (outside (tables back) (faults back) given' to_come' came_back') status
-ends_opened {K} tables faults tells keeper opened mid back first last given given' to_come came_back to_come' came_back' status end limits legal keeps stays same serves is kept none ended =
-    let before = outside (tables keeper) (faults keeper) given to_come came_back in
-    let after = outside (tables back) (faults back) given' to_come' came_back' in
-    let told = tables opened in
-    let S : ℕ → Type 0 = λ n. ServesDesk tells (stage first told n given) to_come came_back
-    (stage last (tables back) (faults back) given') to_come' came_back' in
-    let T : K → Type 0 = λ k. ServesDesk tells (stage first told (faults opened) given) to_come came_back
-    (stage last (tables k) (faults k) given') to_come' came_back' in
-    let served = subst T (sym is) serves in
+-- the store wasn't opened
+pub ends_refused : {K L : Type 0} (tables : K → Option KeptTables) (faults : K → ℕ) (tells : LineTells L) (limits : Limits) (keeper back : K) (refusal : OpenFault K)
+    (desks : List (DeskState L)) (status : ℕ) → limits ≡ standard → back ≡ keeper_back refusal → IsRefused limits tables refusal
+    → Stays (tables keeper) (tables (keeper_back refusal)) → FaultRose (faults keeper) (faults (keeper_back refusal)) refusal → status ≡ fault_status refusal
+    → EndsServing (MayTell tables) tells (outside (tables keeper) (faults keeper) desks) (outside (tables back) (faults back) desks) status
+ends_refused {K} tables faults tells limits keeper back refusal desks status are same refused stays rose is =
+    subst (λ (k : K). EndsServing (MayTell tables) tells (outside (tables keeper) (faults keeper) desks) (outside (tables k) (faults k) desks) status)
+    (sym same) (ends_so refusal refused stays rose is)
+  where
+    ends_so : (f : OpenFault K) → IsRefused limits tables f → Stays (tables keeper) (tables (keeper_back f))
+        → FaultRose (faults keeper) (faults (keeper_back f)) f → status ≡ fault_status f
+        → EndsServing (MayTell tables) tells (outside (tables keeper) (faults keeper) desks)
+        (outside (tables (keeper_back f)) (faults (keeper_back f)) desks) status
+    ends_so (fault.KeeperFault back') refused stays rose is = inr (inr (inl (is, stays, rose)))
+    ends_so (fault.StoreDamaged back' damage) refused stays rose is = inr (inr (inr (inr (
+      is,
+      stays,
+      rose,
+      (damage, subst (λ (l : Limits). IfSome (tables back') (λ told. IsDamage l told damage)) are refused),
+    ))))
+    ends_so (fault.NoMemory back') refused stays rose is = inr (inr (inr (inl (is, stays, rose))))
+
+pub refused_meant : {K : Type 0} (refusal : OpenFault K) → fault_status refusal ≡ 1 → ⊥
+refused_meant (fault.KeeperFault back) is = omega (arith, is)
+refused_meant (fault.StoreDamaged back damage) is = omega (arith, is)
+refused_meant (fault.NoMemory back) is = omega (arith, is)
+
+-- the store was opened, and the office served and closed, or there was no memory to serve it
+pub ends_opened : {K L : Type 0} (tables : K → Option KeptTables) (faults : K → ℕ) (tells : LineTells L) (keeper back : K) (office : KeptOffice K)
+    (desks desks_now : List (DeskState L)) (status : ℕ) → office.office.limits ≡ standard → Legal office.office → Keeps (tables office.keeper) office.office
+    → Stays (tables keeper) (tables office.keeper) → faults office.keeper ≡ faults keeper
+    → {B : Type 0} → ((status ≡ 6) × (back ≡ office.keeper) × B) ⊎ ClosesOffice tables faults tells office desks back desks_now status
+    → EndsServing (MayTell tables) tells (outside (tables keeper) (faults keeper) desks) (outside (tables back) (faults back) desks_now) status
+ends_opened {K} tables faults tells keeper back office desks desks_now status limits legal keeps stays same (inl (six, is, unserved)) =
+    let S : K → Type 0 = λ k. Stays (tables keeper) (tables k) in
+    inr (inr (inr (inl (six, subst S (sym is) stays, ap faults is ∙ same))))
+ends_opened {K} tables faults tells keeper back office desks desks_now status limits legal keeps stays same (inr (last, end, serves, kept, untold, is)) =
+    let before = outside (tables keeper) (faults keeper) desks in
+    let after = outside (tables back) (faults back) desks_now in
     ends_at (MayTell tables) tells before after status end (record {
-      first = first;
+      first = office.office;
       last = last;
       opened = record {
-        told = told;
-        met = (opened, refl);
+        told = tables office.keeper;
+        met = (office.keeper, refl);
         stays = stays;
         is = record { limits = limits; legal = legal; keeps = keeps };
-        untold = desk_untold tells (stage first told (faults opened) given)
-            (stage last (tables back) (faults back) given') to_come came_back to_come' came_back' served;
+        untold = untold;
       };
-      serves = subst S same served;
+      serves = subst (λ (from : ℕ). ServesHall tells office.office (tables office.keeper) from desks last (faults back) desks_now end) same serves;
       keeps = kept;
-    }) none ended
+    }) is
+
+-- a hall was opened over an office, all workers that were made of the desks and its passes served, and the hall was closed
+pub closes_office : {K D C L : Type 0} (tables : K → Option KeptTables) (faults : K → ℕ) (tells : LineTells L) (state : Desk D C → DeskState L)
+    (hall : HallView K) (office closed : KeptOffice K) (desks desks_back : List (Desk D C)) (olds news : List (Worker D C)) (passes back : List HallPass)
+    (keeper : K) (end : DeskEnd) (status : ℕ) → hall.office ≡ office
+    → AreNew hall.table office.office.history (numbers_of office.office.limits (tables office.keeper)) 0 passes
+    → map (λ worker. worker.desk) olds ≡ desks → map (λ worker. worker.pass) olds ≡ map Some passes → AllZip (Works tells state) olds news
+    → desks_back ≡ map (λ worker. worker.desk) news → map Some back ≡ map (λ worker. worker.pass) news
+    → end ≡ joint_end (map (λ worker. worker.end) news)
+    → Closes hall.office.office (faults hall.office.keeper) back closed.office (faults closed.keeper)
+    → Keeps (tables closed.keeper) closed.office → StaysUntold (tables hall.office.keeper) (tables closed.keeper)
+    → keeper ≡ closed.keeper → status ≡ desk_status end
+    → ClosesOffice tables faults tells office (map state desks) keeper (map state desks_back) status
+closes_office {K} tables faults tells state hall office closed desks desks_back olds news passes back keeper end status same are of_desks given worked left is ended closes keeps untold kept reported =
+    let all = all_served tells state hall.table office.office.history (numbers_of office.office.limits (tables office.keeper)) 0 olds news passes back are given worked is in
+    let closes_so : Closes office.office (faults office.keeper) back closed.office (faults closed.keeper) =
+    subst (λ (o : KeptOffice K). Closes o.office (faults o.keeper) back closed.office (faults closed.keeper)) same closes in
+    subst (λ (k : K). ClosesOffice tables faults tells office (map state desks) k (map state desks_back) status) (sym kept) (
+      closed.office,
+      end,
+      record {
+        table = hall.table;
+        served = all.served;
+        came = ap (map state) (sym of_desks) ∙ all.came;
+        back = ap (map state) left ∙ all.left;
+        ended = ended ∙ ap joint_end all.ended;
+        serves = all.serves;
+        closes = subst (λ (b : List HallPass). Closes office.office (faults office.keeper) b closed.office (faults closed.keeper)) all.passed closes_so;
+      },
+      keeps,
+      subst (λ (o : KeptOffice K). StaysUntold (tables o.keeper) (tables closed.keeper)) same untold,
+      reported,
+    )

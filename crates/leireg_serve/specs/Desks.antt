@@ -1,10 +1,14 @@
 -- What serving the lines of a door does.
-use Rattle.std.specs.Prelude.{◌≡◌, ℕ, ℤ, List, [], ◌∷◌, ◌++◌, map, Option, None, Some, IfSome}
+use Rattle.std.specs.Prelude.{◌≡◌, ℕ, ◌+◌, ℤ, Bool, false, List, [], ◌∷◌, ◌++◌, map, Option, None, Some, IfSome}
 use Rattle.lei_outside.specs.Count.{Rose}
-use Rattle.lei_outside.specs.Keeping.{KeptTables}
-use Rattle.register_history.specs.State.{OfficeState}
-use Rattle.issuer_http.specs.Serving.{Serves, progress}
+use Rattle.request_loop.specs.Serving.{progress}
+use Rattle.lei_hall.specs.Calling.{IsSamePass, TakesTurns}
+use Rattle.lei_hall.specs.Passes.{HallPass}
+use Rattle.issuer_http.specs.Callers.{ServesCaller}
+use Rattle.issuer_http.specs.Serving.{ReportsFaults}
 use Rattle.issuer_http.specs.declared.ended.Ended.{Ended}
+use Rattle.leireg_serve.specs.declared.desk.Desk.{Desk}
+use Rattle.leireg_serve.specs.declared.desk.DeskEnd.{DeskEnd}
 
 -- What lines tell: the bytes that are left to be read and those that were written, and how many reads and writes have
 -- failed.
@@ -24,32 +28,46 @@ line_tells left written read_faults write_faults = record {
   write_faults = write_faults;
 }
 
--- How far serving has come: the office, what its keeper tells, how many calls of the keeper have failed, and the
--- moments that the clock has given.
-pub record Stage : Type 0 where
-  pub office : OfficeState
-  pub kept : Option KeptTables
+-- What a desk tells at one time: the lines of its door that are to come and those that came back, whether a line is
+-- out, how many calls of the door have failed, and the moments that the clock has given.
+pub record DeskState (L : Type 0) : Type 0 where
+  pub to_come : Option (List L)
+  pub came_back : Option (List L)
+  pub out : Bool
   pub faults : ℕ
   pub given : Option (List ℤ)
 
--- The stage of these four.
-abbrev pub stage : OfficeState → Option KeptTables → ℕ → Option (List ℤ) → Stage
-stage office kept faults given = record { office = office; kept = kept; faults = faults; given = given }
+-- What a desk tells, whose door and clock tell these.
+abbrev pub desk_state : {D C L : Type 0} → (D → Option (List L)) → (D → Option (List L)) → (D → Bool)
+    → (D → ℕ) → (C → Option (List ℤ)) → Desk D C → DeskState L
+desk_state to_come came_back out faults given desk = record {
+  to_come = to_come desk.door;
+  came_back = came_back desk.door;
+  out = out desk.door;
+  faults = faults desk.door;
+  given = given desk.clock;
+}
 
 -- ---- one line
 
+-- How far a desk has come: its pass, and the moments that its clock has given.
+pub record Stage : Type 0 where
+  pub pass : HallPass
+  pub given : Option (List ℤ)
+
+-- The stage of these two.
+abbrev pub stage : HallPass → Option (List ℤ) → Stage
+stage pass given = record { pass = pass; given = given }
+
 -- A line was served, from one stage to the other: what it was when it came and when it was given back, and how that
--- ended. A read failed exactly where the end says so, and a write likewise.
+-- ended. A read failed exactly if the end says so, and a write likewise.
 pub record ServesLine {L : Type 0} (tells : LineTells L) (before : Stage) (came back : L)
     (ended : Ended) (after : Stage)
     : Type 0 where
-  pub serves : Serves (progress before.office before.kept before.faults before.given (tells.written came))
-      (tells.left came)
-      (progress after.office after.kept after.faults after.given (tells.written back)) (tells.left back) ended
-  pub read_fault : ended ≡ Ended.ReadFault → Rose (tells.read_faults came) (tells.read_faults back)
-  pub no_read_fault : ¬ (ended ≡ Ended.ReadFault) → tells.read_faults back ≡ tells.read_faults came
-  pub write_fault : ended ≡ Ended.WriteFault → Rose (tells.write_faults came) (tells.write_faults back)
-  pub no_write_fault : ¬ (ended ≡ Ended.WriteFault) → tells.write_faults back ≡ tells.write_faults came
+  pub serves : ServesCaller (progress before.pass before.given (tells.written came)) (tells.left came)
+      (progress after.pass after.given (tells.written back)) (tells.left back) ended
+  pub faults : ReportsFaults ended (tells.read_faults came) (tells.read_faults back) (tells.write_faults came)
+      (tells.write_faults back)
 
 -- ---- the lines of a door
 
@@ -83,12 +101,34 @@ TakesLinesBack (Some old) (Some new) lines = new ≡ old ++ lines
 abbrev pub IsNoneToCome : {L : Type 0} → Option (List L) → Type 0
 IsNoneToCome told = IfSome told (λ lines. lines ≡ [])
 
--- The lines that a door gave were served one after the other, from one stage to the other, and each came back to it, in
--- order.
-pub record ServesDesk {L : Type 0} (tells : LineTells L) (before : Stage)
-    (to_come came_back : Option (List L))
-    (after : Stage) (to_come_now came_back_now : Option (List L)) : Type 0 where
+-- The lines that a door gave were served one after the other, by the turns of one pass, and each came back to the door,
+-- in order; none is out. One turn for each member that the pass was told leads, in order, from its state before to the
+-- one after.
+pub record ServesDesk {L : Type 0} (tells : LineTells L) (before : HallPass) (desk : DeskState L)
+    (after : HallPass) (desk_now : DeskState L) (end : DeskEnd) : Type 0 where
   pub lines : List (ServedLine L)
-  pub each : ServesEach tells before lines after
-  pub gave : GivesLines to_come to_come_now (map (λ line. line.came) lines)
-  pub took : TakesLinesBack came_back came_back_now (map (λ line. line.back) lines)
+  pub each : ServesEach tells (stage before desk.given) lines (stage after desk_now.given)
+  pub gave : GivesLines desk.to_come desk_now.to_come (map (λ line. line.came) lines)
+  pub took : TakesLinesBack desk.came_back desk_now.came_back (map (λ line. line.back) lines)
+  pub turns : TakesTurns before after
+  pub same : IsSamePass before after
+  pub out : desk_now.out ≡ false
+  -- it ends where the door is closed, and no line is to come; or where the door failed
+  pub closed : end ≡ DeskEnd.Closed → IsNoneToCome desk_now.to_come × (desk_now.faults ≡ desk.faults)
+  pub failed : end ≡ DeskEnd.Failed → Rose desk.faults desk_now.faults
+
+-- ---- many desks
+
+-- A desk with what it tells when its lines begin to be served and afterwards, how that ended, and its pass afterwards.
+pub record ServedDesk (L : Type 0) : Type 0 where
+  pub before : DeskState L
+  pub pass : HallPass
+  pub after : DeskState L
+  pub end : DeskEnd
+
+-- The lines of each desk were served by the pass of its number, which was new: it had seen this history, and these are
+-- its numbers that stay. The passes have the numbers from k on.
+abbrev pub ServesDesks : {L : Type 0} → LineTells L → (ℕ → HallPass) → ℕ → List (ServedDesk L) → Type 0
+ServesDesks tells new k [] = Unit {0}
+ServesDesks tells new k (served ∷ others) =
+    ServesDesk tells (new k) served.before served.pass served.after served.end × ServesDesks tells new (k + 1) others

@@ -1,123 +1,189 @@
-//! The command that serves the register, from its words, its keeper and its desk to its status.
-ghost use Rattle.std.specs.Prelude.{◌≡◌, ◌≢◌, ◌⊎◌, [], ◌∷◌, None, false, map, string_bytes};
+//! The command that serves the register, from its words, its keeper and its desks to its status.
+ghost use Rattle.std.specs.Prelude.{◌≡◌, ◌≢◌, ◌≤◌, ◌⊎◌, None, false, length, map, string_bytes, All};
 ghost use Rattle.http_heads.specs.Routes.{routes};
-ghost use Rattle.lei_outside.specs.Count.{Rose};
+ghost use Rattle.lei_office.specs.Offices.{keeper_back};
 ghost use Rattle.leireg_run.specs.Ends.{MayTell};
-ghost use Rattle.leireg_serve.specs.Desks.{line_tells};
-ghost use Rattle.leireg_serve.specs.Ends.{EndsServing, IsUnserved, desk_status, outside};
+ghost use Rattle.leireg_serve.specs.Desks.{desk_state, line_tells};
+ghost use Rattle.leireg_serve.specs.Ends.{ClosesOffice, EndsServing, IsUnserved, desk_status, fault_status, outside};
 ghost use Rattle.leireg_serve.specs.Words.{Mean, served_by};
+ghost use Rattle.leireg_serve.specs.Workers.{HasRoom};
 ghost use Rattle.program_words.specs.Words.{Meant};
-ghost use Rattle.leireg_serve.specs.declared.desk.Desk.{Desk};
 
-use crate::desk::{Desk, DeskEnd, serve_desk};
+use crate::desk::{Desk, DeskEnd};
 use crate::words::server_of;
-use http_heads::{Place, router};
+use crate::workers::{Supplies, make_workers, serve_all, take_apart};
+use http_heads::router;
+use lei_hall::Hall;
 use lei_office::{Limits, Office, OpenFault};
-use lei_outside::{Clock, Door, Gate, Keeper};
-use matchit::Router;
+use lei_outside::{Clock, Door, Gate, Keeper, Link};
 use program_words::WordsFault;
 use register_words::ExitStatus;
 use std::alloc::Global;
 use std::sync::Wait;
 use std::thread::Threads;
 
-/// Serves the register that a keeper has, where the words ask for it: the lines of the one desk's door, one after the
-/// other, until the door is closed or fails. Says the status that it ends with, and gives the keeper and the desk back.
-/// It writes nothing but what goes to the lines. There is one worker, and nothing passes the gate.
-pub fn serve<R: Threads + Wait + Sync, K: Keeper, D: Door, C: Clock, G: Gate>(
+/// Serves the register that a keeper has, if the words ask for it: each desk is a worker, and all serve at once, each the
+/// lines of its door, one after the other, until the door is closed or fails. Says the status that it ends with, and
+/// gives the keeper and the desks back, in order. It writes nothing but what goes to the lines. Uploads pass the gate
+/// before their turns. All memory that the workers need beside what requests take is taken before they begin.
+pub fn serve<
+    R: Threads + Wait + Sync,
+    K: Keeper + Send,
+    D: Door + Drop + Send,
+    C: Clock + Drop + Send,
+    G: Gate + Sync,
+>(
     rt: &R,
     alloc: Global,
     words: &[String],
     keeper: K,
-    mut desks: Vec<Desk<D, C>>,
-    _gate: &G,
+    desks: Vec<Desk<D, C>>,
+    gate: &G,
 ) -> (u8, K, Vec<Desk<D, C>>)
-    requires one { (what : Meant) → Mean words.now what
-        → (desk : Desk D C) × (desks.items ≡ desk ∷ []) × (D.out desk.door ≡ false) }
+where
+    D::Line: Send,
+    requires desks { (what : Meant) → Mean words.now what → length desks.items ≡ what.workers }
+    requires doors { (what : Meant) → Mean words.now what → All (λ desk. D.out desk.door ≡ false) desks.items }
     ensures usage { result.0 ≡ 1 → served_by (map string_bytes words.now) ≡ None }
     ensures refused { served_by (map string_bytes words.now) ≡ None → (result.0 ≡ 1) ⊎ (result.0 ≡ 6) }
     ensures unserved { IsUnserved result.0 → result.2.items ≡ desks.items }
     ensures unkept { served_by (map string_bytes words.now) ≡ None
         → (result.1 ≡ keeper) × (result.2.items ≡ desks.items) }
-    ensures serves { (what : Meant) → Mean words.now what → (old : Desk D C) → desks.items ≡ old ∷ []
-        → (new : Desk D C) × (result.2.items ≡ new ∷ []) × (D.out new.door ≡ false)
-        × EndsServing (MayTell K.tables)
+    ensures serves { (what : Meant) → Mean words.now what → EndsServing (MayTell K.tables)
         (line_tells D.Line.left D.Line.written D.Line.read_faults D.Line.write_faults)
-        (outside (K.tables keeper) (K.faults keeper) (C.given old.clock) (D.to_come old.door) (D.came_back old.door))
-        (outside (K.tables result.1) (K.faults result.1) (C.given new.clock) (D.to_come new.door)
-        (D.came_back new.door))
-        result.0
-        × (result.0 ≡ 9 → Rose (D.faults old.door) (D.faults new.door))
-        × (result.0 ≢ 9 → D.faults new.door ≡ D.faults old.door) }
+        (outside (K.tables keeper) (K.faults keeper)
+        (map (desk_state D.to_come D.came_back D.out D.faults C.given) desks.items))
+        (outside (K.tables result.1) (K.faults result.1)
+        (map (desk_state D.to_come D.came_back D.out D.faults C.given) result.2.items))
+        result.0 }
 {
     match server_of(alloc, words) {
-        Ok(_) => {
-            let (status, keeper) = serve_over(rt, alloc, keeper, &mut desks[0]);
-            (status, keeper, desks)
-        }
+        Ok(_) => serve_over(rt, alloc, keeper, desks, gate),
         Err(WordsFault::Usage) => (ExitStatus::Usage.number(), keeper, desks),
         Err(WordsFault::NoMemory) => (ExitStatus::NoMemory.number(), keeper, desks),
     }
 }
 
-// Makes the router, opens the register that a keeper has and serves it at a desk.
-fn serve_over<R: Threads + Wait + Sync, K: Keeper, D: Door, C: Clock>(
-    rt: &R,
-    alloc: Global,
-    keeper: K,
-    desk: &mut Desk<D, C>,
-) -> (u8, K)
-    requires { D.out desk.old.door ≡ false }
+// Takes what the workers need, opens the register that a keeper has and serves it at the desks.
+fn serve_over<
+    R: Threads + Wait + Sync,
+    K: Keeper + Send,
+    D: Door + Drop + Send,
+    C: Clock + Drop + Send,
+    G: Gate + Sync,
+>(rt: &R, alloc: Global, keeper: K, desks: Vec<Desk<D, C>>, gate: &G) -> (u8, K, Vec<Desk<D, C>>)
+where
+    D::Line: Send,
+    requires count { (1 ≤ length desks.items) × (length desks.items ≤ 64) }
+    requires doors { All (λ desk. D.out desk.door ≡ false) desks.items }
     ensures ends { EndsServing (MayTell K.tables)
         (line_tells D.Line.left D.Line.written D.Line.read_faults D.Line.write_faults)
-        (outside (K.tables keeper) (K.faults keeper) (C.given desk.old.clock) (D.to_come desk.old.door)
-        (D.came_back desk.old.door))
-        (outside (K.tables result.1) (K.faults result.1) (C.given desk.new.clock) (D.to_come desk.new.door)
-        (D.came_back desk.new.door))
+        (outside (K.tables keeper) (K.faults keeper)
+        (map (desk_state D.to_come D.came_back D.out D.faults C.given) desks.items))
+        (outside (K.tables result.1) (K.faults result.1)
+        (map (desk_state D.to_come D.came_back D.out D.faults C.given) result.2.items))
         result.0 }
-    ensures unserved { IsUnserved result.0 → desk.new ≡ desk.old }
+    ensures unserved { IsUnserved result.0 → result.2.items ≡ desks.items }
     ensures meant { result.0 ≢ 1 }
-    ensures out { D.out desk.new.door ≡ false }
-    ensures door_fault { result.0 ≡ 9 → Rose (D.faults desk.old.door) (D.faults desk.new.door) }
-    ensures no_door_fault { result.0 ≢ 9 → D.faults desk.new.door ≡ D.faults desk.old.door }
 {
-    match router(alloc) {
-        Ok(router) => open_and_serve(rt, alloc, keeper, &router, desk),
-        Err(_) => (ExitStatus::NoMemory.number(), keeper),
+    let Ok(router) = router(alloc) else {
+        return (ExitStatus::NoMemory.number(), keeper, desks);
+    };
+    match Supplies::of(alloc, &router, desks.len()) {
+        Ok(supplies) => serve_store(rt, alloc, keeper, desks, gate, supplies),
+        Err(_) => (ExitStatus::NoMemory.number(), keeper, desks),
     }
 }
 
-// The same with the router of all routes.
-fn open_and_serve<R: Threads + Wait + Sync, K: Keeper, D: Door, C: Clock>(
+// The same with what the workers need.
+fn serve_store<
+    'a,
+    R: Threads + Wait + Sync,
+    K: Keeper + Send,
+    D: Door + Drop + Send,
+    C: Clock + Drop + Send,
+    G: Gate + Sync,
+>(
     rt: &R,
     alloc: Global,
     keeper: K,
-    router: &Router<Place>,
-    desk: &mut Desk<D, C>,
-) -> (u8, K)
-    requires routes { router.now ≡ routes }
-    requires door { D.out desk.old.door ≡ false }
+    desks: Vec<Desk<D, C>>,
+    gate: &G,
+    supplies: Supplies<'a, D, C>,
+) -> (u8, K, Vec<Desk<D, C>>)
+where
+    D::Line: Send,
+    requires count { (1 ≤ length desks.items) × (length desks.items ≤ 64) }
+    requires doors { All (λ desk. D.out desk.door ≡ false) desks.items }
+    requires room { HasRoom (length desks.items) supplies }
     ensures ends { EndsServing (MayTell K.tables)
         (line_tells D.Line.left D.Line.written D.Line.read_faults D.Line.write_faults)
-        (outside (K.tables keeper) (K.faults keeper) (C.given desk.old.clock) (D.to_come desk.old.door)
-        (D.came_back desk.old.door))
-        (outside (K.tables result.1) (K.faults result.1) (C.given desk.new.clock) (D.to_come desk.new.door)
-        (D.came_back desk.new.door))
+        (outside (K.tables keeper) (K.faults keeper)
+        (map (desk_state D.to_come D.came_back D.out D.faults C.given) desks.items))
+        (outside (K.tables result.1) (K.faults result.1)
+        (map (desk_state D.to_come D.came_back D.out D.faults C.given) result.2.items))
         result.0 }
-    ensures unserved { IsUnserved result.0 → desk.new ≡ desk.old }
+    ensures unserved { IsUnserved result.0 → result.2.items ≡ desks.items }
     ensures meant { result.0 ≢ 1 }
-    ensures out { D.out desk.new.door ≡ false }
-    ensures door_fault { result.0 ≡ 9 → Rose (D.faults desk.old.door) (D.faults desk.new.door) }
-    ensures no_door_fault { result.0 ≢ 9 → D.faults desk.new.door ≡ D.faults desk.old.door }
 {
     match Office::open(rt, alloc, keeper, Limits::standard()) {
-        Ok(mut office) => {
-            let end = serve_desk(rt, alloc, &mut office, router, desk);
-            (status_of(end), office.close())
+        Ok(office) => serve_office(rt, alloc, office, desks, gate, supplies),
+        Err(fault) => {
+            let (status, keeper) = refused(fault);
+            (status, keeper, desks)
         }
-        Err(OpenFault::KeeperFault(keeper)) => (ExitStatus::KeeperFault.number(), keeper),
-        Err(OpenFault::StoreDamaged(keeper, _)) => (ExitStatus::StoreDamaged.number(), keeper),
-        Err(OpenFault::NoMemory(keeper)) => (ExitStatus::NoMemory.number(), keeper),
+    }
+}
+
+// The status of a refusal to open a store, and the keeper that comes back.
+fn refused<K: Keeper>(fault: OpenFault<K>) -> (u8, K)
+    ensures status { result.0 ≡ fault_status fault }
+    ensures back { result.1 ≡ keeper_back fault }
+{
+    match fault {
+        OpenFault::KeeperFault(keeper) => (ExitStatus::KeeperFault.number(), keeper),
+        OpenFault::StoreDamaged(keeper, _) => (ExitStatus::StoreDamaged.number(), keeper),
+        OpenFault::NoMemory(keeper) => (ExitStatus::NoMemory.number(), keeper),
+    }
+}
+
+// Opens a hall over the office, has the workers serve and closes the hall and the office. If there is no memory for the
+// hall, nothing is served.
+fn serve_office<
+    'a,
+    R: Threads + Wait + Sync,
+    K: Keeper + Send,
+    D: Door + Drop + Send,
+    C: Clock + Drop + Send,
+    G: Gate + Sync,
+>(
+    rt: &R,
+    alloc: Global,
+    office: Office<K>,
+    desks: Vec<Desk<D, C>>,
+    gate: &G,
+    supplies: Supplies<'a, D, C>,
+) -> (u8, K, Vec<Desk<D, C>>)
+where
+    D::Line: Send,
+    requires count { (1 ≤ length desks.items) × (length desks.items ≤ 64) }
+    requires doors { All (λ desk. D.out desk.door ≡ false) desks.items }
+    requires room { HasRoom (length desks.items) supplies }
+    ensures { ((result.0 ≡ 6) × (result.1 ≡ office.keeper) × (result.2.items ≡ desks.items))
+        ⊎ ClosesOffice K.tables K.faults
+        (line_tells D.Line.left D.Line.written D.Line.read_faults D.Line.write_faults) office
+        (map (desk_state D.to_come D.came_back D.out D.faults C.given) desks.items) result.1
+        (map (desk_state D.to_come D.came_back D.out D.faults C.given) result.2.items) result.0 }
+{
+    match Hall::open(alloc, office, desks.len() as u32) {
+        Ok((hall, passes)) => {
+            let workers = make_workers(desks, passes, supplies.router, supplies.workers);
+            let workers = serve_all(rt, alloc, &hall, gate, workers);
+            let (desks, passes, end) = take_apart(workers, supplies.desks, supplies.passes);
+            let keeper = hall.close(passes).close();
+            (status_of(end), keeper, desks)
+        }
+        Err(office) => (ExitStatus::NoMemory.number(), office.close(), desks),
     }
 }
 

@@ -1,5 +1,5 @@
 //! What a server is asked for.
-ghost use Rattle.std.specs.Prelude.{map, string_bytes};
+ghost use Rattle.std.specs.Prelude.{◌≤◌, map, string_bytes, IfOk};
 ghost use Rattle.program_words.specs.Reading.{Finds};
 ghost use Rattle.program_words.specs.Words.{meaning};
 ghost use Rattle.leireg_serve.specs.Words.{served_by};
@@ -9,7 +9,8 @@ use std::alloc::Global;
 
 /// What a server is asked for by these words, which are the program's without its name.
 pub fn server_of<'a>(alloc: Global, words: &'a [String]) -> Result<WantedRun<'a>, WordsFault>
-    ensures { Finds meaning (served_by (map string_bytes words.now)) result }
+    ensures meant { Finds meaning (served_by (map string_bytes words.now)) result }
+    ensures workers { IfOk result (λ run. (1 ≤ run.workers) × (run.workers ≤ 64)) }
 {
     let run = wanted(alloc, words)?;
     match run.command {

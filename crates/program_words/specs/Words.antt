@@ -1,5 +1,5 @@
 -- Words: what the words behind the program's name ask for. This project's profile.
-use Rattle.std.specs.Prelude.{◌≤◌, ℕ, List, [], ◌∷◌, codes, if◌then◌else◌, Option, Some, None, option_map, option_and_then}
+use Rattle.std.specs.Prelude.{◌≡◌, ◌≤◌, ℕ, List, [], ◌∷◌, codes, if◌then◌else◌, Option, Some, None, option_map, option_and_then}
 use Rattle.std.specs.Str.{bytes_eq}
 use Rattle.register_words.specs.declared.sheets.Form.{Form}
 use Rattle.register_words.specs.declared.sheets.Sheet.{Sheet}
@@ -32,7 +32,7 @@ pub record Meant : Type 0 where
   pub workers : ℕ
   pub connections : ℕ
 
--- a invocation for which nothing else is asked
+-- an invocation for which nothing else is asked
 abbrev pub only : Invocation → Meant
 only invocation = record {
   invocation = invocation;
@@ -71,9 +71,9 @@ serve_by (Some port) (Some workers) None store = None
 serve_by (Some port) None connections store = None
 serve_by None workers connections store = None
 
--- A server has a port from 0 to 65,535, and one worker.
+-- A server has a port from 0 to 65,535, and from 1 to 64 workers.
 abbrev pub serve_meant : List Row → Option Meant
-serve_meant rows = serve_by (number_under (codes "port") 0 65_535 rows) (number_under (codes "workers") 1 1 rows)
+serve_meant rows = serve_by (number_under (codes "port") 0 65_535 rows) (number_under (codes "workers") 1 64 rows)
     (connections_told (first_of (codes "connections") rows)) (first_of (codes "store") rows)
 
 -- a copy is patched by a sheet, a form and two files, and nothing where one of them can't be read
@@ -152,3 +152,7 @@ IsInRange (commands.Apply sheet form) = Unit {0}
 IsInRange (commands.Check code) = Unit {0}
 IsInRange (commands.Digits text) = Unit {0}
 IsInRange (commands.Demo records) = (2 ≤ records) × (records ≤ 100_000)
+
+-- The numbers of a run lie in their ranges: that of its command, and the workers of a server.
+abbrev pub AreInRange : WantedRun → Type 0
+AreInRange run = IsInRange run.command × (run.command ≡ commands.Serve → (1 ≤ run.workers) × (run.workers ≤ 64))

@@ -19,8 +19,8 @@ const SERVE: &'static str =
     "usage: leireg serve --port P --workers W [--connections N] [--store PATH]
 answers requests over HTTP on 127.0.0.1, and tells its address on the standard error
   --port P         the port, from 0 to 65535; with 0 one that is free
-  --workers W      how many connections are served at once: 1
-  --connections N  ends behind N connections, from 1 to 4294967295; without it behind 4294967295
+  --workers W      how many connections are served at once, from 1 to 64
+  --connections N  each worker ends after N connections, from 1 to 4294967295; without it after 4294967295
   --store PATH     keeps the register in the file PATH; without it the register is in memory
 example: leireg serve --port 8080 --workers 1";
 

@@ -4,7 +4,7 @@ ghost use Rattle.clap.specs.Matches.{found_of};
 ghost use Rattle.clap.specs.Walk.{first_of, rows_of};
 ghost use Rattle.program_words.specs.Commands.{apply_app, check_app, demo_app, digits_app, lines_app, read_by, serve_app};
 ghost use Rattle.program_words.specs.Reading.{Finds};
-ghost use Rattle.program_words.specs.Words.{IsInRange, apply_meant, check_meant, connections_told, invocation_of, demo_meant, digits_meant, lines_meant, meaning, meant, number_under, only, serve_meant};
+ghost use Rattle.program_words.specs.Words.{AreInRange, apply_meant, check_meant, connections_told, invocation_of, demo_meant, digits_meant, lines_meant, meaning, meant, number_under, only, serve_meant};
 
 use crate::commands::{
     apply_command, check_command, demo_command, digits_command, lines_command, read, serve_command,
@@ -18,7 +18,7 @@ use std::alloc::Global;
 /// How many connections a worker takes where it isn't said, and at most. This project's profile.
 const MOST_CONNECTIONS: u32 = 4_294_967_295;
 /// The greatest number of workers. This project's profile.
-const MOST_WORKERS: u32 = 1;
+const MOST_WORKERS: u32 = 64;
 /// The greatest port.
 const MOST_PORT: u32 = 65_535;
 /// The greatest number of records that are made up. This project's profile.
@@ -63,7 +63,7 @@ pub struct WantedRun<'a> {
 /// the options and texts of the command that the first one names.
 pub fn wanted<'a>(alloc: Global, words: &'a [String]) -> Result<WantedRun<'a>, WordsFault>
     ensures meant { Finds meaning (meant (map string_bytes words.now)) result }
-    ensures range { IfOk result (λ run. IsInRange run.command) }
+    ensures range { IfOk result AreInRange }
 {
     let Some((name, words)) = words.split_first() else {
         return Err(WordsFault::Usage);
@@ -82,7 +82,7 @@ pub fn wanted<'a>(alloc: Global, words: &'a [String]) -> Result<WantedRun<'a>, W
 fn wanted_lines<'a>(alloc: Global, words: &'a [String]) -> Result<WantedRun<'a>, WordsFault>
     ensures meant { Finds meaning
         (option_and_then lines_meant (read_by lines_app (map string_bytes words.now))) result }
-    ensures range { IfOk result (λ run. IsInRange run.command) }
+    ensures range { IfOk result AreInRange }
 {
     let matches = read(lines_command(alloc)?, words)?;
     Ok(lines_of(&matches))
@@ -91,7 +91,7 @@ fn wanted_lines<'a>(alloc: Global, words: &'a [String]) -> Result<WantedRun<'a>,
 fn wanted_serve<'a>(alloc: Global, words: &'a [String]) -> Result<WantedRun<'a>, WordsFault>
     ensures meant { Finds meaning
         (option_and_then serve_meant (read_by serve_app (map string_bytes words.now))) result }
-    ensures range { IfOk result (λ run. IsInRange run.command) }
+    ensures range { IfOk result AreInRange }
 {
     let matches = read(serve_command(alloc)?, words)?;
     serve_of(&matches).ok_or(WordsFault::Usage)
@@ -100,7 +100,7 @@ fn wanted_serve<'a>(alloc: Global, words: &'a [String]) -> Result<WantedRun<'a>,
 fn wanted_apply<'a>(alloc: Global, words: &'a [String]) -> Result<WantedRun<'a>, WordsFault>
     ensures meant { Finds meaning
         (option_and_then apply_meant (read_by apply_app (map string_bytes words.now))) result }
-    ensures range { IfOk result (λ run. IsInRange run.command) }
+    ensures range { IfOk result AreInRange }
 {
     let matches = read(apply_command(alloc)?, words)?;
     apply_of(&matches).ok_or(WordsFault::Usage)
@@ -109,7 +109,7 @@ fn wanted_apply<'a>(alloc: Global, words: &'a [String]) -> Result<WantedRun<'a>,
 fn wanted_check<'a>(alloc: Global, words: &'a [String]) -> Result<WantedRun<'a>, WordsFault>
     ensures meant { Finds meaning
         (option_and_then check_meant (read_by check_app (map string_bytes words.now))) result }
-    ensures range { IfOk result (λ run. IsInRange run.command) }
+    ensures range { IfOk result AreInRange }
 {
     let matches = read(check_command(alloc)?, words)?;
     check_of(&matches).ok_or(WordsFault::Usage)
@@ -118,7 +118,7 @@ fn wanted_check<'a>(alloc: Global, words: &'a [String]) -> Result<WantedRun<'a>,
 fn wanted_digits<'a>(alloc: Global, words: &'a [String]) -> Result<WantedRun<'a>, WordsFault>
     ensures meant { Finds meaning
         (option_and_then digits_meant (read_by digits_app (map string_bytes words.now))) result }
-    ensures range { IfOk result (λ run. IsInRange run.command) }
+    ensures range { IfOk result AreInRange }
 {
     let matches = read(digits_command(alloc)?, words)?;
     digits_of(&matches).ok_or(WordsFault::Usage)
@@ -127,7 +127,7 @@ fn wanted_digits<'a>(alloc: Global, words: &'a [String]) -> Result<WantedRun<'a>
 fn wanted_demo<'a>(alloc: Global, words: &'a [String]) -> Result<WantedRun<'a>, WordsFault>
     ensures meant { Finds meaning
         (option_and_then demo_meant (read_by demo_app (map string_bytes words.now))) result }
-    ensures range { IfOk result (λ run. IsInRange run.command) }
+    ensures range { IfOk result AreInRange }
 {
     let matches = read(demo_command(alloc)?, words)?;
     demo_of(&matches).ok_or(WordsFault::Usage)
@@ -178,7 +178,7 @@ fn connections(matches: &ArgMatches<'_>) -> Option<u32>
 
 fn lines_of<'a>(matches: &ArgMatches<'a>) -> WantedRun<'a>
     ensures meant { lines_meant (rows_of (found_of matches.now)) ≡ Some (meaning result) }
-    ensures range { IsInRange result.command }
+    ensures range { AreInRange result }
 {
     let store = text(matches, "store");
     WantedRun {
@@ -189,7 +189,7 @@ fn lines_of<'a>(matches: &ArgMatches<'a>) -> WantedRun<'a>
 
 fn serve_of<'a>(matches: &ArgMatches<'a>) -> Option<WantedRun<'a>>
     ensures meant { option_map meaning result ≡ serve_meant (rows_of (found_of matches.now)) }
-    ensures range { IfSome result (λ run. IsInRange run.command) }
+    ensures range { IfSome result AreInRange }
 {
     let port = number(matches, "port", 0, MOST_PORT)?;
     let workers = number(matches, "workers", 1, MOST_WORKERS)?;
@@ -206,7 +206,7 @@ fn serve_of<'a>(matches: &ArgMatches<'a>) -> Option<WantedRun<'a>>
 
 fn apply_of<'a>(matches: &ArgMatches<'a>) -> Option<WantedRun<'a>>
     ensures meant { option_map meaning result ≡ apply_meant (rows_of (found_of matches.now)) }
-    ensures range { IfSome result (λ run. IsInRange run.command) }
+    ensures range { IfSome result AreInRange }
 {
     let sheet = sheet_of(text(matches, "TABLE")?.as_bytes())?;
     let form = form_of(text(matches, "FORM")?.as_bytes())?;
@@ -221,7 +221,7 @@ fn apply_of<'a>(matches: &ArgMatches<'a>) -> Option<WantedRun<'a>>
 
 fn check_of<'a>(matches: &ArgMatches<'a>) -> Option<WantedRun<'a>>
     ensures meant { option_map meaning result ≡ check_meant (rows_of (found_of matches.now)) }
-    ensures range { IfSome result (λ run. IsInRange run.command) }
+    ensures range { IfSome result AreInRange }
 {
     let code = text(matches, "CODE")?;
     Some(only(Command::Check(code)))
@@ -229,7 +229,7 @@ fn check_of<'a>(matches: &ArgMatches<'a>) -> Option<WantedRun<'a>>
 
 fn digits_of<'a>(matches: &ArgMatches<'a>) -> Option<WantedRun<'a>>
     ensures meant { option_map meaning result ≡ digits_meant (rows_of (found_of matches.now)) }
-    ensures range { IfSome result (λ run. IsInRange run.command) }
+    ensures range { IfSome result AreInRange }
 {
     let text = text(matches, "TEXT")?;
     Some(only(Command::Digits(text)))
@@ -237,7 +237,7 @@ fn digits_of<'a>(matches: &ArgMatches<'a>) -> Option<WantedRun<'a>>
 
 fn demo_of<'a>(matches: &ArgMatches<'a>) -> Option<WantedRun<'a>>
     ensures meant { option_map meaning result ≡ demo_meant (rows_of (found_of matches.now)) }
-    ensures range { IfSome result (λ run. IsInRange run.command) }
+    ensures range { IfSome result AreInRange }
 {
     let records = number(matches, "N", 2, MOST_RECORDS)?;
     Some(only(Command::Demo(records)))

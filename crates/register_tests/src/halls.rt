@@ -2,13 +2,13 @@
 ghost use Rattle.std.specs.Prelude.{◌≡◌, ◌≤◌, [], All, IfOk, IsSomeAnd};
 ghost use Rattle.std.specs.Thread.{IsSync};
 ghost use Rattle.atomic_table.specs.Seated.{TableId};
-ghost use Rattle.register_words.specs.Requests.{IsNumbered, IsUploadNumber};
+ghost use Rattle.register_words.specs.Requests.{IsNumbered};
 ghost use Rattle.turnstile.specs.Passes.{AreOf, HaveAll};
 
 use lei_code::Lei;
 use lei_hall::{Hall, Pass};
-use lei_office::{Call, Limits, Office, Reply, Request};
-use lei_outside::{KeepFault, Keeper, OpenGate, SureKeeper};
+use lei_office::{Limits, Office, Reply, Request};
+use lei_outside::{KeepFault, Keeper, SureKeeper};
 use lei_shapes::Moment;
 use std::alloc::{AllocError, Global};
 use std::mem::forget;
@@ -16,25 +16,6 @@ use std::sync::Wait;
 use std::test::Fail;
 use std::thread;
 use std::thread::Threads;
-
-// A turn of each of two callers, who meet afterwards.
-fn ask_and_meet<K: Keeper, R: Threads + Wait + Sync>(
-    rt: &R,
-    hall: &Hall<K>,
-    first: Pass,
-    second: Pass,
-    call: &Call,
-    moment: Moment,
-) -> (Pass, Pass)
-    requires first { first.table ≡ hall.now.table }
-    requires second { second.table ≡ hall.now.table }
-    requires limits { first.stays ≡ second.stays }
-    requires numbered { IsUploadNumber call.now.number }
-{
-    let (first, _reply) = hall.ask(rt, first, &Request::Status, moment);
-    let (second, _reply) = hall.submit(rt, second, call, moment, &OpenGate);
-    hall.meet(rt, first, second)
-}
 
 // One turn of each pass, the last one first.
 fn one_turn_each<K: Keeper, R: Threads + Wait + Sync>(
@@ -196,7 +177,10 @@ fn are_answered<R: Threads + Wait + Sync>(
     let answered = match workers_of(alloc, passes) {
         Ok(mut workers) => {
             ask_at_once(rt, &hall, &mut workers, request, moment);
-            workers.iter().all(|worker| is_answered(worker, wanted))
+            workers.len() == callers as usize
+                && workers
+                    .iter()
+                    .all(|worker| is_answered(&worker.reply, wanted))
         }
         Err(_) => false,
     };
@@ -204,10 +188,17 @@ fn are_answered<R: Threads + Wait + Sync>(
     answered
 }
 
-fn is_answered(worker: &Worker, wanted: &[u8]) -> bool {
-    match &worker.reply {
-        Some(Reply::Text { text, .. }) => text.as_slice() == wanted,
-        _ => false,
+fn is_answered(reply: &Option<Reply>, wanted: &[u8]) -> bool {
+    match reply {
+        Some(reply) => is_text(reply, wanted),
+        None => false,
+    }
+}
+
+fn is_text(reply: &Reply, wanted: &[u8]) -> bool {
+    match reply {
+        Reply::Text { text, .. } => text.as_slice() == wanted,
+        Reply::Words(_) => false,
     }
 }
 

@@ -1,24 +1,18 @@
 // Connections over HTTP: what is sent, what comes back, and how they end.
-ghost use Rattle.std.specs.Prelude.{◌≡◌, ◌≤◌, IfOk, false};
+ghost use Rattle.std.specs.Prelude.{◌≤◌};
 
 use crate::stores::Still;
-use crate::words::words_of;
 use issuer_http::{Ended, serve_alone};
 use lei_office::{Limits, Office};
-use lei_outside::{
-    ByteLink, ByteSink, ByteSource, Bytes, List, ListDoor, NoMemory, OpenGate, SureKeeper,
-};
-use leireg_serve::{Desk, serve};
-use register_words::ExitStatus;
+use lei_outside::{ByteLink, ByteSink, ByteSource, Bytes, List, NoMemory, SureKeeper};
 use std::alloc::Global;
-use std::sync::Wait;
 use std::test::Fail;
 use std::thread::Threads;
 
-// Each connection, parted by `^`: its title, how it ends, what is sent and what comes back, parted by `~`. A
-// line ends in CR and LF. `@` is the status of an empty register, `$` a text of 8,192 letters, `%` are 33
-// headers, `&` a LF alone and `|` a tab.
-const CONNECTIONS: &str = r#"a status and a path without a route~Closed~GET /v1/status HTTP/1.1
+/// Each connection, parted by `^`: its title, how it ends, what is sent and what comes back, parted by `~`. A
+/// line ends in CR and LF. `@` is the status of an empty register, `$` a text of 8,192 letters, `%` are 33
+/// headers, `&` a LF alone and `|` a tab.
+pub const CONNECTIONS: &str = r#"a status and a path without a route~Closed~GET /v1/status HTTP/1.1
 
 GET /nothing HTTP/1.1
 
@@ -397,8 +391,8 @@ fn put(out: &mut Vec<u8>, letter: u8) -> Result<(), NoMemory> {
     Ok(())
 }
 
-// The bytes that a text of the table stands for.
-fn bytes_of(alloc: Global, text: &str) -> Result<Bytes, NoMemory> {
+/// The bytes that a text of the table stands for.
+pub fn bytes_of(alloc: Global, text: &str) -> Result<Bytes, NoMemory> {
     let mut bytes = Vec::new(alloc);
     for letter in text.bytes() {
         put(&mut bytes, letter)?;
@@ -410,8 +404,8 @@ fn none(alloc: Global) -> List<u64> {
     List::from(Vec::new(alloc))
 }
 
-// A link that gives these bytes, and takes and gives at most so many at once.
-fn link_of(alloc: Global, sent: Bytes, most: usize) -> ByteLink
+/// A link that gives these bytes, and takes and gives at most so many at once.
+pub fn link_of(alloc: Global, sent: Bytes, most: usize) -> ByteLink
     requires { 1 ≤ most }
 {
     ByteLink::new(
@@ -441,8 +435,8 @@ fn ended_of(word: &str) -> Option<Ended> {
     }
 }
 
-// The parts of a connection of the table behind its title: how it ends, what is sent and what comes back.
-fn parts_of(text: &str) -> Option<(&str, &str, &str)> {
+/// The parts of a connection of the table behind its title: how it ends, what is sent and what comes back.
+pub fn parts_of(text: &str) -> Option<(&str, &str, &str)> {
     let (ended, rest) = text.split_once('~')?;
     let (sent, wanted) = rest.split_once('~')?;
     Some((ended, sent, wanted))
@@ -484,57 +478,5 @@ fn connections_are_answered_as_the_table_says(rt: HostRuntime) -> Result<(), Fai
         let (title, rest) = connection.split_once('~').ok_or("a title")?;
         assert!(rt; is_as_said(&rt, rt.alloc(), rest), "{title}");
     }
-    Ok(())
-}
-
-// A door through which one link comes.
-fn door_of(alloc: Global, link: ByteLink) -> Result<ListDoor, NoMemory>
-    ensures { IfOk result (λ door. door.out ≡ false) }
-{
-    let mut links = Vec::new(alloc);
-    links.push(link)?;
-    ListDoor::new(alloc, List::from(links))
-}
-
-// Whether this came back of the one link of a desk.
-fn has_come(desks: &[Desk<ListDoor, Still>], wanted: &[u8]) -> bool {
-    match desks {
-        [desk] => match desk.door.came_back() {
-            [link] => link.sink().written() == wanted,
-            _ => false,
-        },
-        _ => false,
-    }
-}
-
-// Whether a server with these words is done, and this comes back of what is sent to it.
-fn is_done<R: Threads + Wait + Sync>(
-    rt: &R,
-    alloc: Global,
-    words: &[String],
-    sent: &str,
-    wanted: &str,
-) -> bool {
-    let (Ok(sent), Ok(wanted)) = (bytes_of(alloc, sent), bytes_of(alloc, wanted)) else {
-        return false;
-    };
-    let Ok(door) = door_of(alloc, link_of(alloc, sent, 7)) else {
-        return false;
-    };
-    let clock = Still;
-    let Ok(desks) = vec![in alloc; Desk { door, clock }] else {
-        return false;
-    };
-    let (status, _, desks) = serve(rt, alloc, words, SureKeeper::new(alloc), desks, &OpenGate);
-    status == ExitStatus::Ok.number() && has_come(&desks, wanted.as_slice())
-}
-
-#[test]
-fn a_server_answers_the_connection_of_its_door(rt: HostRuntime) -> Result<(), Fail> {
-    let words = words_of(rt.alloc(), "serve --port 0 --workers 1")?;
-    let (_, rest) = CONNECTIONS.split_once('~').ok_or("a title")?;
-    let (first, _) = rest.split_once('^').ok_or("a connection")?;
-    let (_, sent, wanted) = parts_of(first).ok_or("its parts")?;
-    assert!(rt; is_done(&rt, rt.alloc(), &words, sent, wanted));
     Ok(())
 }

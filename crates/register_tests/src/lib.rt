@@ -26,6 +26,8 @@ mod patches;
 #[cfg(test)]
 mod runs;
 #[cfg(test)]
+mod servers;
+#[cfg(test)]
 mod sessions;
 #[cfg(test)]
 mod sockets;

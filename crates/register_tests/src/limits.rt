@@ -1,5 +1,6 @@
 // What an office answers, where no session of the program shows it: under other limits than the standard
 // ones.
+ghost use Rattle.std.specs.Prelude.{◌≡◌, IfSome};
 ghost use Rattle.register_words.specs.Limits.{AreLimits};
 
 use lei_code::Lei;
@@ -17,30 +18,37 @@ const OTHER: &str = "HWUPKR0MPOU8FGXBT394";
 /// 2025-01-11T00:00:00Z.
 pub const MOMENT: i64 = 1_736_553_600;
 
-// Two issued records, in their compact form with their names in byte order.
-pub const TWO_RECORDS: &str = concat!(
-    r#"{"records":[{"Entity.EntityCategory":"GENERAL","Entity.EntityStatus":"ACTIVE","#,
-    r#""Entity.HeadquartersAddress.City":"Paris","Entity.HeadquartersAddress.Country":"FR","#,
-    r#""Entity.HeadquartersAddress.FirstAddressLine":"1 Main Street","Entity.LegalAddress.City":"Paris","#,
-    r#""Entity.LegalAddress.Country":"FR","Entity.LegalAddress.FirstAddressLine":"1 Main Street","#,
-    r#""Entity.LegalForm.EntityLegalFormCode":"AB12","Entity.LegalJurisdiction":"FR","Entity.LegalName":"Alpha","#,
-    r#""Entity.RegistrationAuthority.RegistrationAuthorityEntityID":"1001","#,
-    r#""Entity.RegistrationAuthority.RegistrationAuthorityID":"RA000001","LEI":"00000000000000000195","#,
-    r#""Registration.InitialRegistrationDate":"2025-01-10T09:00:00Z","#,
-    r#""Registration.LastUpdateDate":"2025-01-10T09:00:00Z","Registration.ManagingLOU":"506700GE1G29325QX363","#,
-    r#""Registration.NextRenewalDate":"2026-01-10T09:00:00Z","Registration.RegistrationStatus":"ISSUED","#,
-    r#""Registration.ValidationSources":"FULLY_CORROBORATED"},"#,
-    r#"{"Entity.EntityCategory":"GENERAL","Entity.EntityStatus":"ACTIVE","#,
-    r#""Entity.HeadquartersAddress.City":"Paris","Entity.HeadquartersAddress.Country":"FR","#,
-    r#""Entity.HeadquartersAddress.FirstAddressLine":"1 Main Street","Entity.LegalAddress.City":"Paris","#,
-    r#""Entity.LegalAddress.Country":"FR","Entity.LegalAddress.FirstAddressLine":"1 Main Street","#,
-    r#""Entity.LegalForm.EntityLegalFormCode":"AB12","Entity.LegalJurisdiction":"FR","Entity.LegalName":"Beta","#,
-    r#""Entity.RegistrationAuthority.RegistrationAuthorityEntityID":"1002","#,
-    r#""Entity.RegistrationAuthority.RegistrationAuthorityID":"RA000001","LEI":"00000000000000000292","#,
-    r#""Registration.InitialRegistrationDate":"2025-01-10T09:00:00Z","#,
-    r#""Registration.LastUpdateDate":"2025-01-10T09:00:00Z","Registration.ManagingLOU":"506700GE1G29325QX363","#,
-    r#""Registration.NextRenewalDate":"2026-01-10T09:00:00Z","Registration.RegistrationStatus":"ISSUED","#,
-    r#""Registration.ValidationSources":"FULLY_CORROBORATED"}]}"#
+// An upload of issued records in their compact form, with their names in byte order. Each has its name, its number at its
+// authority and its LEI, and what stands after it.
+macro_rules! upload {
+    ($([$name:literal $number:literal $lei:literal $after:literal])*) => {
+        concat!(
+            r#"{"records":["#,
+            $(
+                r#"{"Entity.EntityCategory":"GENERAL","Entity.EntityStatus":"ACTIVE","#,
+                r#""Entity.HeadquartersAddress.City":"Paris","Entity.HeadquartersAddress.Country":"FR","#,
+                r#""Entity.HeadquartersAddress.FirstAddressLine":"1 Main Street","#,
+                r#""Entity.LegalAddress.City":"Paris","Entity.LegalAddress.Country":"FR","#,
+                r#""Entity.LegalAddress.FirstAddressLine":"1 Main Street","#,
+                r#""Entity.LegalForm.EntityLegalFormCode":"AB12","Entity.LegalJurisdiction":"FR","#,
+                r#""Entity.LegalName":""#, $name,
+                r#"","Entity.RegistrationAuthority.RegistrationAuthorityEntityID":""#, $number,
+                r#"","Entity.RegistrationAuthority.RegistrationAuthorityID":"RA000001","LEI":""#, $lei,
+                r#"","Registration.InitialRegistrationDate":"2025-01-10T09:00:00Z","#,
+                r#""Registration.LastUpdateDate":"2025-01-10T09:00:00Z","#,
+                r#""Registration.ManagingLOU":"506700GE1G29325QX363","#,
+                r#""Registration.NextRenewalDate":"2026-01-10T09:00:00Z","#,
+                r#""Registration.RegistrationStatus":"ISSUED","#,
+                r#""Registration.ValidationSources":"FULLY_CORROBORATED"}"#, $after
+            ),*
+        )
+    };
+}
+
+/// An upload of two records.
+pub const TWO_RECORDS: &str = upload!(
+    ["Alpha" "1001" "00000000000000000195" ","]
+    ["Beta" "1002" "00000000000000000292" "]}"]
 );
 
 // What is sent.
@@ -61,7 +69,7 @@ type Step = (Sent, u16, &'static str);
 fn request(alloc: Global, sent: Sent) -> Option<Request> {
     match sent {
         Sent::Accredit(issuer) => Some(Request::Accredit(code(issuer)?)),
-        Sent::Upload(number, body) => upload(alloc, number, body),
+        Sent::Upload(number, body) => Some(Request::Upload(call(alloc, number, body)?)),
         Sent::Publish(number) => Some(Request::Publish(number)),
     }
 }
@@ -73,14 +81,17 @@ fn code(text: &str) -> Option<Lei> {
     }
 }
 
-fn upload(alloc: Global, number: u32, body: &str) -> Option<Request> {
+// An upload of [`ISSUER`] with this number and body.
+fn call(alloc: Global, number: u32, body: &str) -> Option<Call>
+    ensures { IfSome result (λ call. call.number ≡ number) }
+{
     let office = code(ISSUER)?;
     match Shared::copy_of(alloc, body.as_bytes()) {
-        Ok(body) => Some(Request::Upload(Call {
+        Ok(body) => Some(Call {
             office,
             number,
             body,
-        })),
+        }),
         Err(NoMemory) => None,
     }
 }

@@ -46,7 +46,8 @@ impl<'a> Operator for &'a mut Heard {
     }
 }
 
-fn listen(rt: &HostRuntime) -> std::io::Result<TcpListener> {
+/// A listener at a free port.
+pub fn listen(rt: &HostRuntime) -> std::io::Result<TcpListener> {
     TcpListener::bind(rt, SocketAddr::from((Ipv4Addr::LOCALHOST, 0)))
 }
 

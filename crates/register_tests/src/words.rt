@@ -4,24 +4,27 @@ use program_words::{Command, WordsFault, wanted};
 use std::alloc::Global;
 use std::test::Fail;
 
-// The words of servers, with their ports, their connections and the paths of their stores.
-const SERVERS: [(&str, u16, u64, Option<&str>); 4] = [
-    ("serve --port 0 --workers 1", 0, 4_294_967_295, None),
+// The words of servers, with their ports, their workers, their connections and the paths of their stores.
+const SERVERS: [(&str, u16, u32, u64, Option<&str>); 4] = [
+    ("serve --port 0 --workers 1", 0, 1, 4_294_967_295, None),
     (
-        "serve --workers=1 --port=65535",
+        "serve --workers=64 --port=65535",
         65_535,
+        64,
         4_294_967_295,
         None,
     ),
     (
-        "serve --store a --connections=4294967295 --workers 1 --port 80",
+        "serve --store a --connections=4294967295 --workers 2 --port 80",
         80,
+        2,
         4_294_967_295,
         Some("a"),
     ),
     (
         "serve --port 8080 --workers 1 --connections 1 --store=",
         8_080,
+        1,
         1,
         Some(""),
     ),
@@ -32,7 +35,8 @@ const OTHERS: &str = "serve
 serve --port 0
 serve --workers 1
 serve --port 0 --workers 0
-serve --port 0 --workers 2
+serve --port 0 --workers 65
+serve --port 0 --workers 01
 serve --port 65536 --workers 1
 serve --port 080 --workers 1
 serve --port +80 --workers 1
@@ -58,6 +62,7 @@ fn is_server(
     alloc: Global,
     words: &[String],
     port: u16,
+    workers: u32,
     connections: u64,
     store: Option<&str>,
 ) -> bool {
@@ -65,7 +70,7 @@ fn is_server(
         Ok(run) => {
             matches!(run.command, Command::Serve)
                 && run.port == port
-                && run.workers == 1
+                && run.workers == workers
                 && run.connections == connections
                 && run.store == store
         }
@@ -79,10 +84,10 @@ fn is_refused(alloc: Global, words: &[String]) -> bool {
 
 #[test]
 fn options_of_a_server_stand_in_any_order(rt: HostRuntime) -> Result<(), Fail> {
-    for (text, port, connections, store) in SERVERS {
+    for (text, port, workers, connections, store) in SERVERS {
         let words = words_of(rt.alloc(), text)?;
         assert!(rt;
-            is_server(rt.alloc(), &words, port, connections, store),
+            is_server(rt.alloc(), &words, port, workers, connections, store),
             "{text}"
         );
     }

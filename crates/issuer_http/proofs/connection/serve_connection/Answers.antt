@@ -1,5 +1,6 @@
 use Rattle.request_loop.specs.Serving.{progress}
 use Rattle.issuer_http.proofs.Callers.{comes_back, completes_back, unbegun_back}
+use Rattle.issuer_http.proofs.Faults.{unasked}
 use Rattle.issuer_http.proofs.connection.serve_connection.Goals as goal
 
 pub returns-in-Ok-clause-serves : goal.returns-in-Ok-clause-serves
@@ -21,3 +22,6 @@ returns-in-Ok-clause-complete g c bytes told no_want no_read no_write =
 
 pub returns-in-Err-clause-serves : goal.returns-in-Err-clause-serves
 returns-in-Err-clause-serves g c = unbegun_back _ _ _ _ _ c.into_pass-in-Err.ensures
+
+pub returns-in-Err-clause-faults : goal.returns-in-Err-clause-faults
+returns-in-Err-clause-faults g c = unasked _ _

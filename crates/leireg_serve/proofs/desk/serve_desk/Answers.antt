@@ -1,5 +1,6 @@
-use Rattle.std.proofs.Common.{refl, ◌∙◌}
-use Rattle.leireg_serve.proofs.Lines.{desk_begins, desk_goes}
+use Rattle.std.proofs.Common.{ℕ, refl, ◌∙◌, subst}
+use Rattle.lei_outside.specs.Count.{Rose}
+use Rattle.leireg_serve.proofs.Lines.{desk_begins, desk_closed, desk_failed, desk_goes}
 use Rattle.leireg_serve.proofs.desk.serve_desk.Goals as goal
 
 pub loop-init : goal.loop-init
@@ -16,3 +17,16 @@ loop-preserved g c =
       c.serve_line.ensures.kept ∙ came.kept (λ fails. fails) ∙ before.3,
       desk_goes _ _ _ _ _ _ _ _ _ _ _ _ _ served.0 _ before.4 came.lines came.back c.serve_line.ensures.to_come served.1 served.2,
     )
+
+pub returns-in-Closed : goal.returns-in-Closed
+returns-in-Closed g c =
+    let before = c.loop.invariant in
+    let came = c.in-Closed.ensures in
+    desk_closed _ _ _ _ _ _ _ _ before.4 c.into_pass.ensures refl came.lines came.back came.out (came.kept (λ fails. fails) ∙ before.3)
+
+pub returns-in-Failed : goal.returns-in-Failed
+returns-in-Failed g c =
+    let before = c.loop.invariant in
+    let came = c.in-Failed.ensures in
+    desk_failed _ _ _ _ _ _ _ _ before.4 c.into_pass-in-Failed.ensures refl came.lines came.back came.out
+    (subst (λ (n : ℕ). Rose n (g.D.Door.faults c.next-in-loop.new.self)) before.3 (came.failed tt))

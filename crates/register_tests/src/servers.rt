@@ -1,0 +1,276 @@
+// Servers: what comes back of the lines of their doors, and of connections over loopback that several workers serve.
+ghost use Rattle.std.specs.Prelude.{◌≡◌, false, length, All, IfOk};
+
+use crate::http::{CONNECTIONS, bytes_of, link_of, parts_of};
+use crate::sockets::listen;
+use crate::stores::Still;
+use crate::words::words_of;
+use lei_outside::{Bytes, Door, List, ListDoor, NoMemory, OpenGate, SureKeeper};
+use leireg_serve::{Desk, serve, server_of};
+use leireg_sockets::{Deadlines, Operator, TcpDoor};
+use program_words::WantedRun;
+use register_words::ExitStatus;
+use std::alloc::Global;
+use std::io::{self, Read, Write};
+use std::mem::forget;
+use std::net::{Shutdown, SocketAddr, TcpListener, TcpStream};
+use std::sync::Wait;
+use std::test::Fail;
+use std::thread::Threads;
+
+// A door through which one link comes that gives these bytes.
+fn door_of(alloc: Global, sent: Bytes) -> Result<ListDoor, NoMemory>
+    ensures { IfOk result (λ door. door.out ≡ false) }
+{
+    let mut links = Vec::new(alloc);
+    links.push(link_of(alloc, sent, 7))?;
+    ListDoor::new(alloc, List::from(links))
+}
+
+// A desk with this door, and a clock that stands still.
+fn desk_of<D: Door>(door: D) -> Desk<D, Still>
+    requires { D.out door ≡ false }
+    ensures { D.out result.door ≡ false }
+{
+    Desk { door, clock: Still }
+}
+
+// A desk for each worker of a server, through whose door one link comes that sends this.
+fn desks_of(
+    alloc: Global,
+    server: &WantedRun<'_>,
+    sent: &str,
+) -> Result<Vec<Desk<ListDoor, Still>>, NoMemory>
+    ensures count { IfOk result (λ desks. length desks.items ≡ server.now.workers) }
+    ensures doors { IfOk result (λ desks. All (λ desk. desk.door.out ≡ false) desks.items) }
+{
+    let mut desks = Vec::new(alloc);
+    for _number in 0..server.workers {
+        let door = door_of(alloc, bytes_of(alloc, sent)?)?;
+        desks.push(desk_of(door))?;
+    }
+    Ok(desks)
+}
+
+// Whether this came back of the one link of a desk.
+fn has_come(desk: &Desk<ListDoor, Still>, wanted: &[u8]) -> bool {
+    match desk.door.came_back() {
+        [link] => link.sink().written() == wanted,
+        _ => false,
+    }
+}
+
+// Whether a server with these words is done, and this comes back of what is sent to each of so many workers.
+fn is_done<R: Threads + Wait + Sync>(
+    rt: &R,
+    alloc: Global,
+    words: &[String],
+    workers: usize,
+    sent: &str,
+    wanted: &str,
+) -> bool {
+    let Ok(server) = server_of(alloc, words) else {
+        return false;
+    };
+    let Ok(wanted) = bytes_of(alloc, wanted) else {
+        return false;
+    };
+    let Ok(desks) = desks_of(alloc, &server, sent) else {
+        return false;
+    };
+    let (status, _, desks) = serve(rt, alloc, words, SureKeeper::new(alloc), desks, &OpenGate);
+    status == ExitStatus::Ok.number()
+        && desks.len() == workers
+        && desks.iter().all(|desk| has_come(desk, wanted.as_slice()))
+}
+
+#[test]
+fn a_server_answers_the_connections_of_its_doors(rt: HostRuntime) -> Result<(), Fail> {
+    let one = words_of(rt.alloc(), "serve --port 0 --workers 1")?;
+    let two = words_of(rt.alloc(), "serve --port 0 --workers 2")?;
+    let (_, rest) = CONNECTIONS.split_once('~').ok_or("a title")?;
+    let (first, _) = rest.split_once('^').ok_or("a connection")?;
+    let (_, sent, wanted) = parts_of(first).ok_or("its parts")?;
+    assert!(rt; is_done(&rt, rt.alloc(), &one, 1, sent, wanted));
+    assert!(rt; is_done(&rt, rt.alloc(), &two, 2, sent, wanted));
+    Ok(())
+}
+
+const ISSUERS: [&str; 4] = [
+    "506700GE1G29325QX363",
+    "HWUPKR0MPOU8FGXBT394",
+    "5493001KJTIIGC8Y1R12",
+    "00000000000000000195",
+];
+
+// The accreditation of an issuer and three of its uploads.
+const UPLOADS: &str = "PUT /v1/issuers/# HTTP/1.1
+
+PUT /v1/issuers/#/uploads/1 HTTP/1.1
+Content-Length: 16
+
+{\"records\":[{}]}PUT /v1/issuers/#/uploads/2 HTTP/1.1
+Content-Length: 19
+
+{\"records\":[{},{}]}PUT /v1/issuers/#/uploads/3 HTTP/1.1
+Content-Length: 16
+
+{\"records\":[{}]}";
+
+// The same accreditation, and what is kept of the three uploads.
+const KEPT: &str = "PUT /v1/issuers/# HTTP/1.1
+
+GET /v1/issuers/#/uploads/1 HTTP/1.1
+
+GET /v1/issuers/#/uploads/2 HTTP/1.1
+
+GET /v1/issuers/#/uploads/3 HTTP/1.1
+
+";
+
+// Puts these requests, of an issuer who stands at each `#`.
+fn put_requests(
+    out: &mut Vec<u8>,
+    alloc: Global,
+    requests: &str,
+    issuer: &str,
+) -> Result<(), NoMemory> {
+    for (number, part) in requests.split('#').enumerate() {
+        if number > 0 {
+            out.extend_from_slice(issuer.as_bytes())?;
+        }
+        out.extend_from_slice(bytes_of(alloc, part)?.as_slice())?;
+    }
+    Ok(())
+}
+
+// A peer who has sent these requests, and sends no more.
+fn peer_of(rt: &HostRuntime, address: SocketAddr, requests: &[u8]) -> io::Result<TcpStream> {
+    let mut peer = TcpStream::connect(rt, address)?;
+    peer.write_all(requests)?;
+    peer.shutdown(Shutdown::Write)?;
+    Ok(peer)
+}
+
+// What a peer is sent, in at most 1,000 pieces.
+fn received(alloc: Global, mut peer: TcpStream) -> io::Result<Vec<u8>> {
+    let mut bytes = Vec::new(alloc);
+    let mut buffer = [0; 4_096];
+    for _ in 0..1_000 {
+        let count = peer.read(&mut buffer)?;
+        if count == 0 {
+            break;
+        }
+        bytes.extend_from_slice(&buffer[..count])?;
+    }
+    Ok(bytes)
+}
+
+// An operator who doesn't listen.
+#[derive(Drop)]
+struct Nobody;
+
+impl Operator for Nobody {
+    fn note_listening(&mut self, _address: SocketAddr) {}
+
+    fn note_accept_fault(&mut self, _fault: &io::Error) {}
+}
+
+// A desk over a listener for each worker of a server.
+fn desks_over<'a>(
+    host: &'a HostRuntime,
+    listener: &'a TcpListener,
+    server: &WantedRun<'_>,
+) -> Result<Vec<Desk<TcpDoor<'a, HostRuntime, Nobody>, Still>>, NoMemory>
+    ensures count { IfOk result (λ desks. length desks.items ≡ server.now.workers) }
+    ensures doors { IfOk result (λ desks. All (λ desk. desk.door.out ≡ false) desks.items) }
+{
+    let mut desks = Vec::new(host.alloc());
+    for _number in 0..server.workers {
+        let deadlines = Deadlines::standard();
+        let door = TcpDoor::new(host, Some(listener), Nobody, deadlines, server.connections);
+        desks.push(desk_of(door))?;
+    }
+    Ok(desks)
+}
+
+// The keeper that a server with these words leaves, which serves the connections of a listener.
+fn served<R: Threads + Wait + Sync>(
+    rt: &R,
+    host: &HostRuntime,
+    words: &[String],
+    listener: &TcpListener,
+    keeper: SureKeeper,
+) -> Option<SureKeeper> {
+    let Ok(server) = server_of(host.alloc(), words) else {
+        forget(keeper);
+        return None;
+    };
+    let Ok(desks) = desks_over(host, listener, &server) else {
+        forget(keeper);
+        return None;
+    };
+    let (status, keeper, _) = serve(rt, host.alloc(), words, keeper, desks, &OpenGate);
+    if status == ExitStatus::Ok.number() {
+        Some(keeper)
+    } else {
+        forget(keeper);
+        None
+    }
+}
+
+// Whether the entries that replies tell of are those from 1 to so many, each once.
+fn tell_all_entries(replies: &[u8], count: usize) -> Option<bool> {
+    let replies = str::from_utf8(replies).ok()?;
+    let mut told = [false; 64];
+    let mut found: usize = 0;
+    for reply in replies.split("\"entry\":").skip(1) {
+        let (entry, _) = reply.split_once(',')?;
+        let entry = entry.parse::<usize>().ok()?;
+        if entry == 0 || entry > count || *told.get(entry - 1)? {
+            return Some(false);
+        }
+        *told.get_mut(entry - 1)? = true;
+        found = found.saturating_add(1);
+    }
+    Some(found == count)
+}
+
+#[test]
+fn callers_of_four_workers_are_told_one_history(rt: HostRuntime) -> Result<(), Fail> {
+    let listener = listen(&rt)?;
+    let address = listener.local_addr()?;
+    let mut peers = Vec::new(rt.alloc());
+    for _ in 0..4 {
+        for issuer in ISSUERS {
+            let mut requests = Vec::new(rt.alloc());
+            put_requests(&mut requests, rt.alloc(), UPLOADS, issuer)?;
+            peers.push(peer_of(&rt, address, &requests)?)?;
+        }
+    }
+    let words = words_of(rt.alloc(), "serve --port 0 --workers 4 --connections 4")?;
+    let keeper = SureKeeper::new(rt.alloc());
+    let keeper = served(&rt, &rt, &words, &listener, keeper).ok_or("a server")?;
+    let mut told = Vec::new(rt.alloc());
+    for (number, peer) in peers.into_iter().enumerate() {
+        let replies = received(rt.alloc(), peer)?;
+        if number < 4 {
+            told.push(replies)?;
+        } else {
+            assert!(rt; told.get(number % 4) == Some(&replies), "{number}");
+        }
+    }
+    let told = told.concat(rt.alloc())?;
+    assert!(rt; tell_all_entries(&told, 16) == Some(true));
+
+    let mut requests = Vec::new(rt.alloc());
+    for issuer in ISSUERS {
+        put_requests(&mut requests, rt.alloc(), KEPT, issuer)?;
+    }
+    let peer = peer_of(&rt, address, &requests)?;
+    let words = words_of(rt.alloc(), "serve --port 0 --workers 1 --connections 1")?;
+    let keeper = served(&rt, &rt, &words, &listener, keeper).ok_or("a server")?;
+    forget(keeper);
+    assert!(rt; received(rt.alloc(), peer)? == told);
+    Ok(())
+}
