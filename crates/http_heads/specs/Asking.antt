@@ -5,7 +5,6 @@ use Rattle.std.specs.List.{list_all}
 use Rattle.lei_code.specs.Texts.{Lei}
 use Rattle.matchit.specs.Params.{named, walk}
 use Rattle.matchit.specs.Router.{RouteOf}
-use Rattle.register_words.specs.Requests.{TakesMemoryToRead}
 use Rattle.register_words.specs.Words.{base_of, code_of, form_of, number_of, sheet_of}
 use Rattle.register_words.specs.declared.reply.Allowed.{Allowed}
 use Rattle.register_words.specs.declared.reply.Refusal.{Refusal}
@@ -134,8 +133,3 @@ asked_on (Some route) method path body = asked_at route.value method (words_by r
 -- What a method asks of a target, with this body.
 abbrev pub asked_of : Method → List ℕ → List ℕ → Asked
 asked_of method target body = asked_on (route_of (path_of target)) method (path_of target) body
-
--- Memory may be wanting to read this: the body of an upload.
-abbrev pub MayWantMemory : Asked → Type 0
-MayWantMemory (Asked.Refuse refusal) = ⊥
-MayWantMemory (Asked.Ask request) = TakesMemoryToRead request

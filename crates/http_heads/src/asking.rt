@@ -3,7 +3,8 @@ ghost use Rattle.std.specs.Prelude.{◌≡◌, [], true, if◌then◌else◌, op
 ghost use Rattle.std.specs.Char.{is_ascii};
 ghost use Rattle.std.specs.List.{list_all};
 ghost use Rattle.matchit.specs.Params.{named, walk};
-ghost use Rattle.http_heads.specs.Asking.{MayWantMemory, accredit_in, asked_at, asked_of, asks, copy_in, delta_in, key_in, kept_in, publish_in, show_in, upload_in};
+ghost use Rattle.register_words.specs.Readings.{MayWantMemory};
+ghost use Rattle.http_heads.specs.Asking.{accredit_in, asked_at, asked_of, asks, copy_in, delta_in, key_in, kept_in, publish_in, show_in, upload_in};
 ghost use Rattle.http_heads.specs.Routes.{routes};
 
 use crate::routes::{Method, Place, path_of};

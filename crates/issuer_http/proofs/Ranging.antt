@@ -14,7 +14,7 @@ use Rattle.register_words.specs.declared.reply.Reply.TheVariants.{Words}
 use Rattle.register_words.specs.declared.request.Asked.{Asked}
 use Rattle.register_words.specs.declared.request.Asked.TheVariants.{Ask as Asks, Refuse}
 use Rattle.register_words.specs.declared.request.Request.{Request}
-use Rattle.http_heads.specs.Asking.{MayWantMemory, accredit_in, asked_at, asked_of, asked_on, asks, copy_in, delta_in, key_in, kept_in, publish_in, show_in, upload_in, words_by}
+use Rattle.http_heads.specs.Asking.{accredit_in, asked_at, asked_of, asked_on, asks, copy_in, delta_in, key_in, kept_in, publish_in, show_in, upload_in, words_by}
 use Rattle.http_heads.specs.Asking as asking
 use Rattle.http_heads.specs.Headers.{header_facts}
 use Rattle.http_heads.specs.Heads.{IsHeadRead, fault_by, fault_of, fault_of_headers, fault_of_length, fault_of_upload, first_fault, headers_of, lacks_length, method_of}

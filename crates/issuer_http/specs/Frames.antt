@@ -4,7 +4,7 @@ use Rattle.http_heads.specs.Heads.{IsHeadRead}
 use Rattle.http_heads.specs.Requests.{IsRead, asked_in, size_of}
 use Rattle.http_heads.specs.declared.head.Head.{Head}
 use Rattle.http_heads.specs.declared.head.HeadRead.{HeadRead}
-use Rattle.lei_office.specs.Answering.{ReadsAs}
+use Rattle.register_words.specs.Readings.{ReadsAs}
 use Rattle.register_words.specs.declared.reply.Refusal.{Refusal}
 use Rattle.register_words.specs.declared.reply.Reply.{Reply}
 use Rattle.register_words.specs.declared.request.Asked.{Asked}

@@ -1,6 +1,6 @@
 -- What is told of the request that bytes begin with. This project's profile.
 use Rattle.std.specs.Prelude.{◌≡◌, ℕ, List}
-use Rattle.http_heads.specs.Asking.{MayWantMemory}
+use Rattle.register_words.specs.Readings.{MayWantMemory}
 use Rattle.http_heads.specs.Requests.{IsRead, asked_in, size_of}
 use Rattle.http_heads.specs.declared.head.Head.{Head}
 use Rattle.http_heads.specs.declared.head.HeadRead.{HeadRead}

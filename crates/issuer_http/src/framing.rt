@@ -4,7 +4,7 @@ ghost use Rattle.http_heads.specs.Heads.{IsHeadRead};
 ghost use Rattle.http_heads.specs.Requests.{IsRead, asked_in, size_of};
 ghost use Rattle.http_heads.specs.Routes.{routes};
 ghost use Rattle.http_heads.specs.declared.head.HeadRead.{HeadRead};
-ghost use Rattle.lei_office.specs.Answering.{ReadsAs};
+ghost use Rattle.register_words.specs.Readings.{ReadsAs};
 ghost use Rattle.request_loop.specs.Frames.{ReadsFront};
 ghost use Rattle.issuer_http.specs.Frames.{IsAwaited, end_of, holds_so, http_rules, refusal_want};
 

@@ -1,6 +1,6 @@
 //! The requests that bytes begin with.
 ghost use Rattle.std.specs.Prelude.{◌≡◌, ◌≤◌, length, IfOk, OnErr};
-ghost use Rattle.http_heads.specs.Asking.{MayWantMemory};
+ghost use Rattle.register_words.specs.Readings.{MayWantMemory};
 ghost use Rattle.http_heads.specs.Requests.{IsRead, asked_in, body_in, size_of};
 ghost use Rattle.http_heads.specs.Routes.{routes};
 ghost use Rattle.http_heads.specs.declared.head.HeadRead.{HeadRead};

@@ -10,7 +10,8 @@ use Rattle.request_loop.specs.Sessions.{Session}
 use Rattle.request_loop.specs.declared.frames.Ended.{Ended}
 use Rattle.request_loop.specs.declared.frames.Want.{Want}
 use Rattle.request_loop.proofs.Sessions.{session-keeps}
-use Rattle.lei_office.specs.Answering.{MayBeAsked, ReadsAs, RefusesBy}
+use Rattle.register_words.specs.Readings.{ReadsAs, RefusesBy}
+use Rattle.lei_office.specs.Answering.{MayBeAsked}
 use Rattle.lei_office.proofs.Sessions.{may_be_read}
 use Rattle.turnstile.specs.declared.view.Member.{Member}
 use Rattle.lei_hall.specs.declared.answers.Told.{Told}
@@ -29,7 +30,7 @@ reads_so (Ask request) read old new moments reply (takes, same) step =
     let S : Asked → Type 0 = λ asked. AskTurn old asked moments reply new in
     let made = subst S same step in
     inr (takes, made.0, made.1, made.2)
-reads_so (Refuse refusal) read old new moments reply reads step = absurd reads
+reads_so (Refuse refusal) read old new moments reply reads step = absurd reads.0
 
 -- so a framing whose frames ask what may be asked fits a caller; where a runtime has to be such, this is said
 pub caller_fits : {E : Type 0} (S : Type 0) (rules : Rules Asked Reply E) → S

@@ -23,7 +23,8 @@ use Rattle.request_loop.specs.declared.frames.Want.{Want}
 use Rattle.request_loop.proofs.Counting.{RoseBy-none, session-counts}
 use Rattle.request_loop.proofs.Parts.{ends_of, progress_of}
 use Rattle.request_loop.proofs.Sessions.{session-keeps}
-use Rattle.lei_office.specs.Answering.{CountedOffice, MayBeAsked, OfficeStep, ReadsAs, RefusesBy, StepsBy}
+use Rattle.register_words.specs.Readings.{ReadsAs, RefusesBy}
+use Rattle.lei_office.specs.Answering.{CountedOffice, MayBeAsked, OfficeStep, StepsBy}
 use Rattle.lei_office.specs.Faults.{is_keeper_fault, keeper_faults}
 use Rattle.lei_office.proofs.Counting.{none_counted, none_reported, reply_rose}
 
@@ -66,7 +67,7 @@ refuses_so (Refuse refusal) who reply (same, apart) =
 pub may_be_read : (meant read : Asked) → ReadsAs meant read → MayBeAsked read
 may_be_read (Ask request) read (takes, same) =
     subst MayBeAsked (sym same) (λ is. omega (arith, is))
-may_be_read (Refuse refusal) read reads = absurd reads
+may_be_read (Refuse refusal) read reads = absurd reads.0
 
 pub reads_so : (meant read : Asked) (old new : CountedOffice) (moments : List ℤ) (reply : Reply) → ReadsAs meant read
     → OfficeStep old read moments reply new → OfficeStep old meant moments reply new
@@ -74,7 +75,7 @@ reads_so (Ask request) read old new moments reply (takes, same) step =
     let S : Asked → Type 0 = λ asked. AskStep old.office asked moments reply new.office in
     let made = subst S same step.made in
     record { made = inr (takes, made.0, made.1, made.2); refuses = step.refuses; untold = step.untold }
-reads_so (Refuse refusal) read old new moments reply reads step = absurd reads
+reads_so (Refuse refusal) read old new moments reply reads step = absurd reads.0
 
 -- so a framing whose frames ask what may be asked fits whoever has an office; where a runtime has to be such, this is said
 pub office_fits : {A E : Type 0} (S : Type 0) (part : A → CountedOffice) (rules : Rules Asked Reply E) → S

@@ -5,10 +5,8 @@ use Rattle.register_history.specs.Kept.{StaysUntold}
 use Rattle.register_history.specs.Legal.{AskStep}
 use Rattle.register_history.specs.State.{OfficeState}
 use Rattle.register_words.specs.Refusals.{refusal_status_code}
-use Rattle.register_words.specs.Requests.{IsNumbered, TakesMemoryToRead}
-use Rattle.register_words.specs.declared.reply.Refusal.TheVariants.{NoMemory}
+use Rattle.register_words.specs.Requests.{IsNumbered}
 use Rattle.register_words.specs.declared.reply.Reply.{Reply}
-use Rattle.register_words.specs.declared.reply.Reply.TheVariants.{Words}
 use Rattle.register_words.specs.declared.request.Asked.{Asked}
 use Rattle.register_words.specs.declared.request.Asked.TheVariants.{Ask, Refuse}
 use Rattle.request_loop.specs.Counts.{RoseBy}
@@ -43,15 +41,3 @@ pub record OfficeStep (old : CountedOffice) (asked : Asked) (moments : List ℤ)
 -- The same, of whoever has such an office.
 abbrev pub StepsBy : {A : Type 0} → (A → CountedOffice) → A → Asked → List ℤ → Reply → A → Type 0
 StepsBy part old asked moments reply new = OfficeStep (part old) asked moments reply (part new)
-
--- ---- what readers make of requests
-
--- Where there is no memory for the body of an upload, its refusal for that may be read in its place.
-abbrev pub ReadsAs : Asked → Asked → Type 0
-ReadsAs (Ask request) read = TakesMemoryToRead request × (read ≡ Refuse NoMemory)
-ReadsAs (Refuse refusal) read = ⊥
-
--- A refusal of the reader is its own reply. None reports a fault of the keeper.
-abbrev pub RefusesBy : Asked → Reply → Type 0
-RefusesBy (Ask request) reply = ⊥
-RefusesBy (Refuse refusal) reply = (reply ≡ Words refusal) × (refusal_status_code refusal ≢ 503)

@@ -7,9 +7,8 @@ use Rattle.register_words.specs.declared.request.Asked.TheVariants.{Ask, Refuse}
 use Rattle.request_loop.specs.Frames.{Fits}
 use Rattle.request_loop.specs.declared.frames.Want.{Want}
 use Rattle.lei_office.specs.Answering.{CountedOffice, MayBeAsked, OfficeStep, StepsBy}
-use Rattle.lei_office.specs.Answering as answering
 use Rattle.lei_office.proofs.Sessions.{office_fits, reads_so}
-use Rattle.line_reading.specs.LineFrames.{IsReadOf, ReadsAs, RefusesBy, line_rules, want_of, wanted}
+use Rattle.line_reading.specs.LineFrames.{IsReadOf, line_rules, want_of, wanted}
 use Rattle.line_reading.specs.Lines.{Line, line_of}
 use Rattle.line_reading.specs.Requests.{asked}
 use Rattle.line_reading.specs.declared.framing.NoEnd.{NoEnd}
@@ -40,23 +39,14 @@ last_asked line want (inr read) =
     let same : want ≡ wanted (Refuse NoMemory) = cc in
     subst M (sym same) (λ is. omega (arith, is))
 
--- ---- what is read in its place, and what is refused
-
-read_so : (meant read : Asked) → ReadsAs meant read → answering.ReadsAs meant read
-read_so (Ask request) read reads = reads
-read_so (Refuse refusal) read reads = absurd reads.0
-
-refused_so : (what : Asked) (reply : Reply) → RefusesBy what reply → answering.RefusesBy what reply
-refused_so (Ask request) reply refuses = refuses
-refused_so (Refuse refusal) reply refuses = refuses
+-- ---- what is read in its place
 
 pub reads_office : SameSteps OfficeStep
-reads_office meant read old new moments reply reads step =
-    reads_so meant read old new moments reply (read_so meant read reads) step
+reads_office = reads_so
 
 -- so what lines ask fits whoever has an office, where what else it asks for holds
 pub lines_fit : {A : Type 0} (S : Type 0) (part : A → CountedOffice) → S
     → Fits (λ what. MayBeAsked what × S) (StepsBy part) line_rules
 lines_fit S part holds =
     office_fits S part line_rules holds (λ bytes want rest is. line_asked (line_of is.0) want is.2)
-    (λ bytes want is. last_asked bytes want is) read_so refused_so
+    (λ bytes want is. last_asked bytes want is) (λ meant read reads. reads) (λ what reply refuses. refuses)

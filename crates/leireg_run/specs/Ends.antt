@@ -67,8 +67,8 @@ StopsWriting course after =
     IsShort course × (AnswersSome (lines (whole_part course.read)) course
     ⊎ (IsAtEnd after.left × AnswersSome (lines course.read) course))
 
--- Status 8, the input is too long: as many bytes were read as end a run, and the lines that had ended before the
--- last read were answered.
+-- Status 8, the input is too long: as many bytes were read as end a run, and the lines that had ended before some last
+-- bytes of these, at most as many as one read gives, were answered.
 abbrev pub StopsAtLimit : Course → Type 0
 StopsAtLimit course =
     (before : List ℕ) × (last : List ℕ) × (course.read ≡ before ++ last) × (length course.read ≡ input_limit)

@@ -1,6 +1,7 @@
 -- What is read at the front of an input of lines.
 use Rattle.std.proofs.Common.{◌≡◌, ◌<◌, ◌≤◌, ◌+◌, ℕ, List, [], ◌∷◌, ◌++◌, length, take, drop, Bool, true, false, cond, ltb, None, Some, inl, inr, refl, sym, ap, ◌∙◌, subst, append_assoc, arith, length-append}
 use Rattle.std.proofs.lemmas.Bool.Decides.{nat_tests}
+use Rattle.register_words.specs.Readings.{MayWantMemory}
 use Rattle.register_words.specs.declared.reply.Refusal.TheVariants.{NoMemory, TooLong}
 use Rattle.register_words.specs.declared.reply.Reply.{Reply}
 use Rattle.register_words.specs.declared.request.Asked.{Asked}
@@ -12,7 +13,7 @@ use Rattle.line_reading.specs.Limits.{line_limit}
 use Rattle.line_reading.specs.Lines.{Ends, HasNoEnd, Line, line_of}
 use Rattle.line_reading.specs.LineFrames.{Holds, IsLine, IsReadOf, line_rules, want_of, wanted}
 use Rattle.line_reading.specs.Replies.{asks_file, reply_bytes, reply_text}
-use Rattle.line_reading.specs.Requests.{MayWantMemory, asked, asked_in, cut}
+use Rattle.line_reading.specs.Requests.{asked, asked_in, cut}
 use Rattle.line_reading.specs.declared.framing.NoEnd.{NoEnd}
 use Rattle.line_reading.proofs.LineLemmas.{HasNoEnd-append, HasNoEnd-nil, length-line_of}
 use Rattle.line_reading.proofs.Lined.{Frame, wants_asked}

@@ -4,6 +4,7 @@ use Rattle.std.proofs.lemmas.List.{append-nil}
 use Rattle.std.proofs.Math.Seq.{take-length}
 use Rattle.std.specs.Str.Lines.{lines}
 use Rattle.lei_outside.specs.Told.{Grows, IsAtEnd}
+use Rattle.register_words.specs.Readings.{MayWantMemory, ReadsAs}
 use Rattle.register_words.specs.declared.reply.Refusal.TheVariants.{NoMemory}
 use Rattle.register_words.specs.declared.reply.Reply.{Reply}
 use Rattle.register_words.specs.declared.request.Asked.{Asked}
@@ -15,10 +16,10 @@ use Rattle.request_loop.specs.declared.frames.Want.{Want}
 use Rattle.request_loop.proofs.FrameLists.{asks_join, frames_join, frames_one}
 use Rattle.request_loop.proofs.Sessions.{session-length}
 use Rattle.line_reading.specs.Lines.{Ends, HasNoEnd, IsClosed, Line, last_part, line_of, whole_part}
-use Rattle.line_reading.specs.LineFrames.{IsReadOf, ReadsAs, line_rules, want_of, wanted}
+use Rattle.line_reading.specs.LineFrames.{IsReadOf, line_rules, want_of, wanted}
 use Rattle.line_reading.specs.LineRuns.{AnsweredFront, AnsweredLines, AreTextsOf, asks_of_lines}
 use Rattle.line_reading.specs.Replies.{reply_text, reply_texts}
-use Rattle.line_reading.specs.Requests.{MayWantMemory, asked}
+use Rattle.line_reading.specs.Requests.{asked}
 use Rattle.line_reading.specs.declared.framing.NoEnd.{NoEnd}
 use Rattle.line_reading.proofs.LineFronts.{text_same}
 use Rattle.line_reading.proofs.LineLemmas.{HasNoEnd-last_part, IsClosed-append, IsClosed-whole_part, lines-closed, lines-end, lines-first, parts_of, whole_part-is}

@@ -1,19 +1,19 @@
 -- Lines as the frames of an input.
 use Rattle.std.proofs.Common.{append_assoc, ap, ◌∙◌}
-use Rattle.std.specs.Prelude.{◌≡◌, ◌≢◌, ◌⊎◌, ◌<◌, ◌≤◌, ◌+◌, ◌==◌, ℕ, List, [], ◌∷◌, ◌++◌, length, take, Bool, true, false, Option, None, Some, if◌then◌else◌}
-use Rattle.register_words.specs.Refusals.{refusal_status_code}
+use Rattle.std.specs.Prelude.{◌≡◌, ◌⊎◌, ◌<◌, ◌≤◌, ◌+◌, ◌==◌, ℕ, List, [], ◌∷◌, ◌++◌, length, take, Bool, true, false, Option, None, Some, if◌then◌else◌}
+use Rattle.register_words.specs.Readings.{MayWantMemory, ReadsAs, RefusesBy}
 use Rattle.register_words.specs.declared.reply.Refusal.{Refusal}
 use Rattle.register_words.specs.declared.reply.Refusal.TheVariants.{NoMemory}
 use Rattle.register_words.specs.declared.reply.Reply.{Reply}
 use Rattle.register_words.specs.declared.reply.Reply.TheVariants.{Words}
 use Rattle.register_words.specs.declared.request.Asked.{Asked}
-use Rattle.register_words.specs.declared.request.Asked.TheVariants.{Ask, Refuse}
+use Rattle.register_words.specs.declared.request.Asked.TheVariants.{Refuse}
 use Rattle.request_loop.specs.Frames.{AreRefused, Frames, Rules, texts_of}
 use Rattle.request_loop.specs.declared.frames.Want.{Want}
 use Rattle.line_reading.specs.Limits.{line_limit}
 use Rattle.line_reading.specs.Lines.{Ends, HasNoEnd, Line, line_of}
 use Rattle.line_reading.specs.Replies.{reply_bytes, reply_text}
-use Rattle.line_reading.specs.Requests.{MayWantMemory, asked}
+use Rattle.line_reading.specs.Requests.{asked}
 use Rattle.line_reading.specs.declared.framing.NoEnd.{NoEnd}
 
 -- ---- what a line wants
@@ -30,20 +30,11 @@ want_of line = if length line == 0 then None else Some (wanted (asked line))
 abbrev pub IsLine : List ℕ → Option (Want Asked NoEnd) → List ℕ → Type 0
 IsLine bytes frame rest = (part : List ℕ) × Ends bytes part rest × (frame ≡ want_of (line_of part))
 
--- Where there is no memory for the body of an upload, its refusal for that is read in its place.
-abbrev pub ReadsAs : Asked → Asked → Type 0
-ReadsAs meant read = MayWantMemory meant × (read ≡ Refuse NoMemory)
-
 -- What a line wants was read so.
 abbrev pub IsReadOf : Line → Option (Want Asked NoEnd) → Type 0
 IsReadOf line frame =
     (frame ≡ want_of line)
     ⊎ ((0 < length line) × MayWantMemory (asked line) × (frame ≡ Some (wanted (Refuse NoMemory))))
-
--- A refusal of the reader is its own reply. None of them reports a fault of the keeper.
-abbrev pub RefusesBy : Asked → Reply → Type 0
-RefusesBy (Ask request) reply = ⊥
-RefusesBy (Refuse refusal) reply = (reply ≡ Words refusal) × (refusal_status_code refusal ≢ 503)
 
 -- How an input is cut into lines, and what is written for the replies. The bytes after the last LF are a line without
 -- its end.

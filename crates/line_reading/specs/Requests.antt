@@ -1,7 +1,6 @@
 -- What a line asks. This project's profile.
 use Rattle.std.specs.Prelude.{ℕ, ◌+◌, ◌==◌, List, take, drop, length, codes, nat_lt, if◌then◌else◌, position, Option, Some, None, option_map, option_and_then}
 use Rattle.std.specs.Str.{bytes_eq}
-use Rattle.register_words.specs.Requests.{TakesMemoryToRead}
 use Rattle.register_words.specs.declared.request.Request.{Request}
 use Rattle.register_words.specs.declared.request.Request.TheVariants as requests
 use Rattle.register_words.specs.declared.request.Asked.{Asked}
@@ -133,8 +132,3 @@ asked_in line (Some parts) = asked_by (first_word parts.0) (Some parts.1)
 -- or what it asks.
 unfoldable pub asked : Line → Asked
 asked line = if nat_lt line_limit (length line) then Refuse TooLong else asked_in line (cut line)
-
--- A request is asked whose reading takes memory.
-abbrev pub MayWantMemory : Asked → Type 0
-MayWantMemory (Refuse refusal) = ⊥
-MayWantMemory (Ask request) = TakesMemoryToRead request

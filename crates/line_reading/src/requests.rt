@@ -1,7 +1,8 @@
 //! What a line asks.
 ghost use Rattle.std.specs.Prelude.{◌≡◌, None, Some, option_map, option_and_then, position, length, ◌==◌, ◌<◌, IfOk, IfSome, OnErr};
 ghost use Rattle.std.specs.Option.{option_copied};
-ghost use Rattle.line_reading.specs.Requests.{cut, accreditation_of, copy_of, delta_of, kept_of, publication_of, show_of, upload_of, first_word, asked_by, asked, or_path, MayWantMemory};
+ghost use Rattle.register_words.specs.Readings.{MayWantMemory};
+ghost use Rattle.line_reading.specs.Requests.{cut, accreditation_of, copy_of, delta_of, kept_of, publication_of, show_of, upload_of, first_word, asked_by, asked, or_path};
 ghost use Rattle.line_reading.specs.LineWords.{asked_of};
 
 use lei_code::Lei;

@@ -13,6 +13,7 @@ use Rattle.register_words.specs.declared.reply.Reply.TheVariants.{Words}
 use Rattle.register_words.specs.declared.limits.Limits.{Limits}
 use Rattle.upload_ledger.specs.History.{History, is_accreditation, is_publication, is_upload, upload_at}
 use Rattle.register_words.specs.Requests.{IsRequest, TakesMemoryToRead}
+use Rattle.request_loop.specs.Sessions as sessions
 use Rattle.register_history.specs.State.{OfficeState, office_of}
 use Rattle.register_history.specs.Replies.{adds, next, outcome, reply, Step}
 
@@ -62,12 +63,7 @@ AskStep old (Ask request) moments answered new =
 
 -- these replies answer what was asked, in order, at these moments, from one office to the other
 abbrev pub Session : OfficeState → List Asked → List ℤ → List Reply → OfficeState → Type 0
-Session old [] moments [] new = (moments ≡ []) × (new ≡ old)
-Session old [] moments (answered ∷ replies) new = ⊥
-Session old (asked ∷ asks) moments [] new = ⊥
-Session old (asked ∷ asks) moments (answered ∷ replies) new =
-    (given : List ℤ) × (rest : List ℤ) × (between : OfficeState) × (moments ≡ given ++ rest)
-    × AskStep old asked given answered between × Session between asks rest replies new
+Session = sessions.Session AskStep
 
 -- The replies where memory is never wanting and the keeper never fails. Where the moments run out, nothing more is
 -- answered.

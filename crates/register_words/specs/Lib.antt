@@ -3,4 +3,5 @@ pub mod Limits
 pub mod Faults
 pub mod Requests
 pub mod Refusals
+pub mod Readings
 pub mod ExitStatuses

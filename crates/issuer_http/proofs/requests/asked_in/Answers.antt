@@ -1,7 +1,8 @@
 use Rattle.std.proofs.Common.{◌≡◌, ◌∙◌, ℕ, List, sym, subst}
 use Rattle.std.specs.Prelude.{IfOk, OnErr}
 use Rattle.std.specs.Str.{IsUtf8}
-use Rattle.http_heads.specs.Asking.{MayWantMemory, asked_of}
+use Rattle.register_words.specs.Readings.{MayWantMemory}
+use Rattle.http_heads.specs.Asking.{asked_of}
 use Rattle.http_heads.specs.Requests.{target_in}
 use Rattle.http_heads.proofs.Reading.{found_of, target_text, whole_of}
 use Rattle.issuer_http.proofs.requests.asked_in.Goals as goal
