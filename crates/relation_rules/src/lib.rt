@@ -16,4 +16,5 @@ pub use laws::{
     accepted_items_keep_apart, accepted_relations_keep_parents, exceptions_keep_tables_sound,
     fitting_relations_keep_tables_sound, records_and_exceptions_keep_parents,
 };
+pub use parents::{ParentChain, is_direct, parent_category, parent_type};
 pub use relations::relation_check;

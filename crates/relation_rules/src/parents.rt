@@ -10,7 +10,7 @@ use lei_records::{CellKey, Seen, View};
 use lei_shapes::{ExceptionCategory, RelationType};
 use successor_rules::{Chain, Walked, follow};
 
-// The exceptions that speak of the parents of a type, and none where the type is no parent's.
+/// The category of the exceptions that speak of the parents of a type, and none if the type is no parent's.
 pub fn parent_category(kind: RelationType) -> Option<ExceptionCategory>
     ensures { result ≡ Kinds.parent_category kind }
 {
@@ -25,7 +25,7 @@ pub fn parent_category(kind: RelationType) -> Option<ExceptionCategory>
     }
 }
 
-// The type of the parents that exceptions of a category speak of.
+/// The type of the parents that exceptions of a category speak of.
 pub fn parent_type(category: ExceptionCategory) -> RelationType
     ensures { result ≡ Kinds.parent_type category }
 {
@@ -39,23 +39,24 @@ pub fn parent_type(category: ExceptionCategory) -> RelationType
     }
 }
 
+/// Whether relationships of the type are those to direct parents.
 pub fn is_direct(kind: RelationType) -> bool
     ensures { result ≡ Kinds.is_direct kind }
 {
     matches!(kind, RelationType::IsDirectlyConsolidatedBy)
 }
 
-// A view's active relationships, by which an entity has at most one direct parent.
+/// The chain of direct parents over a view, by whose active relationships an entity has at most one.
 #[derive(Drop)]
-struct DirectParents<'a, V> {
-    view: &'a V,
+pub struct ParentChain<'a, V> {
+    pub view: &'a V,
 }
 
-impl<'a, V: View> Chain for DirectParents<'a, V> {
-    ghost answers = { λ parents lei. (V.cells parents.view.now).active lei
+impl<'a, V: View> Chain for ParentChain<'a, V> {
+    ghost answers = { λ chain lei. (V.cells chain.view.now).active lei
         RelationType.IsDirectlyConsolidatedBy };
 
-    ghost cell = { λ parents lei. CellKey.Act lei RelationType.IsDirectlyConsolidatedBy };
+    ghost cell = { λ chain lei. CellKey.Act lei RelationType.IsDirectlyConsolidatedBy };
 
     fn next(&self, lei: &Lei) -> Seen<Lei> {
         self.view
@@ -72,5 +73,5 @@ impl<'a, V: View> Chain for DirectParents<'a, V> {
 pub fn walk<V: View>(view: &V, start: &Lei, first: &Lei) -> Walked
     ensures { result ≡ Checking.walk_parents (V.cells view.now) start.now first.now }
 {
-    follow(&DirectParents { view }, first, start)
+    follow(&ParentChain { view }, first, start)
 }

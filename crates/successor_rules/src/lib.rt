@@ -7,5 +7,5 @@ mod successors;
 mod walks;
 
 pub use laws::{clear_ways_keep_ends, ending_walks_keep_ends, ending_ways_never_return};
-pub use successors::walk;
+pub use successors::{SuccessorChain, walk};
 pub use walks::{Chain, Walked, follow};

@@ -10,16 +10,16 @@ use crate::walks::{Chain, Walked, follow};
 use lei_code::Lei;
 use lei_records::{CellKey, RecCell, Seen, View};
 
-// A view's records, each of which names at most one successor.
+/// The chain of successors over a view, whose records name at most one each.
 #[derive(Drop)]
-struct Records<'a, V> {
-    view: &'a V,
+pub struct SuccessorChain<'a, V> {
+    pub view: &'a V,
 }
 
-impl<'a, V: View> Chain for Records<'a, V> {
-    ghost answers = { λ records lei. Successors.successor_seen ((V.cells records.view.now).record_cell lei) };
+impl<'a, V: View> Chain for SuccessorChain<'a, V> {
+    ghost answers = { λ chain lei. Successors.successor_seen ((V.cells chain.view.now).record_cell lei) };
 
-    ghost cell = { λ records lei. CellKey.Rec lei };
+    ghost cell = { λ chain lei. CellKey.Rec lei };
 
     fn next(&self, lei: &Lei) -> Seen<Lei> {
         successor_seen(self.view.record_cell(lei))
@@ -59,5 +59,5 @@ pub fn walk<V: View>(view: &V, from: &Lei, avoid: &Lei) -> Walked
     ensures over_tables { (table : Table) → V.cells view.now ≡ cells_of table
         → result ≡ walked (successor_of table) avoid.now from.now }
 {
-    follow(&Records { view }, from, avoid)
+    follow(&SuccessorChain { view }, from, avoid)
 }
