@@ -1,5 +1,5 @@
 -- Passes that go from one list to another, and keep their numbers.
-use Rattle.std.proofs.Common.{◌≡◌, ℕ, zero, suc, ◌<◌, ◌⊎◌, inl, inr, ⊎_elim, List, [], ◌∷◌, ◌++◌, length, Some, slice_get, refl, sym, ap, ◌∙◌, subst}
+use Rattle.std.proofs.Common.{◌≡◌, ℕ, zero, suc, ◌<◌, ◌⊎◌, inl, inr, ⊎_elim, List, [], ◌∷◌, ◌++◌, length, Some, slice_get, refl, sym, ap, ◌∙◌, subst, arith, length-append}
 use Rattle.std.proofs.lemmas.Option.{none-some}
 use Rattle.std.proofs.lemmas.List.Elements.{All-nil, All-pop, All-push}
 use Rattle.atomic_table.specs.Seated.{TableId}
@@ -22,6 +22,10 @@ module _ {X : Type 0} where
   get_either [] y (suc i) x e = absurd (none-some x e)
   get_either (z ∷ xs) y zero x e = inl e
   get_either (z ∷ xs) y (suc i) x e = get_either xs y i x e
+
+  no_items : (xs : List X) → length xs ≡ 0 → xs ≡ []
+  no_items [] none = refl
+  no_items (x ∷ xs) none = absurd (omega (arith, none))
 
 module _ {E D : Type 0} where
   abbrev Has : List (PassView E D) → ℕ → Type 0
@@ -75,3 +79,28 @@ module _ {E D : Type 0} where
       → Share table n left done → left ≡ left' ++ p ∷ [] → p.table ≡ table
   share_table table n left left' done p h taken =
       (All-pop (λ (q : PassView E D). q.table ≡ table) left left' (Some p) taken h.of_left).1
+
+  -- Two passes were taken from the end of a list of two, one after the other, and put back in this order.
+  pub two_back : (table : TableId) (n m : ℕ) (passes mid rest one done : List (PassView E D))
+      (first second first' second' : PassView E D) → AreOf table passes → HaveAll m passes → n ≡ m → length passes ≡ 2
+      → passes ≡ mid ++ second ∷ [] → mid ≡ rest ++ first ∷ [] → one ≡ rest ++ second' ∷ [] → done ≡ one ++ first' ∷ []
+      → first'.table ≡ first.table → first'.number ≡ first.number → second'.table ≡ second.table
+      → second'.number ≡ second.number → HaveAll n done
+  two_back table n m passes mid rest one done first second first' second' of all same two taken_second taken_first
+      put_second put_first first_of first_same second_of second_same =
+      let long = ap length taken_second in
+      let longer = ap length taken_first in
+      let grows = length-append mid (second ∷ []) in
+      let grew = length-append rest (first ∷ []) in
+      let none : rest ≡ [] = no_items rest (omega (arith, two, long, longer, grows, grew)) in
+      let begun = share_first table m passes [] of all refl in
+      let moved = share_moved table m passes mid [] (second' ∷ []) second second' begun taken_second refl second_of
+      second_same in
+      let both = share_moved table m mid rest (second' ∷ []) (second' ∷ first' ∷ []) first first' moved taken_first refl
+      first_of first_same in
+      let back : done ≡ second' ∷ first' ∷ [] =
+      put_first ∙ ap (λ (l : List (PassView E D)). l ++ first' ∷ [])
+      (put_second ∙ ap (λ (l : List (PassView E D)). l ++ second' ∷ []) none) in
+      subst (λ (k : ℕ). HaveAll k done) (sym same)
+      (subst (λ (l : List (PassView E D)). HaveAll m l) (sym back)
+      (share_last table m rest (second' ∷ first' ∷ []) both none))

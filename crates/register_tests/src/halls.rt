@@ -2,13 +2,14 @@
 ghost use Rattle.std.specs.Prelude.{◌≡◌, ◌≤◌, [], All, IfOk, IsSomeAnd};
 ghost use Rattle.std.specs.Thread.{IsSync};
 ghost use Rattle.atomic_table.specs.Seated.{TableId};
-ghost use Rattle.register_words.specs.Requests.{IsNumbered};
+ghost use Rattle.register_words.specs.Requests.{IsNumbered, IsUploadNumber};
 ghost use Rattle.turnstile.specs.Passes.{AreOf, HaveAll};
 
+use crate::limits::{MOMENT, ONE_RECORD, call};
 use lei_code::Lei;
 use lei_hall::{Hall, Pass};
-use lei_office::{Limits, Office, Reply, Request};
-use lei_outside::{KeepFault, Keeper, SureKeeper};
+use lei_office::{Call, Limits, Office, Refusal, Reply, Request};
+use lei_outside::{KeepFault, Keeper, OpenGate, SureKeeper};
 use lei_shapes::Moment;
 use std::alloc::{AllocError, Global};
 use std::mem::forget;
@@ -209,5 +210,109 @@ fn callers_in_threads_are_answered_of_one_history(rt: HostRuntime) -> Result<(),
     let request = Request::Accredit(issuer);
     let wanted = br#"{"entry":1,"issuer":"506700GE1G29325QX363"}"#;
     assert!(rt; are_answered(&rt, rt.alloc(), 8, &request, moment, wanted));
+    Ok(())
+}
+
+// The replies to three requests: what is kept of an upload that wasn't sent yet, and the upload, sent twice.
+#[derive(Drop)]
+struct Replies {
+    unknown: Reply,
+    taken: Reply,
+    repeated: Reply,
+}
+
+// The calls of two callers, one after the other. The first accredits the issuer of an upload, and the second asks what is
+// kept of it. They meet. Then the second sends the upload, and the first sends the same. The replies to the last three
+// requests come back with the passes.
+fn call_in_turn<K: Keeper, R: Threads + Wait + Sync>(
+    rt: &R,
+    hall: &Hall<K>,
+    first: Pass,
+    second: Pass,
+    call: &Call,
+    moment: Moment,
+) -> (Pass, Pass, Replies)
+    requires first { first.table ≡ hall.now.table }
+    requires second { second.table ≡ hall.now.table }
+    requires limits { first.stays ≡ second.stays }
+    requires numbered { IsUploadNumber call.now.number }
+    ensures first { (result.0.table ≡ first.table) × (result.0.number ≡ first.number) }
+    ensures second { (result.1.table ≡ second.table) × (result.1.number ≡ second.number) }
+{
+    let (first, _) = hall.ask(rt, first, &Request::Accredit(call.office), moment);
+    let kept = Request::Kept(call.office, call.number);
+    let (second, unknown) = hall.ask(rt, second, &kept, moment);
+    let (first, second) = hall.meet(rt, first, second);
+    let (second, taken) = hall.submit(rt, second, call, moment, &OpenGate);
+    let (first, repeated) = hall.submit(rt, first, call, moment, &OpenGate);
+    let replies = Replies {
+        unknown,
+        taken,
+        repeated,
+    };
+    (first, second, replies)
+}
+
+// The keeper of an office after these calls of the two callers of a hall, and the replies.
+fn replies_to_two<K: Keeper + Drop, R: Threads + Wait + Sync>(
+    rt: &R,
+    alloc: Global,
+    office: Office<K>,
+    call: &Call,
+    moment: Moment,
+) -> Option<(K, Replies)>
+    requires { IsUploadNumber call.now.number }
+{
+    let (hall, mut passes) = match Hall::open(alloc, office, 2) {
+        Ok(opened) => opened,
+        Err(office) => {
+            forget(office);
+            return None;
+        }
+    };
+    let Some(second) = passes.pop() else {
+        unreachable!()
+    };
+    let Some(first) = passes.pop() else {
+        unreachable!()
+    };
+    let (first, second, replies) = call_in_turn(rt, &hall, first, second, call, moment);
+    passes.push_reserved(second);
+    passes.push_reserved(first);
+    Some((hall.close(passes).close(), replies))
+}
+
+// Whether the two callers are answered as they should be, and the keeper has an entry for the issuer and one for the
+// upload.
+fn two_are_answered<R: Threads + Wait + Sync>(
+    rt: &R,
+    alloc: Global,
+    call: &Call,
+    moment: Moment,
+    wanted: &[u8],
+) -> bool
+    requires { IsUploadNumber call.now.number }
+{
+    let office = match Office::open(rt, alloc, SureKeeper::new(alloc), Limits::standard()) {
+        Ok(office) => office,
+        Err(_) => return false,
+    };
+    match replies_to_two(rt, alloc, office, call, moment) {
+        Some((keeper, replies)) => {
+            replies.unknown == Reply::Words(Refusal::NotKept)
+                && is_text(&replies.taken, wanted)
+                && is_text(&replies.repeated, wanted)
+                && last(keeper) == Ok(2)
+        }
+        None => false,
+    }
+}
+
+#[test]
+fn two_callers_who_meet_are_answered_of_one_history(rt: HostRuntime) -> Result<(), Fail> {
+    let call = call(rt.alloc(), 1, ONE_RECORD).ok_or("an upload")?;
+    let moment = Moment::of(MOMENT).ok_or("a moment")?;
+    let wanted = br#"{"entry":2,"issuer":"506700GE1G29325QX363","items":["ACCEPTED"],"number":1}"#;
+    assert!(rt; two_are_answered(&rt, rt.alloc(), &call, moment, wanted));
     Ok(())
 }

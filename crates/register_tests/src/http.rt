@@ -2,10 +2,13 @@
 ghost use Rattle.std.specs.Prelude.{◌≤◌};
 
 use crate::stores::Still;
-use issuer_http::{Ended, serve_alone};
+use issuer_http::{Ended, serve_alone, serve_connection};
+use lei_hall::{Caller, Hall};
 use lei_office::{Limits, Office};
-use lei_outside::{ByteLink, ByteSink, ByteSource, Bytes, List, NoMemory, SureKeeper};
+use lei_outside::{ByteLink, ByteSink, ByteSource, Bytes, List, NoMemory, OpenGate, SureKeeper};
 use std::alloc::Global;
+use std::mem::forget;
+use std::sync::Wait;
 use std::test::Fail;
 use std::thread::Threads;
 
@@ -414,17 +417,64 @@ pub fn link_of(alloc: Global, sent: Bytes, most: usize) -> ByteLink
     )
 }
 
-// How serving a link over an office that has nothing ends. The office is closed, since letting it go costs a
-// proof for each of its parts.
-fn end_of<R: Threads + Sync>(rt: &R, alloc: Global, link: &mut ByteLink) -> Option<Ended> {
+// Who serves a connection.
+#[derive(Clone, Copy)]
+enum Server {
+    // An office alone.
+    Office,
+    // The one caller of a hall.
+    Hall,
+}
+
+// How serving a link over an office that has nothing ends.
+fn end_of<R: Threads + Wait + Sync>(
+    rt: &R,
+    alloc: Global,
+    server: Server,
+    link: &mut ByteLink,
+) -> Option<Ended> {
     match Office::open(rt, alloc, SureKeeper::new(alloc), Limits::standard()) {
-        Ok(mut office) => {
-            let ended = serve_alone(rt, alloc, &mut office, link, &mut Still);
-            let _ = office.close();
-            Some(ended)
-        }
+        Ok(office) => match server {
+            Server::Office => Some(end_alone(rt, alloc, office, link)),
+            Server::Hall => end_in_hall(rt, alloc, office, link),
+        },
         Err(_) => None,
     }
+}
+
+// The office is closed, since letting it go costs a proof for each of its parts.
+fn end_alone<R: Threads + Sync>(
+    rt: &R,
+    alloc: Global,
+    mut office: Office<SureKeeper>,
+    link: &mut ByteLink,
+) -> Ended {
+    let ended = serve_alone(rt, alloc, &mut office, link, &mut Still);
+    let _ = office.close();
+    ended
+}
+
+// The hall isn't closed, for the same reason.
+fn end_in_hall<R: Threads + Wait + Sync>(
+    rt: &R,
+    alloc: Global,
+    office: Office<SureKeeper>,
+    link: &mut ByteLink,
+) -> Option<Ended> {
+    let (hall, mut passes) = match Hall::open(alloc, office, 1) {
+        Ok(opened) => opened,
+        Err(office) => {
+            forget(office);
+            return None;
+        }
+    };
+    let Some(pass) = passes.pop() else {
+        unreachable!()
+    };
+    let caller = Caller::new(&hall, &OpenGate, pass);
+    let (_, ended) = serve_connection(rt, alloc, caller, link, &mut Still);
+    forget(hall);
+    Some(ended)
 }
 
 fn ended_of(word: &str) -> Option<Ended> {
@@ -442,31 +492,31 @@ pub fn parts_of(text: &str) -> Option<(&str, &str, &str)> {
     Some((ended, sent, wanted))
 }
 
-// Whether this comes back of what is sent, at most so many bytes at once, and the connection ends so.
-fn comes_back<R: Threads + Sync>(
+// Whether a connection comes out as its parts say, which are how it ends, what is sent and what comes back, with at most
+// so many bytes at once.
+fn comes_back<R: Threads + Wait + Sync>(
     rt: &R,
     alloc: Global,
+    server: Server,
     most: usize,
-    sent: &str,
-    wanted: &str,
-    ended: &str,
+    parts: (&str, &str, &str),
 ) -> bool
     requires { 1 ≤ most }
 {
+    let (ended, sent, wanted) = parts;
     let (Ok(sent), Ok(wanted)) = (bytes_of(alloc, sent), bytes_of(alloc, wanted)) else {
         return false;
     };
     let mut link = link_of(alloc, sent, most);
-    let end = end_of(rt, alloc, &mut link);
+    let end = end_of(rt, alloc, server, &mut link);
     end.is_some() && end == ended_of(ended) && link.sink().written() == wanted.as_slice()
 }
 
 // Whether a connection of the table comes out as it says, in one piece and in single bytes.
-fn is_as_said<R: Threads + Sync>(rt: &R, alloc: Global, text: &str) -> bool {
+fn is_as_said<R: Threads + Wait + Sync>(rt: &R, alloc: Global, server: Server, text: &str) -> bool {
     match parts_of(text) {
-        Some((ended, sent, wanted)) => {
-            comes_back(rt, alloc, 65_536, sent, wanted, ended)
-                && comes_back(rt, alloc, 1, sent, wanted, ended)
+        Some(parts) => {
+            comes_back(rt, alloc, server, 65_536, parts) && comes_back(rt, alloc, server, 1, parts)
         }
         None => false,
     }
@@ -476,7 +526,14 @@ fn is_as_said<R: Threads + Sync>(rt: &R, alloc: Global, text: &str) -> bool {
 fn connections_are_answered_as_the_table_says(rt: HostRuntime) -> Result<(), Fail> {
     for connection in CONNECTIONS.split('^') {
         let (title, rest) = connection.split_once('~').ok_or("a title")?;
-        assert!(rt; is_as_said(&rt, rt.alloc(), rest), "{title}");
+        assert!(rt;
+            is_as_said(&rt, rt.alloc(), Server::Office, rest),
+            "{title}"
+        );
+        assert!(rt;
+            is_as_said(&rt, rt.alloc(), Server::Hall, rest),
+            "{title}, in a hall"
+        );
     }
     Ok(())
 }

@@ -45,6 +45,9 @@ macro_rules! upload {
     };
 }
 
+/// An upload of one record.
+pub const ONE_RECORD: &str = upload!(["Alpha" "1001" "00000000000000000195" "]}"]);
+
 /// An upload of two records.
 pub const TWO_RECORDS: &str = upload!(
     ["Alpha" "1001" "00000000000000000195" ","]
@@ -81,8 +84,8 @@ fn code(text: &str) -> Option<Lei> {
     }
 }
 
-// An upload of [`ISSUER`] with this number and body.
-fn call(alloc: Global, number: u32, body: &str) -> Option<Call>
+/// An upload of [`ISSUER`] with this number and body.
+pub fn call(alloc: Global, number: u32, body: &str) -> Option<Call>
     ensures { IfSome result (λ call. call.number ≡ number) }
 {
     let office = code(ISSUER)?;
