@@ -1,9 +1,13 @@
 #!/usr/bin/env python3
-"""Makes docs/DEFINITIONS.md from the comments of the definitions in crates/*/specs, which have the words of each rule.
+"""Makes docs/DEFINITIONS.md from the definitions in crates/*/specs that the contracts of the public calls reach, and from
+their comments, which have the words of each rule.
+
+The public calls are what the crates in CALLS export: their functions, the methods of their types and their traits. A
+definition is reached if such a contract names it, or if the text of a reached definition does.
 
 usage: docs/definitions.py          writes docs/DEFINITIONS.md
-       docs/definitions.py --check  writes nothing, and ends with status 1 where the page is stale
-Both end with status 1 where a public definition has no comment, and name it.
+       docs/definitions.py --check  writes nothing, and ends with status 1 if the page is stale
+Both end with status 1 if a public definition has no comment, and name it.
 """
 import pathlib
 import re
@@ -11,12 +15,18 @@ import sys
 
 ROOT = pathlib.Path(__file__).resolve().parent.parent
 PAGE = ROOT / "docs" / "DEFINITIONS.md"
+CALLS = ["lei_outside", "lei_code", "register_history", "delta_apply", "program_words", "keeper_sqlite", "lei_office",
+         "lei_hall", "issuer_http", "leireg_run", "leireg_serve"]
 HEAD = """# Definitions
 
-The words that contracts speak in, crate by crate, from the lowest up, each with its type. The page is made by `docs/definitions.py` from the comments in `crates/*/specs`, which stand right above the definitions: change them there. `docs/definitions.py --check` tells whether the page is stale.
+The definitions that the contracts of the public calls reach, crate by crate, from the lowest up, each with its type. The public calls are those of {calls}. The page is made by `docs/definitions.py` from the comments in `crates/*/specs`, which stand right above the definitions: change them there. `docs/definitions.py --check` tells whether the page is stale. What is defined for parts of the program alone, or for proofs, isn't here.
 """
-HEADS = re.compile(r"^(?:(?:abbrev|unfoldable|opaque) )?pub (?:(?:record|data|mod|use) )?(?P<name>\S+)(?P<rest>.*)$")
-SKIPPED = re.compile(r"^pub (?:mod|use) ")
+HEADS = re.compile(r"^(?:(?:abbrev|unfoldable|opaque) )?(?P<pub>pub )?(?:(?:record|data) )?(?P<name>[^\s(:]+)(?P<rest>.*)$")
+DECLARES = re.compile(r"^(?:abbrev|unfoldable|opaque|pub|record|data)\b")
+SKIPPED = re.compile(r"^(?:pub )?(?:mod|use|infix\w*) ")
+IMPORT = re.compile(r"(?:ghost )?use Rattle\.(\w+)\.specs\.(\w+)(?:\.\{([^}]*)\}| as (\w+))?;?$")
+OPENS = re.compile(r"^\s*\{(\}| .*)?$|^.*\) (-> .*)?\{(\}| .*)?$|^.*;$")
+WORD = re.compile(r"[^\s(){}\[\];,→×≡≢⊎∷≤<¬+=|&]+")
 
 
 def crates():
@@ -40,52 +50,162 @@ def signature(name, rest, following):
     return f"{name} {text}".removesuffix(" : Type 0 where").removesuffix(" where")
 
 
-def definitions(lines):
-    """The head comment of a file, and then its parts: titles as (None, title), and definitions as (signature, words)."""
-    comment, parts, head = [], [], None
-    for at, line in enumerate(lines):
-        if line.startswith("-- ---- "):
-            parts.append((None, line[len("-- ---- ") :]))
-            comment = []
-        elif line.startswith("--"):
-            comment.append(line[2:].strip())
-        else:
-            if head is None and comment:
-                head, comment = " ".join(comment), []
-            found = HEADS.match(line)
-            if found and not SKIPPED.match(line):
-                parts.append((signature(found["name"], found["rest"], lines[at + 1 :]), " ".join(comment)))
-            comment = []
-    return head or "", parts
+class Imports:
+    """The definitions that a file names by its own words: one by one, or after the name of a module."""
+
+    def __init__(self, lines):
+        self.names, self.modules = {}, {}
+        for line in lines:
+            found = IMPORT.match(line.strip())
+            if found:
+                crate, module, names, alias = found.groups()
+                for name in (names or "").split(","):
+                    name, _, other = name.strip().partition(" as ")
+                    if name:
+                        self.names[other or name] = (crate, module, name)
+                if names is None:
+                    self.modules[alias or module] = (crate, module)
+
+    def reached(self, text):
+        """The definitions that a text names."""
+        for word in set(WORD.findall(text)):
+            module, dot, name = word.partition(".")
+            if word in self.names:
+                yield self.names[word]
+            elif dot and module in self.modules:
+                yield (*self.modules[module], name.split(".")[0])
+            elif dot and module in self.names:
+                yield self.names[module]
+        for name, place in self.names.items():
+            if name.startswith("◌") and name.strip("◌") in text:
+                yield place
 
 
-def table(parts):
-    rows, lines = False, []
-    for told, words in parts:
-        if told is None:
-            lines += ["", f"*{words[0].upper()}{words[1:]}*"]
-            rows = False
-            continue
-        if not rows:
-            lines += ["", "| Definition | In words |", "|---|---|"]
-            rows = True
-        lines.append(f"| `{told}` | {words} |".replace("||", "\\|\\|"))
+class Spec:
+    """A file of definitions: what it is about, and its parts in order, each a title or a definition with its comment."""
+
+    def __init__(self, crate, module):
+        self.place = (crate, module)
+        lines = (ROOT / "crates" / crate / "specs" / f"{module}.antt").read_text().splitlines()
+        self.imports = Imports(lines)
+        self.head, self.parts, self.texts, self.bare = None, [], {}, []
+        comment, current = [], None
+        for at, line in enumerate(lines):
+            if line.startswith("-- ---- "):
+                self.parts.append((None, None, line[len("-- ---- "):]))
+                comment = []
+                continue
+            if line.startswith("--"):
+                comment.append(line[2:].strip())
+                continue
+            if self.head is None and comment:
+                self.head, comment = " ".join(comment), []
+            if DECLARES.match(line) and not SKIPPED.match(line):
+                found = HEADS.match(line)
+                current = found["name"]
+                if found["pub"]:
+                    told = signature(current, found["rest"], lines[at + 1:])
+                    self.parts.append((current, told, " ".join(comment)))
+                    if not comment:
+                        self.bare.append(current)
+            if current and line:
+                self.texts[current] = self.texts.get(current, "") + "\n" + line
+            comment = []
+        self.head = self.head or ""
+
+    def reached(self, name):
+        text = self.texts.get(name, "")
+        for word in set(WORD.findall(text)):
+            if word in self.texts and word != name:
+                yield (*self.place, word)
+        for other in self.texts:
+            if other.startswith("◌") and other.strip("◌") in text and other != name:
+                yield (*self.place, other)
+        yield from self.imports.reached(text)
+
+
+# ---- the public calls
+
+
+def exported(crate):
+    """The names that a crate gives out."""
+    names = set()
+    for inner in re.findall(r"(?s)pub use ([^;]*);", (ROOT / "crates" / crate / "src" / "lib.rt").read_text()):
+        names.update(re.findall(r"\w+", inner))
+    return names
+
+
+def contracts(crate):
+    """The texts of the contracts of what a crate gives out, each with the imports of its file."""
+    names = exported(crate)
+    for file in sorted((ROOT / "crates" / crate / "src").rglob("*.rt")):
+        lines = file.read_text().splitlines()
+        imports = Imports(lines)
+        owner = None
+        for at, line in enumerate(lines):
+            if line.startswith(("impl", "pub trait")):
+                words = re.findall(r"\w+", re.sub(r"<[^{]*?>(?= |\()", "", line.split(" for ")[-1]))
+                owner = next((word for word in words if word in names), None)
+                if owner and (line.startswith("pub trait") or " for " in line):
+                    end = next((to for to in range(at, len(lines)) if lines[to] == "}"), len(lines))
+                    text = "\n".join(row for row in lines[at:end] if "use Rattle" not in row)
+                    yield "\n".join(re.findall(r"(?m)^.*(?:ghost|requires|ensures|→|≡).*$", text)), imports
+            elif line == "}":
+                owner = None
+            elif found := re.match(r"( *)pub fn (\w+)", line):
+                if owner or (not found[1] and found[2] in names):
+                    end = next(to for to in range(at, len(lines)) if OPENS.match(lines[to]))
+                    yield "\n".join(lines[at:end]), imports
+
+
+def reached(specs):
+    todo = [place for crate in CALLS for text, imports in contracts(crate) for place in imports.reached(text)]
+    seen = set()
+    while todo:
+        place = todo.pop()
+        spec = specs.get(place[:2])
+        if place not in seen and spec and place[2] in spec.texts:
+            seen.add(place)
+            todo += spec.reached(place[2])
+    return seen
+
+
+# ---- the page
+
+
+def table(spec, seen):
+    rows, lines, title = False, [], None
+    for name, told, words in spec.parts:
+        if name is None:
+            title = words
+        elif (*spec.place, name) in seen:
+            if title:
+                lines += ["", f"*{title[0].upper()}{title[1:]}*"]
+                rows, title = False, None
+            if not rows:
+                lines += ["", "| Definition | In words |", "|---|---|"]
+                rows = True
+            lines.append(f"| `{told}` | {words} |".replace("||", "\\|\\|"))
     return lines
 
 
 def page():
     """The page, and the definitions that have no words."""
-    lines, bare = [HEAD.rstrip("\n")], []
+    specs, order = {}, []
     for crate in crates():
-        specs = ROOT / "crates" / crate / "specs"
-        if not specs.is_dir():
-            continue
-        lines += ["", f"## `{crate}`"]
-        for name in re.findall(r"(?m)^pub mod (\S+)", (specs / "Lib.antt").read_text()):
-            head, parts = definitions((specs / f"{name}.antt").read_text().splitlines())
-            bare += [f"crates/{crate}/specs/{name}.antt: {told.split()[0]}" for told, words in parts if told and not words]
-            lines += ["", f"### `{name}.antt`", "", head]
-            lines += table(parts)
+        lib = ROOT / "crates" / crate / "specs" / "Lib.antt"
+        for module in re.findall(r"(?m)^pub mod (\S+)", lib.read_text()) if lib.is_file() else []:
+            specs[crate, module] = Spec(crate, module)
+            order.append((crate, module))
+    seen = reached(specs)
+    lines, last = [HEAD.format(calls=", ".join(f"`{crate}`" for crate in CALLS)).rstrip("\n")], None
+    for crate, module in order:
+        rows = table(specs[crate, module], seen)
+        if rows:
+            lines += ["", f"## `{crate}`"] if crate != last else []
+            lines += ["", f"### [`{module}.antt`](../crates/{crate}/specs/{module}.antt)", "", specs[crate, module].head, *rows]
+            last = crate
+    bare = [f"crates/{crate}/specs/{module}.antt: {name}" for crate, module in order for name in specs[crate, module].bare]
     return "\n".join(lines) + "\n", bare
 
 

@@ -1,0 +1,82 @@
+#!/usr/bin/env python3
+"""Holds docs/THEOREM.md against the sources: each formula stands word for word in the file that is named above it, each
+table has the `ensures` clauses of its function in order and no others, and each file that is named is there.
+
+usage: docs/theorem.py    ends with status 1, and says what is stale, if something is
+"""
+import pathlib
+import re
+import sys
+
+ROOT = pathlib.Path(__file__).resolve().parent.parent
+PAGE = ROOT / "docs" / "THEOREM.md"
+NAMED = re.compile(r"^-- (crates/\S+)$")
+HEAD = re.compile(r"^### `(?:\w+::)?(?P<function>\w+)` in `(?P<file>[^`]+)`$")
+ROW = re.compile(r"^\| `(\w+)` \|")
+CLAUSE = re.compile(r"^\s*ensures (\w+) \{")
+
+
+def formulas(lines):
+    """The indented blocks of the page, without their indentation."""
+    block = []
+    for line in [*lines, ""]:
+        if line.startswith("    "):
+            block.append(line[4:])
+        elif block:
+            yield block
+            block = []
+
+
+def stale_formula(block):
+    named = NAMED.match(block[0])
+    if not named:
+        return f"a formula names no file: {block[0]}"
+    file = ROOT / named[1]
+    if not file.is_file():
+        return f"{named[1]} isn't there"
+    if "\n".join(block[1:]) + "\n" not in file.read_text():
+        return f"{named[1]} doesn't have this: {block[1]}"
+    return None
+
+
+def clauses(file, function):
+    """The names of a function's `ensures` clauses, in order: those before the line that opens its body."""
+    lines = file.read_text().splitlines()
+    start = next((at for at, line in enumerate(lines) if re.match(rf"\s*pub fn {function}\b", line)), None)
+    if start is None:
+        return None
+    indent = re.match(r"\s*", lines[start])[0]
+    end = next(at for at in range(start, len(lines)) if lines[at] in (f"{indent}{{", f"{indent}{{}}"))
+    return [found[1] for line in lines[start:end] if (found := CLAUSE.match(line))]
+
+
+def stale_tables(lines):
+    head, rows = None, []
+    for line in [*lines, "## end"]:
+        if line.startswith("#"):
+            if head:
+                file = ROOT / head["file"]
+                there = clauses(file, head["function"]) if file.is_file() else None
+                if there != rows:
+                    yield f"{head['function']} in {head['file']} has the clauses {there}, and the page has {rows}"
+            head, rows = HEAD.match(line), []
+        elif head and (found := ROW.match(line)):
+            rows.append(found[1])
+
+
+def main():
+    if sys.argv[1:]:
+        print(__doc__, file=sys.stderr)
+        return 2
+    text = PAGE.read_text()
+    lines = text.splitlines()
+    stale = [fault for block in formulas(lines) if (fault := stale_formula(block))]
+    stale += stale_tables(lines)
+    stale += [f"{name} isn't there" for name in re.findall(r"`(crates/[\w./]+)`", text) if not (ROOT / name).exists()]
+    for fault in stale:
+        print(f"docs/THEOREM.md: {fault}", file=sys.stderr)
+    return 1 if stale else 0
+
+
+if __name__ == "__main__":
+    sys.exit(main())
