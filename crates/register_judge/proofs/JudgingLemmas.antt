@@ -92,7 +92,6 @@ with_front-end cells count sitting verdicts writes n outcome left_items all none
       verdicts_are = shows.verdicts_are ∙ sym (append-nil verdicts);
       writes_are = shows.writes_are ∙ sym (append-nil writes);
       new_are = shows.new_are ∙ sym (add-zero n);
-      reads_are = shows.reads_are;
     })
 
 -- the items left begin with the next one

@@ -5,3 +5,8 @@ pub mod RelationLemmas
 pub mod TakingLemmas
 pub mod ChainLemmas
 pub mod ParentLemmas
+pub mod MonotonyLemmas
+pub mod ItemLemmas
+pub mod ReadLemmas
+pub mod LackLemmas
+pub mod LimitLemmas

@@ -223,10 +223,10 @@ successors_pass table sitting item passes = (before_c20 table sitting item passe
 
 -- after these writes the table's cells tell each check, they are the cells with the writes put, and the table has so many
 -- records more
-record After (table : Table) (writes : List (RowKey × Option Item)) (added : ℕ) : Type 0 where
-  told : CellsTell (put_all writes table)
-  cells : put_writes writes (cells_of table) ≡ cells_of (put_all writes table)
-  count : record_count (put_all writes table) ≡ record_count table + added
+pub record After (table : Table) (writes : List (RowKey × Option Item)) (added : ℕ) : Type 0 where
+  pub told : CellsTell (put_all writes table)
+  pub cells : put_writes writes (cells_of table) ≡ cells_of (put_all writes table)
+  pub count : record_count (put_all writes table) ≡ record_count table + added
 
 after_none : (table : Table) → CellsTell table → After table [] 0
 after_none table told = record { told = told; cells = refl; count = sym (add-zero (record_count table)) }
@@ -299,7 +299,7 @@ by_verdict table sitting (Item.Record row) None told is = after_record table sit
 by_verdict table sitting (Item.Relation row) None told is = after_relation table sitting.issuer row told is
 by_verdict table sitting (Item.Exception item) None told is = after_exception table item.0 item.1 told
 
-after_item : (table : Table) (sitting : Sitting) (item : Readied) → CellsTell table
+pub after_item : (table : Table) (sitting : Sitting) (item : Readied) → CellsTell table
     → After table (writes_of (verdict table sitting item) item) (records_added (verdict table sitting item) (is_new_record table sitting item))
 after_item table sitting (Readied.Bad check) told = after_none table told
 after_item table sitting (Readied.Good item) told = by_verdict table sitting item (first_failing (item_checks table sitting item)) told refl
@@ -333,11 +333,13 @@ told-taken table sitting limit count (item ∷ items) told counted =
       count_is = counted_after counted.base count (record_count table) added (record_count (put_all (writes_of given item) table)) counted.count_is next.count;
     }))
 
+pub cells-tell : (table : Table) → IsSound table → CellsTell table
+cells-tell table sound = record { keyed = sound.keyed; holders = sound.holders; relations_keyed = sound.relations_keyed; actives = sound.actives }
+
 pub judged-taken : (table : Table) (sitting : Sitting) (items : List Readied) → IsSound table
     → judge_items (cells_of table) 0 sitting items ≡ Ok (shown (take table (over_table sitting (record_count table + sitting.limit)) items))
 judged-taken table sitting items sound =
-    told-taken table sitting (record_count table + sitting.limit) 0 items
-    (record { keyed = sound.keyed; holders = sound.holders; relations_keyed = sound.relations_keyed; actives = sound.actives })
+    told-taken table sitting (record_count table + sitting.limit) 0 items (cells-tell table sound)
     (record { base = record_count table; limit_is = refl; count_is = sym (add-zero (record_count table)) })
 
 -- ---- the table behind the items

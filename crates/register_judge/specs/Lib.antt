@@ -1,3 +1,4 @@
+pub mod Agreement
 pub mod Checks
 pub mod Judging
 pub mod Outcomes

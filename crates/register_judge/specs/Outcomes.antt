@@ -1,5 +1,5 @@
 -- What `judge_all` answers of what came of items.
-use Rattle.std.specs.Prelude.{◌≡◌, ℕ, List, [], Option, Result, Ok, Err, MatchResult, ⊤}
+use Rattle.std.specs.Prelude.{◌≡◌, ℕ, List, Option, Result, Ok, Err, MatchResult, ⊤}
 use Rattle.lei_records.specs.declared.item.Item.{Item}
 use Rattle.lei_records.specs.declared.view.CellKey.{CellKey}
 use Rattle.lei_records.specs.declared.view.RowKey.{RowKey}
@@ -10,14 +10,13 @@ use Rattle.register_judge.specs.declared.outcome.Verdict.{Verdict}
 use Rattle.register_judge.specs.Judging.{Judgement}
 use Rattle.register_judge.specs.Taking.{Taken}
 
--- The outcome has exactly these verdicts, writes and number of new records, and no reads.
+-- The outcome has exactly these verdicts, writes and number of new records.
 pub record Shows (outcome : Outcome) (verdicts : List Verdict) (writes : List (RowKey × Option Item))
     (new_records : ℕ)
     : Type 0 where
   pub verdicts_are : outcome.verdicts ≡ verdicts
   pub writes_are : outcome.writes ≡ writes
   pub new_are : outcome.new_records ≡ new_records
-  pub reads_are : outcome.reads ≡ []
 
 -- The outcome is what was taken, or memory ran out.
 abbrev pub Takes : Result Outcome JudgeStop → Taken → Type 0

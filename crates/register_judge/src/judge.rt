@@ -14,7 +14,7 @@ use std::alloc::Global;
 
 /// What comes of an item: the verdict on it, and whether it came to the check of the room while no record
 /// of its LEI was held.
-#[derive(Debug, Drop)]
+#[derive(Drop)]
 pub struct ItemOutcome {
     pub verdict: Verdict,
     pub new: bool,

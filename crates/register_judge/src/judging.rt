@@ -1,6 +1,12 @@
 //! The verdicts on the items of an upload.
-ghost use Rattle.std.specs.Prelude.{◌≡◌, ◌<◌, ◌≤◌, ◌+◌, ◌∷◌, ◌++◌, ℕ, [], IfOk, OnOk, length, if◌then◌else◌};
+ghost use Rattle.std.specs.Prelude.{◌≡◌, ◌<◌, ◌≤◌, ◌+◌, ◌∷◌, ◌++◌, ℕ, [], Err, IfOk, IfSome, IsSome, IsTrue, OnOk, length, if◌then◌else◌};
 ghost use Rattle.lei_records.specs.Tables.{Table, IsSound, cells_of, record_count, row_key};
+ghost use Rattle.lei_records.specs.declared.view.CellKey.{CellKey as Key};
+ghost use Rattle.relation_rules.specs.Needs.{lacks};
+ghost use Rattle.cell_reads.specs.Needs.{needs};
+ghost use Rattle.cell_reads.specs.Reads.{AnswersReads};
+ghost use Rattle.register_judge.specs.Agreement.{IsAgreed, IsByReads, IsNeededIn, NotesMore};
+ghost use Rattle.register_judge.specs.declared.outcome.JudgeStop.{JudgeStop as Stop};
 ghost use Rattle.register_judge.specs.declared.sitting.Rules.{Rules};
 ghost use Rattle.register_judge.specs.Judging;
 ghost use Rattle.register_judge.specs.Outcomes.{Judges, Shows, Takes};
@@ -14,6 +20,7 @@ use crate::keys::row_key;
 use crate::outcome::{JudgeStop, Outcome, Verdict};
 use crate::overlay::Overlay;
 use crate::sitting::{Rules, Sitting};
+use cell_reads::{Noted, note_needs};
 use lei_code::Lei;
 use lei_outside::{List, NoMemory};
 use lei_records::{Item, Readied, RowKey, View};
@@ -27,11 +34,14 @@ struct Progress {
     new_records: u32,
     // How many records were added.
     added: u32,
+    // The cells that were read, if they are listed.
+    noted: Option<Noted>,
 }
 
-/// Judges the items of an upload by rules 1 from left to right, each on what the view answers with the
-/// accepted items before it put. `room` is the number of further records that fit, `issuer` uploads
-/// them, and `today` is the day, counted from 1970-01-01.
+/// Judges the items of an upload by rules 1 from left to right, each on what the view answers with the accepted items
+/// before it put. `room` is the number of further records that fit, `issuer` uploads them, and `today` is the day,
+/// counted from 1970-01-01. The outcome lists the cells that the items needed, as the view has them: on a table that
+/// agrees with them the items come to the same.
 pub fn judge_all<V: View>(
     alloc: Global,
     view: &V,
@@ -48,6 +58,16 @@ pub fn judge_all<V: View>(
     // Over the cells of a sound table, which has room for so many records more.
     ensures over_tables { (table : Table) → IsSound table → V.cells view.now ≡ cells_of table → Takes result
         (take table (sitting_by Rules.First (record_count table + room) today issuer.now) items.now) }
+
+    // The view has what is listed as read.
+    ensures read { IfOk result (λ outcome. AnswersReads outcome.reads (V.cells view.now)) }
+
+    // On each sound table that agrees with what was read, and has room for so many records more.
+    ensures agreed { IfOk result (λ outcome. IsAgreed outcome room today issuer.now items.now) }
+
+    // The cell for want of which it stopped is one that the view lacks and an item needs.
+    ensures wanting { (key : Key) → result ≡ Err (Stop.NeedCell key) → IsTrue (lacks (V.cells view.now) key)
+        × IsNeededIn (V.cells view.now) 0 (sitting_by Rules.First room today issuer.now) items.now key }
 {
     let sitting = Sitting {
         rules: Rules::First,
@@ -55,18 +75,47 @@ pub fn judge_all<V: View>(
         today,
         issuer: *issuer,
     };
-    judge_each(alloc, view, &sitting, items)
+    judge_each(alloc, view, Some(Noted::new(alloc)), &sitting, items)
 }
 
-// In a sitting whose limit is that of the records that are added.
-fn judge_each<V: View>(
+/// The same without a list of the cells that were read, which an upload that is judged in its turn doesn't need.
+pub fn judge_on<V: View>(
     alloc: Global,
     view: &V,
-    sitting: &Sitting,
+    room: u32,
+    issuer: &Lei,
+    today: i32,
     items: &[Readied],
 ) -> Result<Outcome, JudgeStop>
     requires { length items.now ≤ 5000 }
-    ensures { Judges result (Judging.judge_items (V.cells view.now) 0 sitting.now items.now) }
+    ensures answers { Judges result
+        (Judging.judge_items (V.cells view.now) 0 (sitting_by Rules.First room today issuer.now) items.now) }
+    ensures over_tables { (table : Table) → IsSound table → V.cells view.now ≡ cells_of table → Takes result
+        (take table (sitting_by Rules.First (record_count table + room) today issuer.now) items.now) }
+{
+    let sitting = Sitting {
+        rules: Rules::First,
+        limit: room,
+        today,
+        issuer: *issuer,
+    };
+    judge_each(alloc, view, None, &sitting, items)
+}
+
+// In a sitting whose limit is that of the records that are added. The cells that are read are listed if there is a list
+// for them.
+fn judge_each<V: View>(
+    alloc: Global,
+    view: &V,
+    noted: Option<Noted>,
+    sitting: &Sitting,
+    items: &[Readied],
+) -> Result<Outcome, JudgeStop>
+    requires few { length items.now ≤ 5000 }
+    requires fresh { IfSome noted (λ reads. reads ≡ []) }
+    ensures answers { Judges result (Judging.judge_items (V.cells view.now) 0 sitting.now items.now) }
+    ensures by_reads { IsSome noted
+        → IfOk result (λ outcome. IsByReads outcome (V.cells view.now) sitting.now items.now) }
 {
     let mut overlay = Overlay::new(alloc, view);
     let mut progress = Progress {
@@ -74,8 +123,10 @@ fn judge_each<V: View>(
         writes: Vec::with_capacity(alloc, items.len())?,
         new_records: 0,
         added: 0,
+        noted,
     };
     for item in items {
+        note_item(alloc, view, &overlay, &mut progress.noted, item)?;
         let full = sitting.limit <= progress.added;
         let judged = match judge_item(alloc, &overlay, full, sitting, item) {
             Ok(judged) => judged,
@@ -91,6 +142,23 @@ fn judge_each<V: View>(
         add(&mut progress, judged)?;
     }
     Ok(outcome_of(alloc, progress))
+}
+
+// Notes the cells that an item needs over the accepted ones, as the view has them, if they are listed.
+fn note_item<'a, V: View>(
+    alloc: Global,
+    view: &V,
+    overlay: &Overlay<'a, V>,
+    noted: &mut Option<Noted>,
+    item: &Readied,
+) -> Result<(), NoMemory>
+    ensures { OnOk result (NotesMore noted.old noted.new (V.cells view.now)
+        (needs (cells_in V.cells overlay.now) item.now)) }
+{
+    match noted {
+        Some(noted) => note_needs(alloc, view, overlay, noted, item),
+        None => Ok(()),
+    }
 }
 
 // Puts an accepted item over the view, and what it writes behind what was written.
@@ -144,6 +212,7 @@ fn add(progress: &mut Progress, judged: ItemOutcome) -> Result<(), NoMemory>
     ensures verdicts { OnOk result
         (progress.new.verdicts.items ≡ progress.old.verdicts.items ++ judged.verdict ∷ []) }
     ensures writes { progress.new.writes ≡ progress.old.writes }
+    ensures noted { progress.new.noted ≡ progress.old.noted }
     ensures new_records { progress.new.new_records
         ≡ progress.old.new_records + (if judged.new then 1 else 0) }
     ensures added { progress.new.added
@@ -165,14 +234,16 @@ fn records_added(verdict: &Verdict, new: bool) -> u32
     }
 }
 
-// An outcome of what was judged.
+// An outcome of what was judged. It has no reads if none are listed.
 fn outcome_of(alloc: Global, progress: Progress) -> Outcome
-    ensures { Shows result progress.verdicts.items progress.writes.items progress.new_records }
+    ensures shows { Shows result progress.verdicts.items progress.writes.items progress.new_records }
+    ensures reads { IfSome progress.noted (λ reads. result.reads ≡ reads) }
 {
+    let reads = progress.noted.map(|noted| noted.into_reads());
     Outcome {
         verdicts: List::from(progress.verdicts),
         writes: List::from(progress.writes),
         new_records: progress.new_records,
-        reads: List::from(Vec::new(alloc)),
+        reads: reads.unwrap_or(List::from(Vec::new(alloc))),
     }
 }

@@ -1,15 +1,21 @@
 //! Laws of what items do to a table, each as the contract of an empty function.
-ghost use Rattle.std.specs.Prelude.{◌≡◌, List, None};
+ghost use Rattle.std.specs.Prelude.{◌≡◌, ◌≤◌, ◌+◌, ℕ, ℤ, List, None, Ok};
+ghost use Rattle.lei_code.specs.Texts.{Lei};
 ghost use Rattle.lei_records.specs.declared.item.Item.{Item};
 ghost use Rattle.lei_records.specs.declared.item.Readied.{Readied};
 ghost use Rattle.lei_records.specs.Cells.{successor_in};
 ghost use Rattle.lei_records.specs.Checks.{first_failing};
 ghost use Rattle.lei_records.specs.Rows.{Row};
-ghost use Rattle.lei_records.specs.Tables.{Table, IsSound, put, put_all};
+ghost use Rattle.lei_records.specs.Tables.{Table, IsSound, put, put_all, record_count};
 ghost use Rattle.relation_rules.specs.Parents.{AreApart, ParentChainsEnd};
+ghost use Rattle.cell_reads.specs.Reads.{Agrees};
+ghost use Rattle.register_judge.specs.declared.outcome.Outcome.{Outcome};
 ghost use Rattle.register_judge.specs.declared.sitting.Rules.{Rules};
 ghost use Rattle.register_judge.specs.declared.sitting.Sitting.{Sitting};
+ghost use Rattle.register_judge.specs.Agreement.{IsAgreed};
 ghost use Rattle.register_judge.specs.Checks.{successor_checks};
+ghost use Rattle.register_judge.specs.Outcomes.{Takes};
+ghost use Rattle.register_judge.specs.Sittings.{sitting_by};
 ghost use Rattle.register_judge.specs.Taking.{take, HaveRows};
 ghost use Rattle.successor_rules.specs.Successors.{SuccessorChainsEnd};
 
@@ -50,4 +56,19 @@ pub fn items_keep_parents()
 pub fn items_keep_apart()
     ensures { (table : Table) (sitting : Sitting) (items : List Readied)
         → IsSound table → AreApart table → HaveRows items → AreApart (take table sitting items).table }
+{}
+
+/// Any two limits that the records of a sound table and the new ones don't pass give the same. So an outcome that was
+/// judged with room for each record is that of the items on a sound table which agrees with its reads, under each limit
+/// that these records don't pass.
+pub fn limits_that_suffice_are_alike()
+    ensures taken { (rules : Rules) (today : ℤ) (issuer : Lei) (table : Table) (small big : ℕ)
+        (items : List Readied) → IsSound table → small ≤ big
+        → record_count table + (take table (sitting_by rules big today issuer) items).new_records ≤ small
+        → take table (sitting_by rules small today issuer) items
+        ≡ take table (sitting_by rules big today issuer) items }
+    ensures agreed { (outcome : Outcome) (limit : ℕ) (today : ℤ) (issuer : Lei) (items : List Readied)
+        (table : Table) → IsAgreed outcome 4294967295 today issuer items → IsSound table → Agrees outcome.reads table
+        → record_count table + outcome.new_records ≤ limit → limit ≤ 4294967295
+        → Takes (Ok outcome) (take table (sitting_by Rules.First limit today issuer) items) }
 {}

@@ -13,10 +13,11 @@ mod overlay;
 mod records;
 mod sitting;
 
-pub use judging::judge_all;
+pub use cell_reads::keys_of;
+pub use judging::{judge_all, judge_on};
 pub use laws::{
     accepted_successors_keep_chains, items_keep_apart, items_keep_chains, items_keep_parents,
-    items_keep_tables_sound, writes_make_the_table,
+    items_keep_tables_sound, limits_that_suffice_are_alike, writes_make_the_table,
 };
-pub use outcome::{JudgeStop, Outcome, Verdict};
+pub use outcome::{JudgeStop, Outcome, Plan, Verdict};
 pub use sitting::{Rules, Sitting};

@@ -20,8 +20,16 @@ pub struct Outcome {
     pub writes: Writes,
     /// How many records came to the check of the room while none of their LEI was held.
     pub new_records: u32,
-    /// The cells that were read. None are listed yet.
+    /// The cells that the items needed, with what they had, if they were listed.
     pub reads: Reads,
+}
+
+/// What came of the items of an upload before its turn, by the rules of a day.
+#[derive(Drop)]
+pub struct Plan {
+    pub outcome: Outcome,
+    /// The day, counted from 1970-01-01.
+    pub today: i32,
 }
 
 /// Why there is no outcome.

@@ -1,5 +1,8 @@
-ghost use Rattle.std.specs.Prelude.{◌≡◌, ℕ, ◌+◌, [], Some, None, IfOk, IfSome, OnOk, OnErr, IsSome, map, option_map};
+ghost use Rattle.std.specs.Prelude.{◌≡◌, ◌↔◌, ℕ, ◌+◌, [], Some, None, IsTrue, IfOk, IfSome, OnOk, OnErr, IsSome, map, option_map, take};
 ghost use Rattle.std.specs.FinMap.{empty, len};
+ghost use Rattle.cell_reads.specs.Reads.{Agrees};
+ghost use Rattle.fetched_cells.specs.Fetching.{HasJust, fetched_keys};
+ghost use Rattle.fetched_cells.specs.Maps.{cells_in};
 ghost use Rattle.lei_records.specs.Tables.{cells_of, put_all, record_count, row_at};
 ghost use Rattle.register_table.specs.Cells.{AreOwnItems};
 ghost use Rattle.register_table.specs.Held.{IsKept, no_rows, rows};
@@ -14,9 +17,10 @@ use crate::parts::{Note, Parts};
 use crate::stamps::{Stamp, stamp_writes, stamps_within};
 use crate::touched::Touched;
 use crate::writes::put_writes;
+use fetched_cells::Fetched;
 use lei_code::Lei;
 use lei_outside::NoMemory;
-use lei_records::{RecCell, Record, RelCell, Seen, View, Writes};
+use lei_records::{CellKey, Reads, RecCell, Record, RelCell, Seen, View, Writes};
 use lei_shapes::{ExceptionCategory, RelationType};
 use std::alloc::Global;
 use std::marker::Model;
@@ -189,6 +193,23 @@ impl Table {
     {
         let counts = self.parts.cells.counts();
         (counts.records, counts.relations, counts.exceptions)
+    }
+
+    /// Whether each cell that was read, empty ones too, is that of the table. It takes no memory.
+    pub fn agrees(&self, reads: &Reads) -> bool
+        ensures { IsTrue result ↔ Agrees reads.now (rows self.now.held) }
+    {
+        cell_reads::agrees(self, reads)
+    }
+
+    /// The cells of these keys and, for each record among them, those of the successors after it and of the direct
+    /// parents from it on, to 200 members each. Of them all the first `most` are fetched, and one that comes twice
+    /// counts twice.
+    pub fn fetch(&self, keys: &[CellKey], most: u32) -> Result<Fetched, NoMemory>
+        ensures { IfOk result (λ fetched. HasJust (cells_in fetched) (cells_of (rows self.now.held))
+            (take most (fetched_keys (cells_of (rows self.now.held)) keys.now))) }
+    {
+        fetched_cells::fetch(self.alloc, self, keys, most)
     }
 
     /// The record of an entity.

@@ -1,0 +1,2 @@
+pub mod AgreeLemmas
+pub mod NoteLemmas

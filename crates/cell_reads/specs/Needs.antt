@@ -1,0 +1,73 @@
+-- Which cells an item names, and which it needs. This project's profile.
+use Rattle.std.specs.Prelude.{List, [], ◌∷◌, ◌++◌, if◌then◌else◌, Option, Some, None, map}
+use Rattle.lei_code.specs.Texts.{Lei, Text}
+use Rattle.lei_shapes.specs.declared.lists.RelationType.{RelationType}
+use Rattle.lei_records.specs.declared.item.Item.{Item}
+use Rattle.lei_records.specs.declared.item.Readied.{Readied}
+use Rattle.lei_records.specs.declared.view.CellKey.{CellKey}
+use Rattle.lei_records.specs.Cells.{Cells, akey, lei_in, successor_in}
+use Rattle.lei_records.specs.Relations.{end_in}
+use Rattle.lei_records.specs.Rows.{Row}
+use Rattle.lei_records.specs.Walks.{members}
+use Rattle.successor_rules.specs.Successors.{successor_seen}
+use Rattle.successor_rules.specs.Walks.{SeenNext, known}
+use Rattle.relation_rules.specs.Checks.{is_direct_parent}
+use Rattle.relation_rules.specs.Needs.{exception_names, relation_names}
+
+-- ---- the cells that an item names
+
+-- The cell of an authority key, if a record has one.
+abbrev pub key_names : Option (Text × Text) → List CellKey
+key_names None = []
+key_names (Some key) = CellKey.Key key.0 key.1 ∷ []
+
+-- The record of a successor, if a record names one.
+abbrev pub successor_names : Option Lei → List CellKey
+successor_names None = []
+successor_names (Some successor) = CellKey.Rec successor ∷ []
+
+-- The cells that a record names: its own, that of its authority key, and that of its successor.
+abbrev pub record_names : Row → List CellKey
+record_names row = CellKey.Rec (lei_in row) ∷ (key_names (akey row) ++ successor_names (successor_in row))
+
+-- The cells that an item names. One that failed the checks of its fields names none.
+abbrev pub names : Readied → List CellKey
+names (Readied.Bad check) = []
+names (Readied.Good (Item.Record row)) = record_names row
+names (Readied.Good (Item.Relation row)) = relation_names row
+names (Readied.Good (Item.Exception item)) = exception_names item.0
+
+-- ---- the cells of walks
+
+-- What a view answers of the successor that the record of an LEI names.
+abbrev pub successors_in : Cells → SeenNext
+successors_in cells lei = successor_seen (cells.record_cell lei)
+
+-- What a view answers of the direct parent of an LEI.
+abbrev pub parents_in : Cells → SeenNext
+parents_in cells lei = cells.active lei RelationType.IsDirectlyConsolidatedBy
+
+-- The cell that says which direct parent an LEI has.
+abbrev pub parent_key : Lei → CellKey
+parent_key lei = CellKey.Act lei RelationType.IsDirectlyConsolidatedBy
+
+-- The records of the first 200 members of the walk of successors from this one, as far as the view knows it.
+abbrev pub successor_walk : Cells → Option Lei → List CellKey
+successor_walk cells None = []
+successor_walk cells (Some successor) = map CellKey.Rec (members 200 (known (successors_in cells)) successor)
+
+-- The cells of the direct parents of the first 200 members of the walk from this one, as far as the view knows it.
+abbrev pub parent_walk : Cells → Lei → List CellKey
+parent_walk cells first = map parent_key (members 200 (known (parents_in cells)) first)
+
+-- The cells of an item's walk: that of a record from its successor, and that of an active direct parent from its end.
+abbrev pub walk_cells : Cells → Readied → List CellKey
+walk_cells cells (Readied.Bad check) = []
+walk_cells cells (Readied.Good (Item.Record row)) = successor_walk cells (successor_in row)
+walk_cells cells (Readied.Good (Item.Relation row)) =
+    if is_direct_parent row then parent_walk cells (end_in row) else []
+walk_cells cells (Readied.Good (Item.Exception item)) = []
+
+-- The cells that an item needs over a view: those that it names, and those of its walk.
+abbrev pub needs : Cells → Readied → List CellKey
+needs cells item = names item ++ walk_cells cells item

@@ -1,0 +1,12 @@
+//! Which cells of a table an item needs, the cells that were read, and whether a view still answers as they did. This
+//! project's profile.
+#![tactic(auto)]
+
+mod agreeing;
+mod cells;
+mod naming;
+mod noting;
+
+pub use agreeing::agrees;
+pub use naming::keys_of;
+pub use noting::{Noted, note_needs};

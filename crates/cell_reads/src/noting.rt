@@ -1,0 +1,236 @@
+//! The cells that were read, as items are judged.
+ghost use Rattle.std.specs.Prelude.{◌≡◌, ◌++◌, ◌∷◌, [], if◌then◌else◌, map, IsTrue, OnOk};
+ghost use Rattle.lei_records.specs.Cells.{successor_in};
+ghost use Rattle.lei_records.specs.Relations.{end_in};
+ghost use Rattle.lei_records.specs.Walks.{members};
+ghost use Rattle.successor_rules.specs.Walks.{known};
+ghost use Rattle.relation_rules.specs.Checks.{is_direct_parent};
+ghost use Rattle.cell_reads.specs.Needs.{needs, parent_walk, successor_walk, walk_cells};
+ghost use Rattle.cell_reads.specs.Notes.{IsListed, NotesCells};
+
+use crate::cells::found_in;
+use crate::naming::push_names;
+use lei_code::Lei;
+use lei_outside::{List, NoMemory};
+use lei_records::{CellKey, CellSeen, Item, Readied, Reads, Record, Relation, Seen, View};
+use lei_shapes::RelationType;
+use relation_rules::{ParentChain, is_direct};
+use std::alloc::Global;
+use std::collections::BTreeMap;
+use std::marker::Model;
+use successor_rules::{Chain, SuccessorChain};
+
+// The members of a walk whose cells are noted.
+const MOST_MEMBERS: u8 = 200;
+
+/// Cells that were read, each with what it had. Contracts see their list.
+#[derive(Drop)]
+pub struct Noted {
+    reads: Vec<(CellKey, CellSeen)>,
+    // Where the cell of a record, or of the end of a start and a type, may stand among the reads. A place is looked at
+    // before it is believed. The cells of the other kinds are listed each time that they are noted.
+    records: BTreeMap<Lei, usize>,
+    ends: BTreeMap<(Lei, &'static str), usize>,
+}
+
+impl Model for Noted {
+    ghost use Rattle.cell_reads.specs.Reads.{Listed};
+
+    ghost Value = { Listed };
+
+    ghost view = { λ noted. noted.reads.items };
+}
+
+impl Noted {
+    /// No cells.
+    pub fn new(alloc: Global) -> Self
+        ensures { result ≡ [] }
+    {
+        Noted {
+            reads: Vec::new(alloc),
+            records: BTreeMap::new(alloc),
+            ends: BTreeMap::new(alloc),
+        }
+    }
+
+    /// All of them.
+    pub fn into_reads(self) -> Reads
+        ensures { result ≡ self }
+    {
+        List::from(self.reads)
+    }
+
+    // Whether the cell is listed, as far as its place is known.
+    fn lists(&self, key: &CellKey) -> bool
+        ensures { IsTrue result → IsListed self.now key.now }
+    {
+        match self.place(key) {
+            Some(place) => is_at(self.reads.as_slice(), place, key),
+            None => false,
+        }
+    }
+
+    fn place(&self, key: &CellKey) -> Option<usize> {
+        match key {
+            CellKey::Rec(lei) => self.records.get(lei).copied(),
+            CellKey::Act(start, kind) => self.ends.get(&(*start, kind.text())).copied(),
+            _ => None,
+        }
+    }
+
+    fn set_place(&mut self, key: &CellKey, place: usize) -> Result<(), NoMemory>
+        ensures { self.new ≡ self.old }
+    {
+        match key {
+            CellKey::Rec(lei) => set_record(&mut self.records, *lei, place),
+            CellKey::Act(start, kind) => set_end(&mut self.ends, *start, *kind, place),
+            _ => Ok(()),
+        }
+    }
+
+    fn push(&mut self, key: CellKey, found: CellSeen) -> Result<(), NoMemory>
+        ensures { OnOk result (self.new ≡ self.old ++ (key, found) ∷ []) }
+    {
+        let place = self.reads.len();
+        self.set_place(&key, place)?;
+        self.reads.push((key, found))?;
+        Ok(())
+    }
+}
+
+fn is_at(reads: &[(CellKey, CellSeen)], place: usize, key: &CellKey) -> bool
+    ensures { IsTrue result → IsListed reads.now key.now }
+{
+    if place >= reads.len() {
+        return false;
+    }
+    reads[place].0 == *key
+}
+
+fn set_record(records: &mut BTreeMap<Lei, usize>, lei: Lei, place: usize) -> Result<(), NoMemory> {
+    match records.insert(lei, place) {
+        Ok(_) => Ok(()),
+        Err(_) => Err(NoMemory),
+    }
+}
+
+fn set_end(
+    ends: &mut BTreeMap<(Lei, &'static str), usize>,
+    start: Lei,
+    kind: RelationType,
+    place: usize,
+) -> Result<(), NoMemory> {
+    match ends.insert((start, kind.text()), place) {
+        Ok(_) => Ok(()),
+        Err(_) => Err(NoMemory),
+    }
+}
+
+/// Notes the cells that an item needs by the answers of `over`, as `below` has them. So where accepted items lie over a
+/// view, what is noted is what the view itself has. A cell that `below` lacks isn't noted. After an `Err` some of them
+/// may be noted.
+pub fn note_needs<V: View, W: View>(
+    alloc: Global,
+    below: &V,
+    over: &W,
+    noted: &mut Noted,
+    item: &Readied,
+) -> Result<(), NoMemory>
+    ensures { OnOk result (NotesCells (V.cells below.now) noted.old noted.new
+        (needs (W.cells over.now) item.now)) }
+{
+    let mut keys = Vec::new(alloc);
+    push_names(alloc, &mut keys, item)?;
+    note_all(below, noted, keys)?;
+    note_walk_of(below, over, noted, item)
+}
+
+fn note_all<V: View>(view: &V, noted: &mut Noted, keys: Vec<CellKey>) -> Result<(), NoMemory>
+    ensures { OnOk result (NotesCells (V.cells view.now) noted.old noted.new keys.items) }
+{
+    for key in keys {
+        note(view, noted, key)?;
+    }
+    Ok(())
+}
+
+fn note<V: View>(view: &V, noted: &mut Noted, key: CellKey) -> Result<(), NoMemory>
+    ensures { OnOk result (NotesCells (V.cells view.now) noted.old noted.new (key ∷ [])) }
+{
+    if noted.lists(&key) {
+        return Ok(());
+    }
+    match found_in(view, &key) {
+        Some(found) => noted.push(key, found),
+        None => Ok(()),
+    }
+}
+
+fn note_walk_of<V: View, W: View>(
+    below: &V,
+    over: &W,
+    noted: &mut Noted,
+    item: &Readied,
+) -> Result<(), NoMemory>
+    ensures { OnOk result (NotesCells (V.cells below.now) noted.old noted.new
+        (walk_cells (W.cells over.now) item.now)) }
+{
+    match item {
+        Readied::Good(Item::Record(item)) => note_successors(below, over, noted, item),
+        Readied::Good(Item::Relation(item)) => note_parents(below, over, noted, item),
+        _ => Ok(()),
+    }
+}
+
+fn note_successors<V: View, W: View>(
+    below: &V,
+    over: &W,
+    noted: &mut Noted,
+    item: &Record,
+) -> Result<(), NoMemory>
+    ensures { OnOk result (NotesCells (V.cells below.now) noted.old noted.new
+        (successor_walk (W.cells over.now) (successor_in item.now))) }
+{
+    match item.successor() {
+        Some(first) => note_walk(below, &SuccessorChain { view: over }, noted, first),
+        None => Ok(()),
+    }
+}
+
+fn note_parents<V: View, W: View>(
+    below: &V,
+    over: &W,
+    noted: &mut Noted,
+    item: &Relation,
+) -> Result<(), NoMemory>
+    ensures { OnOk result (NotesCells (V.cells below.now) noted.old noted.new
+        (if is_direct_parent item.now then parent_walk (W.cells over.now) (end_in item.now) else [])) }
+{
+    if item.is_active() && is_direct(item.kind()) {
+        note_walk(below, &ParentChain { view: over }, noted, item.end())
+    } else {
+        Ok(())
+    }
+}
+
+// The cells in which the members of a walk name the next one, from the first member on.
+fn note_walk<V: View, C: Chain>(
+    below: &V,
+    chain: &C,
+    noted: &mut Noted,
+    first: Lei,
+) -> Result<(), NoMemory>
+    ensures { OnOk result (NotesCells (V.cells below.now) noted.old noted.new
+        (map (C.cell chain.now) (members 200 (known (C.answers chain.now)) first))) }
+{
+    let mut member = first;
+    for _ in 0..MOST_MEMBERS {
+        note(below, noted, chain.key(member))?;
+        match chain.next(&member) {
+            Seen::Held(next) => member = next,
+            Seen::Empty => return Ok(()),
+            Seen::Missing => return Ok(()),
+        }
+    }
+    Ok(())
+}

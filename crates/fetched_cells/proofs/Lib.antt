@@ -1,0 +1,5 @@
+mod MapLemmas
+mod CopyLemmas
+mod FillLemmas
+mod WalkLemmas
+mod LawLemmas

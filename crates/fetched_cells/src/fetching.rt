@@ -1,0 +1,30 @@
+//! Fetching the cells that items may need.
+ghost use Rattle.std.specs.Prelude.{IfOk, take};
+ghost use Rattle.fetched_cells.specs.Fetching.{HasJust, fetched_keys};
+ghost use Rattle.fetched_cells.specs.Maps.{cells_in};
+
+use crate::fetched::Fetched;
+use crate::filling::Filling;
+use lei_outside::NoMemory;
+use lei_records::{CellKey, View};
+use std::alloc::Global;
+
+/// A view of the cells of these keys and, for each record among them, of the walk of successors after it and of the
+/// walk of direct parents from it, in this order and to 200 members each. Of them all the first `most` are copied, and
+/// one that comes twice counts twice.
+pub fn fetch<V: View>(
+    alloc: Global,
+    view: &V,
+    keys: &[CellKey],
+    most: u32,
+) -> Result<Fetched, NoMemory>
+    ensures { IfOk result (λ fetched. HasJust (cells_in fetched) (V.cells view.now)
+        (take most (fetched_keys (V.cells view.now) keys.now))) }
+{
+    let mut filling = Filling {
+        fetched: Fetched::new(alloc),
+        left: most,
+    };
+    filling.add_all(view, keys)?;
+    Ok(filling.fetched)
+}

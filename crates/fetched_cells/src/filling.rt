@@ -1,0 +1,116 @@
+//! A fetched view while cells are copied to it.
+ghost use Rattle.std.specs.Prelude.{◌≡◌, [], ◌∷◌, OnOk};
+ghost use Rattle.lei_records.specs.declared.view.CellKey.{CellKey};
+ghost use Rattle.successor_rules.specs.Walks.{held};
+ghost use Rattle.cell_reads.specs.Needs.{parent_walk, successor_walk, successors_in};
+ghost use Rattle.fetched_cells.specs.Fetching.{brought, fetched_keys};
+ghost use Rattle.fetched_cells.specs.Filling.{Adds, member_keys};
+
+use crate::fetched::Fetched;
+use lei_code::Lei;
+use lei_outside::NoMemory;
+use lei_records::{CellKey, Seen, View};
+use relation_rules::ParentChain;
+use successor_rules::{Chain, SuccessorChain};
+
+// The members of a walk that are looked at.
+const MOST_MEMBERS: u8 = 200;
+
+/// A view, and for how many cells more there is room. A cell that is copied twice takes room twice.
+#[derive(Drop)]
+pub struct Filling {
+    pub fetched: Fetched,
+    pub left: u32,
+}
+
+impl Filling {
+    /// Copies the cells of the keys, each followed by those that it brings, as long as there is room.
+    pub fn add_all<V: View>(&mut self, view: &V, keys: &[CellKey]) -> Result<(), NoMemory>
+        ensures { OnOk result (Adds (V.cells view.now) self.old self.new
+            (fetched_keys (V.cells view.now) keys.now)) }
+    {
+        for key in keys {
+            if self.left == 0 {
+                return Ok(());
+            }
+            self.add_named(view, key)?;
+        }
+        Ok(())
+    }
+
+    fn add_named<V: View>(&mut self, view: &V, key: &CellKey) -> Result<(), NoMemory>
+        ensures { OnOk result (Adds (V.cells view.now) self.old self.new
+            (key.now ∷ brought (V.cells view.now) key.now)) }
+    {
+        self.add(view, key)?;
+        match key {
+            CellKey::Rec(lei) => self.add_walks(view, lei),
+            _ => Ok(()),
+        }
+    }
+
+    // The cells that the record of a code brings.
+    fn add_walks<V: View>(&mut self, view: &V, lei: &Lei) -> Result<(), NoMemory>
+        ensures { OnOk result (Adds (V.cells view.now) self.old self.new
+            (brought (V.cells view.now) (CellKey.Rec lei.now))) }
+    {
+        self.add_successors(view, lei)?;
+        self.add_parents(view, lei)
+    }
+
+    fn add_successors<V: View>(&mut self, view: &V, lei: &Lei) -> Result<(), NoMemory>
+        ensures { OnOk result (Adds (V.cells view.now) self.old self.new
+            (successor_walk (V.cells view.now) (held (successors_in (V.cells view.now) lei.now)))) }
+    {
+        let chain = SuccessorChain { view };
+        match chain.next(lei) {
+            Seen::Held(successor) => self.add_walk(view, &chain, &successor),
+            Seen::Empty => Ok(()),
+            Seen::Missing => Ok(()),
+        }
+    }
+
+    fn add_parents<V: View>(&mut self, view: &V, lei: &Lei) -> Result<(), NoMemory>
+        ensures { OnOk result (Adds (V.cells view.now) self.old self.new
+            (parent_walk (V.cells view.now) lei.now)) }
+    {
+        self.add_walk(view, &ParentChain { view }, lei)
+    }
+
+    // The cells of the first 200 members of a walk.
+    fn add_walk<V: View, C: Chain>(
+        &mut self,
+        view: &V,
+        chain: &C,
+        first: &Lei,
+    ) -> Result<(), NoMemory>
+        ensures { OnOk result (Adds (V.cells view.now) self.old self.new
+            (member_keys 200 (C.cell chain.now) (C.answers chain.now) first.now)) }
+    {
+        let mut member = *first;
+        for _ in 0..MOST_MEMBERS {
+            self.add(view, &chain.key(member))?;
+            if self.left == 0 {
+                return Ok(());
+            }
+            match chain.next(&member) {
+                Seen::Held(next) => member = next,
+                Seen::Empty => return Ok(()),
+                Seen::Missing => return Ok(()),
+            }
+        }
+        Ok(())
+    }
+
+    // One cell.
+    fn add<V: View>(&mut self, view: &V, key: &CellKey) -> Result<(), NoMemory>
+        ensures { OnOk result (Adds (V.cells view.now) self.old self.new (key.now ∷ [])) }
+    {
+        if self.left == 0 {
+            return Ok(());
+        }
+        self.fetched.copy_cell(view, key)?;
+        self.left -= 1;
+        Ok(())
+    }
+}

@@ -1,0 +1,12 @@
+//! A part of a view: the cells of some keys, and of the walks from the records among them, as many as there is room
+//! for. This project's profile.
+#![tactic(auto)]
+
+mod fetched;
+mod fetching;
+mod filling;
+mod laws;
+
+pub use fetched::Fetched;
+pub use fetching::fetch;
+pub use laws::needed_cells_are_fetched;

@@ -1,0 +1,22 @@
+use Rattle.std.proofs.Common.{◌+◌, ℤ, ap, subst, ◌∙◌}
+use Rattle.std.proofs.Math.Facts.{to_z-of_z}
+use Rattle.lei_records.specs.Tables.{record_count}
+use Rattle.register_judge.specs.declared.sitting.Rules.{Rules}
+use Rattle.register_judge.specs.Judging.{judge_items}
+use Rattle.register_judge.specs.Outcomes.{Judges}
+use Rattle.register_judge.specs.Sittings.{sitting_by}
+use Rattle.register_judge.specs.Taking.{take}
+use Rattle.register_judge.proofs.TakingLemmas.{judged-taken, judges-takes}
+use Rattle.register_judge.proofs.judging.judge_on.Goals as goal
+
+pub returns-clause-over_tables : goal.returns-clause-over_tables
+returns-clause-over_tables g c = λ table sound same.
+    let room = c.args.room in
+    let today = c.args.today in
+    let issuer = c.args.issuer.now in
+    let items = c.args.items.now in
+    let sitting = sitting_by Rules.First room today issuer in
+    let JudgedOn : ℤ → Type 0 = λ day. Judges c.judge_each.result (judge_items (g.V.View.cells c.args.view.now) 0 (sitting_by Rules.First room day issuer) items) in
+    judges-takes c.judge_each.result _ (take table (sitting_by Rules.First (record_count table + room) today issuer) items)
+    (ap (λ cells. judge_items cells 0 sitting items) same ∙ judged-taken table sitting items sound)
+    (subst JudgedOn (to_z-of_z c.ranges.today) c.judge_each.ensures.answers)
