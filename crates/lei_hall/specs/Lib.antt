@@ -1,4 +1,5 @@
 pub mod Passes
 pub mod Turns
+pub mod Looks
 pub mod Closing
 pub mod Calling

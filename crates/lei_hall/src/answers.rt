@@ -1,13 +1,19 @@
 //! What passes are told.
-ghost use Rattle.std.specs.Prelude.{◌≡◌};
+ghost use Rattle.std.specs.Prelude.{◌≡◌, IfSome};
+ghost use Rattle.register_history.specs.Legal.{Legal};
+ghost use Rattle.register_state.specs.Planning.{IsPlanOf};
 ghost use Rattle.register_words.specs.Requests.{IsNumbered, IsUploadNumber};
 ghost use Rattle.register_words.specs.declared.request.Request.TheVariants.{Upload};
+ghost use Rattle.lei_hall.specs.Looks.{Fetches};
 ghost use Rattle.lei_hall.specs.Turns.{Answers};
 
 use crate::slot::Slot;
+use fetched_cells::Fetched;
 use lei_office::{Call, Reply, Request};
-use lei_outside::Keeper;
+use lei_outside::{Keeper, NoMemory};
+use lei_records::CellKey;
 use lei_shapes::Moment;
+use register_judge::Plan;
 use std::thread::Threads;
 use turnstile::Said;
 
@@ -74,14 +80,44 @@ pub fn put_request<'a, K: Keeper, R: Threads + Sync>(
     }
 }
 
-// Settles an upload with the office.
-pub fn settle_call<'a, K: Keeper>(slot: &mut Slot<K>, call: &'a Call, moment: Moment) -> Settled<'a>
-    requires { IsUploadNumber call.now.number }
+// The cells that were fetched, or want of memory. No pass is told of them.
+#[derive(Drop)]
+pub struct Looked {
+    pub fetched: Result<Fetched, NoMemory>,
+}
+
+impl Said for Looked {
+    ghost use Rattle.std.specs.Prelude.{None};
+
+    type Told = Told;
+
+    ghost said = { λ _. None };
+}
+
+// Fetches cells from the office, which stays as it is.
+pub fn fetch_cells<K: Keeper>(slot: &mut Slot<K>, keys: &[CellKey]) -> Looked
+    ensures same { slot.new ≡ slot.old }
+    ensures legal { Legal slot.old.office.office }
+    ensures cells { Fetches slot.old.office.office keys.now result.fetched }
+{
+    let fetched = slot.office.fetch(keys);
+    Looked { fetched }
+}
+
+// Settles an upload with the office, which may have been judged ahead.
+pub fn settle_call<'a, K: Keeper>(
+    slot: &mut Slot<K>,
+    call: &'a Call,
+    plan: Option<Plan>,
+    moment: Moment,
+) -> Settled<'a>
+    requires numbered { IsUploadNumber call.now.number }
+    requires plan { IfSome plan (IsPlanOf call.now) }
     ensures asked { (result.call.now ≡ call.now) × (result.moment ≡ moment) }
     ensures opened { slot.new.opened ≡ slot.old.opened }
     ensures answers { Answers K.faults slot.old.office (Upload call.now) moment result.reply slot.new.office }
 {
-    let reply = slot.office.settle(call, moment);
+    let reply = slot.office.settle(call, plan, moment);
     Settled {
         call,
         moment,

@@ -1,5 +1,5 @@
 //! The office, and the turns of its callers.
-ghost use Rattle.std.specs.Prelude.{◌≡◌, ◌≤◌, length, IfOk, IfErr};
+ghost use Rattle.std.specs.Prelude.{◌≡◌, ◌≤◌, length, IfOk, IfErr, IfSome};
 ghost use Rattle.std.specs.Thread.{IsSync};
 ghost use Rattle.register_history.specs.Kept.{Keeps, StaysUntold};
 ghost use Rattle.register_history.specs.Legal.{Legal};
@@ -7,15 +7,21 @@ ghost use Rattle.register_words.specs.Requests.{IsNumbered, IsUploadNumber};
 ghost use Rattle.register_words.specs.declared.request.Request.TheVariants.{Upload};
 ghost use Rattle.turnstile.specs.Lists.{longer};
 ghost use Rattle.turnstile.specs.Passes.{AreFronts, AreNew, AreOf, HaveAll, with_seen};
+ghost use Rattle.register_state.specs.Planning.{IsPlanOf};
 ghost use Rattle.lei_hall.specs.Closing.{Closes};
+ghost use Rattle.lei_hall.specs.Looks.{Fetches, Looks, SeesMore};
 ghost use Rattle.lei_hall.specs.Passes.{numbers_of, seen_by};
 ghost use Rattle.lei_hall.specs.Turns.{Answers, Turn};
 
-use crate::answers::{Answer, Settled, Told, put_request, settle_call};
+use crate::answers::{Answer, Looked, Settled, Told, fetch_cells, put_request, settle_call};
 use crate::slot::{Slot, office_in};
+use fetched_cells::Fetched;
 use lei_office::{Call, Office, Reply, Request};
-use lei_outside::{Gate, Keeper, KeptEntry};
+use lei_outside::{Gate, Keeper, KeptEntry, NoMemory};
+use lei_records::CellKey;
 use lei_shapes::Moment;
+use register_judge::{Plan, keys_of};
+use register_state::{accepted_items, items_of, plan_of};
 use std::alloc::Global;
 use std::marker::Model;
 use std::sync::Wait;
@@ -29,6 +35,7 @@ pub type Pass = turnstile::Pass<KeptEntry, Told>;
 /// with, and how many passes there are.
 #[derive(Drop)]
 pub struct Hall<K: Keeper> {
+    alloc: Global,
     turnstile: Turnstile<Slot<K>>,
 }
 
@@ -69,7 +76,7 @@ impl<K: Keeper> Hall<K> {
         // A step of the proof: the history of an office is legal.
         let _limits = office.limits();
         match Turnstile::open(alloc, Slot::new(office), passes) {
-            Ok((turnstile, list)) => Ok((Hall { turnstile }, list)),
+            Ok((turnstile, list)) => Ok((Hall { alloc, turnstile }, list)),
             Err(slot) => Err(office_in(slot)),
         }
     }
@@ -100,8 +107,59 @@ impl<K: Keeper> Hall<K> {
         (pass, answer.reply)
     }
 
-    /// Puts an upload to the office, in one turn. The gate lets the upload pass before it, outside of any
+    /// The cells of these keys and of the walks from the records among them, as `Office::fetch` fetches them, in one
     /// turn.
+    pub fn look<R: Threads + Wait + Sync>(
+        &self,
+        rt: &R,
+        pass: Pass,
+        keys: &[CellKey],
+    ) -> (Pass, Result<Fetched, NoMemory>)
+        requires pass { pass.table ≡ self.now.table }
+        ensures { Looks pass keys.now result.1 result.0 }
+    {
+        let (pass, looked) = self.turnstile.enter(
+            rt,
+            pass,
+            |slot: &mut Slot<K>| -> Looked
+                ensures same { slot.new ≡ slot.old }
+                ensures legal { Legal slot.old.office.office }
+                ensures cells { Fetches slot.old.office.office keys.entry.now result.fetched }
+            { fetch_cells(slot, keys) },
+        );
+        (pass, looked.fetched)
+    }
+
+    // A plan of an upload, judged outside of any turn by the cells of one look. There is none if the body has no
+    // reading, if the look lacks a cell, or if memory runs out.
+    fn plan<R: Threads + Wait + Sync>(
+        &self,
+        rt: &R,
+        pass: Pass,
+        call: &Call,
+        moment: Moment,
+    ) -> (Pass, Option<Plan>)
+        requires pass { pass.table ≡ self.now.table }
+        ensures sees { SeesMore pass result.0 }
+        ensures plan { IfSome result.1 (IsPlanOf call.now) }
+    {
+        let Some(items) = items_of(self.alloc, call) else {
+            return (pass, None);
+        };
+        let Ok(keys) = keys_of(self.alloc, items.as_slice()) else {
+            return (pass, None);
+        };
+        let (pass, fetched) = self.look(rt, pass, keys.as_slice());
+        let plan = match fetched {
+            Ok(fetched) => plan_of(self.alloc, &fetched, call, items.as_slice(), moment),
+            Err(NoMemory) => None,
+        };
+        (pass, plan)
+    }
+
+    /// Puts an upload to the office. Its body is read and its items are judged ahead, outside of any turn, by the cells
+    /// of one look. Then the gate lets it pass, with the number of items that were accepted ahead, and it is settled in
+    /// one turn. Where the office has changed so that it comes to something else, it is judged again in that turn.
     pub fn submit<G: Gate, R: Threads + Wait + Sync>(
         &self,
         rt: &R,
@@ -114,17 +172,18 @@ impl<K: Keeper> Hall<K> {
         requires numbered { IsUploadNumber call.now.number }
         ensures { Turn pass (Upload call.now) moment result.1 result.0 }
     {
-        gate.between(&call.office.text(), call.number, None);
+        let (pass, plan) = self.plan(rt, pass, call, moment);
+        gate.between(&call.office.text(), call.number, accepted_ahead(&plan));
         let (pass, settled) = self.turnstile.enter(
             rt,
             pass,
             |slot: &mut Slot<K>| -> Settled<'_>
-                requires { IsUploadNumber call.now.number }
+                requires { IsUploadNumber call.now.number × IfSome plan (IsPlanOf call.now) }
                 ensures asked { (result.call.now ≡ call.entry.now) × (result.moment ≡ moment) }
                 ensures opened { slot.new.opened ≡ slot.old.opened }
                 ensures answers { Answers K.faults
                     slot.old.office (Upload call.entry.now) moment result.reply slot.new.office }
-            { settle_call(slot, call, moment) },
+            { settle_call(slot, call, plan, moment) },
         );
         (pass, settled.reply)
     }
@@ -172,10 +231,18 @@ impl<K: Keeper> Hall<K> {
         ensures kept { Keeps (K.tables result.keeper) result.office }
         ensures untold { StaysUntold (K.tables self.office.keeper) (K.tables result.keeper) }
     {
-        let Hall { turnstile } = self;
+        let Hall { turnstile, .. } = self;
         let office = office_in(turnstile.close(passes));
         // A step of the proof: the history of an office is legal, and its keeper has the tables of it.
         let _limits = office.limits();
         office
+    }
+}
+
+// How many items of an upload were accepted ahead, if it was judged ahead.
+fn accepted_ahead(plan: &Option<Plan>) -> Option<u32> {
+    match plan {
+        Some(plan) => Some(accepted_items(plan)),
+        None => None,
     }
 }

@@ -1,9 +1,11 @@
 //! One caller's register.
-ghost use Rattle.std.specs.Prelude.{◌≡◌, ◌≤◌, Some, IfErr, IfOk, option_map};
+ghost use Rattle.std.specs.Prelude.{◌≡◌, ◌≤◌, Some, take, IfErr, IfOk, IfSome, option_map};
 ghost use Rattle.lei_shapes.specs.Moment.{IsMoment};
 ghost use Rattle.lei_outside.specs.Count.{Rose};
 ghost use Rattle.lei_outside.specs.Keeping.{LeavesNoMore, Stays};
-ghost use Rattle.lei_records.specs.Tables.{IsSound};
+ghost use Rattle.lei_records.specs.Tables.{IsSound, cells_of};
+ghost use Rattle.fetched_cells.specs.Fetching.{HasJust, fetched_keys};
+ghost use Rattle.fetched_cells.specs.Maps.{cells_in};
 ghost use Rattle.successor_rules.specs.Successors.{SuccessorChainsEnd};
 ghost use Rattle.relation_rules.specs.Parents.{AreApart, ParentChainsEnd};
 ghost use Rattle.upload_ledger.specs.History.{last_entry};
@@ -19,11 +21,15 @@ ghost use Rattle.register_history.specs.Register.{after};
 ghost use Rattle.register_history.specs.Replies.{Step};
 ghost use Rattle.register_state.specs.Crashes.{CrashStays};
 ghost use Rattle.register_state.specs.Deciding.{reply_or};
+ghost use Rattle.register_state.specs.Planning.{IsPlanOf};
 ghost use Rattle.lei_office.specs.Offices.{FaultRose, IsRefused, keeper_back};
 
 use crate::opening::{Found, OpenFault, read_store};
-use lei_outside::{KeepFault, Keeper, KeptEntry};
+use fetched_cells::Fetched;
+use lei_outside::{KeepFault, Keeper, KeptEntry, NoMemory};
+use lei_records::CellKey;
 use lei_shapes::Moment;
+use register_judge::Plan;
 use register_state::Register;
 use register_words::{Call, Limits, Refusal, Reply, Request};
 use std::alloc::Global;
@@ -146,10 +152,24 @@ impl<K: Keeper> Office<K> {
         reply_or(self.register.answer(rt, &mut self.keeper, request, moment))
     }
 
-    /// Answers an upload that came at this moment, as `answer` does its request. The upload is lent, and nothing of it
-    /// is copied but what is kept.
-    pub fn settle(&mut self, call: &Call, moment: Moment) -> Reply
-        requires { IsUploadNumber call.now.number }
+    /// The cells of these keys and, for each record among them, those of the successors after it and of the direct
+    /// parents from it on, to 200 members each. Of them all, the first 50,000 are fetched, and one that comes twice
+    /// counts twice. This project's profile.
+    pub fn fetch(&self, keys: &[CellKey]) -> Result<Fetched, NoMemory>
+        ensures cells { IfOk result (λ fetched. HasJust (cells_in fetched)
+            (cells_of (after self.now.office.limits self.now.office.history)) (take 50_000
+            (fetched_keys (cells_of (after self.now.office.limits self.now.office.history)) keys.now))) }
+        ensures legal { Legal self.now.office }
+    {
+        self.register.fetch(keys)
+    }
+
+    /// Answers an upload that came at this moment, as `answer` does its request, whether there is a plan of it or none,
+    /// and whether that is stale. A plan is used if it is of the day, if the register agrees with what it has read, and
+    /// if its new records fit. The upload is lent, and nothing of it is copied but what is kept.
+    pub fn settle(&mut self, call: &Call, plan: Option<Plan>, moment: Moment) -> Reply
+        requires numbered { IsUploadNumber call.now.number }
+        requires plan { IfSome plan (IsPlanOf call.now) }
         ensures step { Step self.old.office (Upload call.now) moment result self.new.office }
         ensures kept { Keeps (K.tables self.new.keeper) self.new.office }
         ensures untold { StaysUntold (K.tables self.old.keeper) (K.tables self.new.keeper) }
@@ -163,7 +183,7 @@ impl<K: Keeper> Office<K> {
             → Rose (K.faults self.old.keeper) (K.faults self.new.keeper) }
         ensures legal { Legal self.new.office }
     {
-        reply_or(self.register.settle(&mut self.keeper, call, moment))
+        reply_or(self.register.settle(&mut self.keeper, call, plan, moment))
     }
 }
 

@@ -3,3 +3,4 @@ pub mod Growing
 pub mod Outcomes
 pub mod Shelved
 pub mod Settling
+pub mod Planned

@@ -1,21 +1,30 @@
 //! The books of a register: what doesn't change while a request is decided.
-ghost use Rattle.std.specs.Prelude.{◌≡◌, IfOk, length};
+ghost use Rattle.std.specs.Prelude.{◌≡◌, take, IfOk, length};
 ghost use Rattle.lei_shapes.specs.Moment.{IsMoment};
+ghost use Rattle.lei_records.specs.Tables.{cells_of};
+ghost use Rattle.fetched_cells.specs.Fetching.{HasJust, fetched_keys};
+ghost use Rattle.fetched_cells.specs.Maps.{cells_in};
 ghost use Rattle.upload_ledger.specs.History.{stamp};
 ghost use Rattle.upload_ledger.specs.Limits.{AreFew};
 ghost use Rattle.register_words.specs.Limits.{AreLimits};
 ghost use Rattle.register_history.specs.Legal.{Legal};
+ghost use Rattle.register_history.specs.Register.{after};
 ghost use Rattle.register_history.specs.Replies.{is_full, is_too_much};
 ghost use Rattle.register_history.specs.State.{opened};
 
 use crate::entries::stamp;
+use fetched_cells::Fetched;
 use lei_outside::{KeptEntry, NoMemory};
+use lei_records::CellKey;
 use lei_shapes::Moment;
 use register_table::Table;
 use register_words::Limits;
 use std::alloc::Global;
 use std::marker::Model;
 use upload_ledger::Ledger;
+
+// How many cells are fetched at most. This project's profile.
+const MOST_FETCHED: u32 = 50_000;
 
 /// The limits and the ledger of a register, and the table that the ledger's entries leave.
 #[derive(Drop)]
@@ -79,6 +88,16 @@ impl Books {
         ensures legal { Legal self.now }
     {
         moment_of(stamp(self.ledger.entries(), moment))
+    }
+
+    // The cells of these keys, and of the walks from the records among them.
+    pub fn fetch(&self, keys: &[CellKey]) -> Result<Fetched, NoMemory>
+        ensures cells { IfOk result (λ fetched. HasJust (cells_in fetched)
+            (cells_of (after self.now.limits self.now.history))
+            (take 50_000 (fetched_keys (cells_of (after self.now.limits self.now.history)) keys.now))) }
+        ensures legal { Legal self.now }
+    {
+        self.table.fetch(keys, MOST_FETCHED)
     }
 
     // Whether there are as many entries as the limit.

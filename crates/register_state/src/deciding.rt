@@ -1,19 +1,22 @@
 //! What is decided of a request. Nothing but the shelf changes by it, where a publication is made.
-ghost use Rattle.std.specs.Prelude.{◌≡◌, IfOk};
-ghost use Rattle.lei_records.specs.Tables.{row_at};
+ghost use Rattle.std.specs.Prelude.{◌≡◌, ◌≤◌, ◌+◌, false, IfOk, IfSome};
+ghost use Rattle.lei_shapes.specs.Moment.{day_of};
+ghost use Rattle.lei_records.specs.Tables.{record_count, row_at};
+ghost use Rattle.cell_reads.specs.Reads.{Agrees};
 ghost use Rattle.upload_format.specs.Bodies.{upload as items_of};
 ghost use Rattle.upload_ledger.specs.History.{accredited};
 ghost use Rattle.register_words.specs.declared.request.Request.TheVariants.{Accredit, Kept, Show, Status, Upload};
 ghost use Rattle.register_state.specs.Shelving.{IsShelved, Shelves};
 ghost use Rattle.register_state.specs.Deciding.{AddsNext, Decides, Tells};
-ghost use Rattle.register_history.specs.Replies.{accredit_outcome, body_outcome, json_reply, kept_outcome, outcome_at, show_outcome, status_outcome, upload_outcome};
+ghost use Rattle.register_state.specs.Planning.{IsPlanOf, IsTakenBy};
+ghost use Rattle.register_history.specs.Replies.{accredit_outcome, body_outcome, is_full, is_too_much, json_reply, kept_outcome, outcome_at, show_outcome, status_outcome, upload_outcome};
 ghost use Rattle.register_words.specs.Requests.{IsNumbered, IsUploadNumber};
 ghost use Rattle.register_history.specs.Register.{after};
 
 use crate::books::Books;
 use crate::decision::{Decision, refused};
 use crate::entries::{accreditation, taken_upload};
-use crate::judge::judge;
+use crate::judge::{is_usable, judge};
 use crate::publishing::{copy, delta};
 use answer_texts::status_text;
 use copy_forms::item_text;
@@ -22,6 +25,7 @@ use lei_code::Lei;
 use lei_outside::{Bytes, List, NoMemory};
 use lei_records::Item;
 use lei_shapes::Moment;
+use register_judge::{Outcome, Plan};
 use register_words::{Call, Kind, Refusal, Reply, Request};
 use std::alloc::Global;
 use std::thread::Threads;
@@ -47,7 +51,7 @@ impl Books {
     {
         match request {
             Request::Accredit(issuer) => self.accredit(issuer, moment),
-            Request::Upload(call) => self.upload(reader, call, moment),
+            Request::Upload(call) => self.upload(reader, call, None, moment),
             Request::Kept(issuer, number) => Ok(Decision::Stays(self.kept(issuer, *number)?)),
             Request::Publish(number) => self.publish(rt, shelf, *number, moment),
             Request::Show(lei) => Ok(Decision::Stays(self.show(lei)?)),
@@ -112,15 +116,17 @@ impl Books {
         Ok(Decision::Adds(entry, List::from(Vec::new(self.alloc))))
     }
 
-    // Decides an upload.
+    // Decides an upload, which may have been judged ahead.
     #[tactic(auto, unfolding(register_history::specs::Replies::upload_outcome))]
     pub fn upload(
         &self,
         reader: &mut Reader,
         call: &Call,
+        plan: Option<Plan>,
         moment: Moment,
     ) -> Result<Decision, NoMemory>
-        requires { IsUploadNumber call.now.number }
+        requires numbered { IsUploadNumber call.now.number }
+        requires plan { IfSome plan (IsPlanOf call.now) }
         ensures decides { Decides self.now (Upload call.now)
             (upload_outcome self.now call.now moment) result }
         ensures next { AddsNext self.now (Upload call.now) result }
@@ -136,8 +142,50 @@ impl Books {
             Place::Repeat(answer) => Ok(Decision::Stays(kept_reply(self.alloc, answer)?)),
             Place::Taken => Ok(refused(Refusal::NumberTaken)),
             Place::Ahead(next) => Ok(refused(Refusal::NumberAhead(next))),
-            Place::Fresh => self.take_upload(reader, call, moment),
+            Place::Fresh => self.take_fresh(reader, call, plan, moment),
         }
+    }
+
+    // Takes an upload of the next number: as it was planned if it still comes to that, and else by its body.
+    fn take_fresh(
+        &self,
+        reader: &mut Reader,
+        call: &Call,
+        plan: Option<Plan>,
+        moment: Moment,
+    ) -> Result<Decision, NoMemory>
+        requires numbered { IsUploadNumber call.now.number }
+        requires plan { IfSome plan (IsPlanOf call.now) }
+        ensures decides { Decides self.now (Upload call.now)
+            (body_outcome self.now call.now moment (items_of call.now.body)) result }
+        ensures next { AddsNext self.now (Upload call.now) result }
+    {
+        if let Some(plan) = plan {
+            if is_usable(&self.table, self.limits.records, moment.seconds(), &plan) {
+                return self.take_planned(call, plan, moment);
+            }
+        }
+        self.take_upload(reader, call, moment)
+    }
+
+    // Takes an upload as it was planned. Its body isn't read again.
+    fn take_planned(&self, call: &Call, plan: Plan, moment: Moment) -> Result<Decision, NoMemory>
+        requires numbered { IsUploadNumber call.now.number }
+        requires plan { IsPlanOf call.now plan }
+        requires day { plan.today ≡ day_of moment }
+        requires agrees { Agrees plan.outcome.reads (after self.now.limits self.now.history) }
+        requires fits { record_count (after self.now.limits self.now.history) + plan.outcome.new_records
+            ≤ self.now.limits.records }
+        ensures decides { Decides self.now (Upload call.now)
+            (body_outcome self.now call.now moment (items_of call.now.body)) result }
+        ensures next { AddsNext self.now (Upload call.now) result }
+    {
+        // A step of the proof: the limits are such.
+        let _limits = self.limits();
+        if self.is_full() || self.is_too_much(call.body.as_slice()) {
+            return Ok(refused(Refusal::LedgerFull));
+        }
+        self.add_judged(call, plan.outcome, moment)
     }
 
     fn take_upload(
@@ -151,8 +199,6 @@ impl Books {
             (body_outcome self.now call.now moment (items_of call.now.body)) result }
         ensures next { AddsNext self.now (Upload call.now) result }
     {
-        // A step of the proof: what sends it is named by an LEI.
-        let _ = call.office.as_bytes();
         let upload = match reader.read(self.alloc, call.body.as_slice()) {
             Ok(upload) => upload,
             Err(UploadFault::Malformed(fault)) => return Ok(refused(Refusal::Malformed(fault))),
@@ -170,6 +216,21 @@ impl Books {
             moment.seconds(),
             items,
         )?;
+        self.add_judged(call, judged, moment)
+    }
+
+    // The entry of an upload whose items were judged, and for which there is room, with what it writes.
+    fn add_judged(&self, call: &Call, judged: Outcome, moment: Moment) -> Result<Decision, NoMemory>
+        requires numbered { IsUploadNumber call.now.number }
+        requires judged { IsTakenBy self.now call.now moment judged }
+        requires entry { is_full self.now ≡ false }
+        requires bytes { is_too_much self.now call.now.body ≡ false }
+        ensures decides { Decides self.now (Upload call.now)
+            (body_outcome self.now call.now moment (items_of call.now.body)) result }
+        ensures next { AddsNext self.now (Upload call.now) result }
+    {
+        // A step of the proof: what sends it is named by an LEI.
+        let _ = call.office.as_bytes();
         let entry = taken_upload(
             self.alloc,
             self.ledger.entries(),

@@ -1,5 +1,6 @@
 // What an upload's items come to.
-ghost use Rattle.std.specs.Prelude.{◌≡◌, ◌≤◌, IfOk, length, map};
+ghost use Rattle.std.specs.Prelude.{◌≡◌, ◌≤◌, ◌+◌, IfOk, IsTrue, length, map};
+ghost use Rattle.cell_reads.specs.Reads.{Agrees};
 ghost use Rattle.lei_shapes.specs.Moment.{IsMoment, day_of};
 ghost use Rattle.lei_records.specs.Items.{ready as ready_of};
 ghost use Rattle.lei_records.specs.Tables.{record_count};
@@ -13,7 +14,7 @@ use lei_code::Lei;
 use lei_outside::NoMemory;
 use lei_records::{RawItem, Readied, ready};
 use lei_shapes::day_number;
-use register_judge::{JudgeStop, Outcome, judge_all};
+use register_judge::{JudgeStop, Outcome, Plan, judge_on};
 use register_table::Table;
 use std::alloc::Global;
 
@@ -37,7 +38,7 @@ pub fn judge(
 {
     let items = ready_all(alloc, raws)?;
     let room = records.saturating_sub(table.held());
-    match judge_all(
+    match judge_on(
         alloc,
         table,
         room,
@@ -51,8 +52,23 @@ pub fn judge(
     }
 }
 
+// Whether an upload comes to what was planned: on the day of the moment, if the table agrees with what the plan has read,
+// and if so many records are room for its new ones.
+pub fn is_usable(table: &Table, records: u32, moment: i64, plan: &Plan) -> bool
+    requires moment { IsMoment moment }
+    requires fits { record_count (rows table.now.held) ≤ records }
+    ensures day { IsTrue result → plan.now.today ≡ day_of moment }
+    ensures agrees { IsTrue result → Agrees plan.now.outcome.reads (rows table.now.held) }
+    ensures fits { IsTrue result
+        → record_count (rows table.now.held) + plan.now.outcome.new_records ≤ records }
+{
+    plan.today == day_number(moment)
+        && plan.outcome.new_records <= records.saturating_sub(table.held())
+        && table.agrees(&plan.outcome.reads)
+}
+
 // Asks the checks of each item's fields.
-fn ready_all(alloc: Global, raws: &[RawItem]) -> Result<Vec<Readied>, NoMemory>
+pub fn ready_all(alloc: Global, raws: &[RawItem]) -> Result<Vec<Readied>, NoMemory>
     ensures { IfOk result (λ items. items.items ≡ map ready_of raws.now) }
 {
     let mut items = Vec::with_capacity(alloc, raws.len())?;

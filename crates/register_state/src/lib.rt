@@ -8,9 +8,11 @@ mod decision;
 mod entries;
 mod judge;
 mod keeping;
+mod planning;
 mod publishing;
 mod register;
 
 pub use decision::Decision;
 pub use entries::RULES;
+pub use planning::{accepted_items, items_of, plan_of};
 pub use register::Register;

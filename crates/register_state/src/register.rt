@@ -1,7 +1,10 @@
 //! The register: it answers requests, and keeps what it takes.
-ghost use Rattle.std.specs.Prelude.{◌≡◌, ◌≤◌, IfOk, IsErrOf, IsSome, IsTrue, OnErr, Some};
+ghost use Rattle.std.specs.Prelude.{◌≡◌, ◌≤◌, take, IfOk, IfSome, IsErrOf, IsSome, IsTrue, OnErr, Some};
 ghost use Rattle.lei_outside.specs.Count.{Rose};
 ghost use Rattle.lei_shapes.specs.Moment.{IsMoment};
+ghost use Rattle.lei_records.specs.Tables.{cells_of};
+ghost use Rattle.fetched_cells.specs.Fetching.{HasJust, fetched_keys};
+ghost use Rattle.fetched_cells.specs.Maps.{cells_in};
 ghost use Rattle.upload_ledger.specs.Limits.{AreFew};
 ghost use Rattle.register_words.specs.declared.reply.Refusal.TheVariants.{KeeperFault};
 ghost use Rattle.register_words.specs.declared.reply.Reply.TheVariants.{Words};
@@ -10,20 +13,24 @@ ghost use Rattle.register_words.specs.Requests.{IsNumbered, IsUploadNumber};
 ghost use Rattle.register_words.specs.declared.request.Request.TheVariants.{Upload};
 ghost use Rattle.register_history.specs.Kept.{Keeps, StaysUntold};
 ghost use Rattle.register_history.specs.Legal.{Legal};
-ghost use Rattle.register_history.specs.Register.{held_after};
+ghost use Rattle.register_history.specs.Register.{after, held_after};
 ghost use Rattle.register_history.specs.Replies.{Step};
 ghost use Rattle.register_history.specs.State.{opened};
 ghost use Rattle.register_history.specs.Touching.{AreCellsTouched};
 ghost use Rattle.register_state.specs.Crashes.{CrashStays};
 ghost use Rattle.register_state.specs.Deciding.{reply_or};
+ghost use Rattle.register_state.specs.Planning.{IsPlanOf};
 ghost use Rattle.register_state.specs.Replaying.{ReplaysRequest};
 ghost use Rattle.register_state.specs.Shelving.{back_to};
 
 use crate::books::Books;
 use crate::decision::Decision;
+use fetched_cells::Fetched;
 use golden_shelf::Shelf;
 use lei_outside::{KeepFault, Keeper, KeptCell, KeptEntry, List, NoMemory};
+use lei_records::CellKey;
 use lei_shapes::Moment;
+use register_judge::Plan;
 use register_words::{Call, Limits, Reply, Request};
 use std::alloc::Global;
 use std::marker::Model;
@@ -91,6 +98,17 @@ impl Register {
         self.books.touched_cells(after, upto)
     }
 
+    /// The cells of these keys and, for each record among them, those of the walks from it (`Table::fetch`), at most
+    /// 50,000 in all. This project's profile.
+    pub fn fetch(&self, keys: &[CellKey]) -> Result<Fetched, NoMemory>
+        ensures cells { IfOk result (λ fetched. HasJust (cells_in fetched)
+            (cells_of (after self.now.limits self.now.history))
+            (take 50_000 (fetched_keys (cells_of (after self.now.limits self.now.history)) keys.now))) }
+        ensures legal { Legal self.now }
+    {
+        self.books.fetch(keys)
+    }
+
     /// Answers a request that came at this moment. An entry that is added is kept before it is answered; `Err` says why
     /// none could be.
     pub fn answer<K: Keeper, R: Threads + Sync>(
@@ -133,14 +151,18 @@ impl Register {
         }
     }
 
-    /// Answers an upload that came at this moment, as `answer` does its request. Nothing has to be copied for that.
+    /// Answers an upload that came at this moment, as `answer` does its request, whether there is a plan of it or none.
+    /// A plan is used if it is of the day, if the table agrees with what it has read, and if its new records fit: then
+    /// neither is the body read nor are its items judged. Nothing has to be copied for that.
     pub fn settle<K: Keeper>(
         &mut self,
         keeper: &mut K,
         call: &Call,
+        plan: Option<Plan>,
         moment: Moment,
     ) -> Result<Reply, KeepFault>
         requires numbered { IsUploadNumber call.now.number }
+        requires plan { IfSome plan (IsPlanOf call.now) }
         requires kept { Keeps (K.tables keeper.old) self.old }
         ensures step { Step self.old (Upload call.now) moment (reply_or result) self.new }
         ensures legal { Legal self.new }
@@ -154,7 +176,7 @@ impl Register {
         ensures failed { IsErrOf result KeepFault.Failed → Rose (K.faults keeper.old) (K.faults keeper.new) }
     {
         let moment = self.books.stamp(moment);
-        match self.books.upload(&mut self.reader, call, moment) {
+        match self.books.upload(&mut self.reader, call, plan, moment) {
             Ok(Decision::Stays(reply)) => Ok(reply),
             Ok(Decision::Adds(entry, writes)) => match self.books.add(keeper, entry, &writes) {
                 Ok(reply) => Ok(reply),

@@ -1,0 +1,53 @@
+//! Plans: what an upload comes to, judged ahead of its turn over a part of the table.
+ghost use Rattle.std.specs.Prelude.{IfSome};
+ghost use Rattle.register_state.specs.Planning.{AreItemsOf, IsPlanOf};
+
+use crate::judge::ready_all;
+use lei_records::{Readied, View};
+use lei_shapes::{Moment, day_number};
+use register_judge::{Plan, Verdict, judge_all};
+use register_words::Call;
+use std::alloc::Global;
+use upload_format::Reader;
+
+/// The items of an upload, with the checks of their fields asked. There are none if the body has no reading, or if memory
+/// runs out.
+pub fn items_of(alloc: Global, call: &Call) -> Option<Vec<Readied>>
+    ensures { IfSome result (λ items. AreItemsOf call.now items.items) }
+{
+    let mut reader = Reader::new(alloc);
+    let Ok(upload) = reader.read(alloc, call.body.as_slice()) else {
+        return None;
+    };
+    ready_all(alloc, upload.items.as_slice()).ok()
+}
+
+/// A plan of an upload, by what a view has of a table. There is none if the view lacks a cell that an item needs, or if
+/// memory runs out.
+pub fn plan_of<V: View>(
+    alloc: Global,
+    view: &V,
+    call: &Call,
+    items: &[Readied],
+    moment: Moment,
+) -> Option<Plan>
+    requires { AreItemsOf call.now items.now }
+    ensures { IfSome result (IsPlanOf call.now) }
+{
+    let today = day_number(moment.seconds());
+    match judge_all(alloc, view, u32::MAX, &call.office, today, items) {
+        Ok(outcome) => Some(Plan { outcome, today }),
+        Err(_) => None,
+    }
+}
+
+/// How many items a plan accepts.
+pub fn accepted_items(plan: &Plan) -> u32 {
+    let mut count: u32 = 0;
+    for verdict in plan.outcome.verdicts.as_slice() {
+        if *verdict == Verdict::Accepted {
+            count = count.saturating_add(1);
+        }
+    }
+    count
+}
