@@ -89,15 +89,16 @@ fn what_three_passes_ask_for_is_one_history(rt: HostRuntime) -> Result<(), Fail>
     Ok(())
 }
 
-// A caller with its pass, and what it was answered.
+/// A caller with its pass, and what it was answered to its request and to another one after it.
 #[derive(Drop)]
-struct Worker {
-    pass: Option<Pass>,
-    reply: Option<Reply>,
+pub struct Worker {
+    pub pass: Option<Pass>,
+    pub reply: Option<Reply>,
+    pub shown: Option<Reply>,
 }
 
-// A worker for each of these passes.
-fn workers_of(alloc: Global, mut passes: Vec<Pass>) -> Result<Vec<Worker>, AllocError>
+/// A worker for each of these passes.
+pub fn workers_of(alloc: Global, mut passes: Vec<Pass>) -> Result<Vec<Worker>, AllocError>
     ensures { IfOk result (λ workers. (table : TableId) → AreOf table passes.items
         → All (λ w. IsSomeAnd w.pass (λ p. p.table ≡ table)) workers.items) }
 {
@@ -106,6 +107,7 @@ fn workers_of(alloc: Global, mut passes: Vec<Pass>) -> Result<Vec<Worker>, Alloc
         workers.push(Worker {
             pass: Some(pass),
             reply: None,
+            shown: None,
         })?;
     }
     Ok(workers)
@@ -189,7 +191,8 @@ fn are_answered<R: Threads + Wait + Sync>(
     answered
 }
 
-fn is_answered(reply: &Option<Reply>, wanted: &[u8]) -> bool {
+/// Whether there is a reply of this text.
+pub fn is_answered(reply: &Option<Reply>, wanted: &[u8]) -> bool {
     match reply {
         Some(reply) => is_text(reply, wanted),
         None => false,

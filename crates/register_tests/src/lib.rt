@@ -2,6 +2,8 @@
 //! with tests is proved twice, with them and without, so no other crate has any.
 #![tactic(auto)]
 
+#[cfg(test)]
+mod ahead;
 pub mod batches;
 #[cfg(test)]
 mod copies;

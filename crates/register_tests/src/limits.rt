@@ -13,71 +13,107 @@ use std::thread::Threads;
 
 pub const ISSUER: &str = "506700GE1G29325QX363";
 
-const OTHER: &str = "HWUPKR0MPOU8FGXBT394";
+/// Another issuer.
+pub const OTHER: &str = "HWUPKR0MPOU8FGXBT394";
 
 /// 2025-01-11T00:00:00Z.
 pub const MOMENT: i64 = 1_736_553_600;
 
-// An upload of issued records in their compact form, with their names in byte order. Each has its name, its number at its
-// authority and its LEI, and what stands after it.
+// An upload of records in their compact form, with their names in byte order. Each has its name, its number at its
+// authority, its LEI and the manager of its record, its state, as `issued` or as `retired` with the LEI of its successor,
+// and what stands after it.
 macro_rules! upload {
-    ($([$name:literal $number:literal $lei:literal $after:literal])*) => {
+    ($([$name:literal $number:literal $lei:literal $manager:literal $entity:literal $successor:literal $status:literal $after:literal])*) => {
         concat!(
             r#"{"records":["#,
             $(
-                r#"{"Entity.EntityCategory":"GENERAL","Entity.EntityStatus":"ACTIVE","#,
-                r#""Entity.HeadquartersAddress.City":"Paris","Entity.HeadquartersAddress.Country":"FR","#,
+                r#"{"Entity.EntityCategory":"GENERAL","Entity.EntityStatus":""#, $entity,
+                r#"","Entity.HeadquartersAddress.City":"Paris","Entity.HeadquartersAddress.Country":"FR","#,
                 r#""Entity.HeadquartersAddress.FirstAddressLine":"1 Main Street","#,
                 r#""Entity.LegalAddress.City":"Paris","Entity.LegalAddress.Country":"FR","#,
                 r#""Entity.LegalAddress.FirstAddressLine":"1 Main Street","#,
                 r#""Entity.LegalForm.EntityLegalFormCode":"AB12","Entity.LegalJurisdiction":"FR","#,
                 r#""Entity.LegalName":""#, $name,
                 r#"","Entity.RegistrationAuthority.RegistrationAuthorityEntityID":""#, $number,
-                r#"","Entity.RegistrationAuthority.RegistrationAuthorityID":"RA000001","LEI":""#, $lei,
+                r#"","Entity.RegistrationAuthority.RegistrationAuthorityID":"RA000001""#, $successor,
+                r#","LEI":""#, $lei,
                 r#"","Registration.InitialRegistrationDate":"2025-01-10T09:00:00Z","#,
                 r#""Registration.LastUpdateDate":"2025-01-10T09:00:00Z","#,
-                r#""Registration.ManagingLOU":"506700GE1G29325QX363","#,
-                r#""Registration.NextRenewalDate":"2026-01-10T09:00:00Z","#,
-                r#""Registration.RegistrationStatus":"ISSUED","#,
-                r#""Registration.ValidationSources":"FULLY_CORROBORATED"}"#, $after
+                r#""Registration.ManagingLOU":""#, $manager,
+                r#"","Registration.NextRenewalDate":"2026-01-10T09:00:00Z","#,
+                r#""Registration.RegistrationStatus":""#, $status,
+                r#"","Registration.ValidationSources":"FULLY_CORROBORATED"}"#, $after
             ),*
         )
     };
 }
 
 /// An upload of one record.
-pub const ONE_RECORD: &str = upload!(["Alpha" "1001" "00000000000000000195" "]}"]);
+pub const ONE_RECORD: &str =
+    upload!(["Alpha" "1001" "00000000000000000195" "506700GE1G29325QX363" "ACTIVE" "" "ISSUED" "]}"]);
 
 /// An upload of two records.
 pub const TWO_RECORDS: &str = upload!(
-    ["Alpha" "1001" "00000000000000000195" ","]
-    ["Beta" "1002" "00000000000000000292" "]}"]
+    ["Alpha" "1001" "00000000000000000195" "506700GE1G29325QX363" "ACTIVE" "" "ISSUED" ","]
+    ["Beta" "1002" "00000000000000000292" "506700GE1G29325QX363" "ACTIVE" "" "ISSUED" "]}"]
 );
 
-// What is sent.
+/// An upload of a second record.
+pub const SECOND_RECORD: &str =
+    upload!(["Beta" "1002" "00000000000000000292" "506700GE1G29325QX363" "ACTIVE" "" "ISSUED" "]}"]);
+
+/// An upload of that record by another issuer.
+pub const SECOND_OF_OTHER: &str =
+    upload!(["Beta" "1002" "00000000000000000292" "HWUPKR0MPOU8FGXBT394" "ACTIVE" "" "ISSUED" "]}"]);
+
+/// An upload of a third record by another issuer, with the authority key of the second.
+pub const SAME_KEY_OF_OTHER: &str =
+    upload!(["Gamma" "1002" "00000000000000000389" "HWUPKR0MPOU8FGXBT394" "ACTIVE" "" "ISSUED" "]}"]);
+
+/// An upload that retires the first record with the second as its successor, and sends the second, which another issuer
+/// manages.
+pub const RETIRES_FIRST: &str = upload!(
+    ["Alpha" "1001" "00000000000000000195" "506700GE1G29325QX363" "INACTIVE"
+        r#","Entity.SuccessorEntity.1.SuccessorLEI":"00000000000000000292""# "RETIRED" ","]
+    ["Beta" "1002" "00000000000000000292" "506700GE1G29325QX363" "ACTIVE" "" "ISSUED" "]}"]
+);
+
+/// An upload by another issuer that retires the second record with the first as its successor.
+pub const RETIRES_SECOND: &str = upload!(
+    ["Beta" "1002" "00000000000000000292" "HWUPKR0MPOU8FGXBT394" "INACTIVE"
+        r#","Entity.SuccessorEntity.1.SuccessorLEI":"00000000000000000195""# "RETIRED" "]}"]
+);
+
+/// What is sent.
 #[derive(Clone, Copy)]
-enum Sent {
-    // The issuer that is accredited.
+pub enum Sent {
+    /// The issuer that is accredited.
     Accredit(&'static str),
-    // The number of an upload of [`ISSUER`], and its body.
+    /// The number of an upload of [`ISSUER`], and its body.
     Upload(u32, &'static str),
-    // The number of a publication.
+    /// The number of an upload of [`OTHER`], and its body.
+    UploadOfOther(u32, &'static str),
+    /// The number of a publication.
     Publish(u32),
 }
 
-// What is sent, and the status code and the words of the reply.
-type Step = (Sent, u16, &'static str);
+/// What is sent, and the status code and the words of the reply.
+pub type Step = (Sent, u16, &'static str);
 
 // What a step asks.
 fn request(alloc: Global, sent: Sent) -> Option<Request> {
     match sent {
         Sent::Accredit(issuer) => Some(Request::Accredit(code(issuer)?)),
         Sent::Upload(number, body) => Some(Request::Upload(call(alloc, number, body)?)),
+        Sent::UploadOfOther(number, body) => {
+            Some(Request::Upload(call_of(alloc, OTHER, number, body)?))
+        }
         Sent::Publish(number) => Some(Request::Publish(number)),
     }
 }
 
-fn code(text: &str) -> Option<Lei> {
+/// The code that a text is.
+pub fn code(text: &str) -> Option<Lei> {
     match Lei::read(text.as_bytes()) {
         Ok(code) => Some(code),
         Err(_) => None,
@@ -88,7 +124,14 @@ fn code(text: &str) -> Option<Lei> {
 pub fn call(alloc: Global, number: u32, body: &str) -> Option<Call>
     ensures { IfSome result (λ call. call.number ≡ number) }
 {
-    let office = code(ISSUER)?;
+    call_of(alloc, ISSUER, number, body)
+}
+
+/// An upload of an issuer with this number and body.
+pub fn call_of(alloc: Global, issuer: &str, number: u32, body: &str) -> Option<Call>
+    ensures { IfSome result (λ call. call.number ≡ number) }
+{
+    let office = code(issuer)?;
     match Shared::copy_of(alloc, body.as_bytes()) {
         Ok(body) => Some(Call {
             office,
@@ -145,8 +188,8 @@ fn takes<R: Threads + Sync, K: Keeper>(
     }
 }
 
-// Whether each step in turn is answered as it says.
-fn takes_all<R: Threads + Sync, K: Keeper>(
+/// Whether each step in turn is answered as it says.
+pub fn takes_all<R: Threads + Sync, K: Keeper>(
     rt: &R,
     alloc: Global,
     office: &mut Office<K>,
@@ -175,10 +218,18 @@ fn answers<R: Threads + Sync>(rt: &R, alloc: Global, limits: Limits, steps: &[St
     }
 }
 
-const ACCREDITED: Step = (
+/// The accreditation of [`ISSUER`].
+pub const ACCREDITED: Step = (
     Sent::Accredit(ISSUER),
     200,
     r#"{"entry":1,"issuer":"506700GE1G29325QX363"}"#,
+);
+
+/// The accreditation of [`OTHER`] after it.
+pub const OTHER_ACCREDITED: Step = (
+    Sent::Accredit(OTHER),
+    200,
+    r#"{"entry":2,"issuer":"HWUPKR0MPOU8FGXBT394"}"#,
 );
 
 const ONE_ITEM: &str = r#"{"records":[{"LEI":"00000000000000000195"}]}"#;
@@ -257,11 +308,7 @@ fn an_office_keeps_entries_to_their_limit(rt: HostRuntime) -> Result<(), Fail> {
     };
     let steps = [
         ACCREDITED,
-        (
-            Sent::Accredit(OTHER),
-            200,
-            r#"{"entry":2,"issuer":"HWUPKR0MPOU8FGXBT394"}"#,
-        ),
+        OTHER_ACCREDITED,
         (Sent::Accredit("5493001KJTIIGC8Y1R12"), 507, "LEDGER_FULL"),
         ACCREDITED,
         (Sent::Upload(1, ONE_ITEM), 507, "LEDGER_FULL"),

@@ -35,21 +35,33 @@ fn desk_of<D: Door>(door: D) -> Desk<D, Still>
     Desk { door, clock: Still }
 }
 
-// A desk for each worker of a server, through whose door one link comes that sends this.
-fn desks_of(
+/// A desk for each worker of a server, through whose door one link comes that sends the text at its place, or the first
+/// if there is none.
+pub fn desks_of(
     alloc: Global,
     server: &WantedRun<'_>,
-    sent: &str,
+    sent: &[String],
 ) -> Result<Vec<Desk<ListDoor, Still>>, NoMemory>
     ensures count { IfOk result (λ desks. length desks.items ≡ server.now.workers) }
     ensures doors { IfOk result (λ desks. All (λ desk. desk.door.out ≡ false) desks.items) }
 {
     let mut desks = Vec::new(alloc);
-    for _number in 0..server.workers {
-        let door = door_of(alloc, bytes_of(alloc, sent)?)?;
+    for number in 0..server.workers {
+        let door = door_of(alloc, bytes_of(alloc, text_at(sent, number))?)?;
         desks.push(desk_of(door))?;
     }
     Ok(desks)
+}
+
+// The text at a place, or the first if there is none.
+fn text_at(texts: &[String], place: u32) -> &str {
+    match texts.get(place as usize) {
+        Some(text) => text.as_str(),
+        None => match texts {
+            [first, ..] => first.as_str(),
+            [] => "",
+        },
+    }
 }
 
 // Whether this came back of the one link of a desk.
@@ -66,7 +78,7 @@ fn is_done<R: Threads + Wait + Sync>(
     alloc: Global,
     words: &[String],
     workers: usize,
-    sent: &str,
+    sent: &[String],
     wanted: &str,
 ) -> bool {
     let Ok(server) = server_of(alloc, words) else {
@@ -91,8 +103,9 @@ fn a_server_answers_the_connections_of_its_doors(rt: HostRuntime) -> Result<(), 
     let (_, rest) = CONNECTIONS.split_once('~').ok_or("a title")?;
     let (first, _) = rest.split_once('^').ok_or("a connection")?;
     let (_, sent, wanted) = parts_of(first).ok_or("its parts")?;
-    assert!(rt; is_done(&rt, rt.alloc(), &one, 1, sent, wanted));
-    assert!(rt; is_done(&rt, rt.alloc(), &two, 2, sent, wanted));
+    let sent = [String::from_str(rt.alloc(), sent)?];
+    assert!(rt; is_done(&rt, rt.alloc(), &one, 1, &sent, wanted));
+    assert!(rt; is_done(&rt, rt.alloc(), &two, 2, &sent, wanted));
     Ok(())
 }
 
