@@ -56,7 +56,7 @@ impl<K: Keeper> Model for Hall<K> {
 
 impl<K: Keeper> Hall<K> {
     /// A hall over this office, with so many passes. An `Err` is want of memory, and hands the office back.
-    /// `meet` and `close` take no memory, and the other calls none beside what the office takes.
+    /// `meet` and `close` take no memory, and `ask` takes none beside what the office takes.
     pub fn open(
         alloc: Global,
         office: Office<K>,
