@@ -111,10 +111,11 @@ trait Watch: Gate {
     fn note_reply(&self, issuer: &Lei);
 }
 
-// Holds the uploads of the first issuer up until one of another was answered, and counts those of which one item was
-// accepted ahead.
+// Holds the uploads of the first issuer up until one of another was answered, and those of others until one of the first
+// has come. Counts those of which one item was accepted ahead.
 #[derive(Drop)]
 struct AfterOther {
+    come: AtomicU64,
     answered: AtomicU64,
     ahead: AtomicU64,
 }
@@ -125,7 +126,10 @@ impl Gate for AfterOther {
             self.ahead.fetch_add(1, Ordering::SeqCst);
         }
         if office.as_slice() == ISSUER.as_bytes() {
+            self.come.fetch_add(1, Ordering::SeqCst);
             wait_for(&self.answered, 1);
+        } else {
+            wait_for(&self.come, 1);
         }
     }
 }
@@ -283,6 +287,7 @@ fn are_answered(workers: &[Worker]) -> bool {
 #[test]
 fn an_upload_that_waits_after_it_was_judged_is_judged_again(rt: HostRuntime) -> Result<(), Fail> {
     let gate = AfterOther {
+        come: AtomicU64::new(0),
         answered: AtomicU64::new(0),
         ahead: AtomicU64::new(0),
     };
