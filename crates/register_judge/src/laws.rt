@@ -68,7 +68,7 @@ pub fn limits_that_suffice_are_alike()
         → take table (sitting_by rules small today issuer) items
         ≡ take table (sitting_by rules big today issuer) items }
     ensures agreed { (outcome : Outcome) (limit : ℕ) (today : ℤ) (issuer : Lei) (items : List Readied)
-        (table : Table) → IsAgreed outcome 4294967295 today issuer items → IsSound table → Agrees outcome.reads table
-        → record_count table + outcome.new_records ≤ limit → limit ≤ 4294967295
+        (table : Table) → IsAgreed outcome 4294967295 today issuer items → IsSound table
+        → Agrees outcome.reads table → record_count table + outcome.new_records ≤ limit → limit ≤ 4294967295
         → Takes (Ok outcome) (take table (sitting_by Rules.First limit today issuer) items) }
 {}

@@ -52,8 +52,8 @@ pub fn judge(
     }
 }
 
-// Whether an upload comes to what was planned: on the day of the moment, if the table agrees with what the plan has read,
-// and if so many records are room for its new ones.
+// Whether an upload comes to what was planned: the plan is of the moment's day, the table agrees with what the plan has
+// read, and there is room for the plan's new records.
 pub fn is_usable(table: &Table, records: u32, moment: i64, plan: &Plan) -> bool
     requires moment { IsMoment moment }
     requires fits { record_count (rows table.now.held) ≤ records }

@@ -10,8 +10,8 @@ use register_words::Call;
 use std::alloc::Global;
 use upload_format::Reader;
 
-/// The items of an upload, with the checks of their fields asked. There are none if the body has no reading, or if memory
-/// runs out.
+/// The items of an upload, with the checks of their fields asked. There are none if the body has no reading, or if
+/// memory runs out.
 pub fn items_of(alloc: Global, call: &Call) -> Option<Vec<Readied>>
     ensures { IfSome result (λ items. AreItemsOf call.now items.items) }
 {

@@ -1,5 +1,5 @@
-//! Uploads that are judged ahead of their turns: a plan that is stale when its turn comes, and callers who are judged at
-//! once.
+//! Uploads that are judged ahead of their turns: a plan that is stale when its turn comes, and callers who are judged
+//! at once.
 ghost use Rattle.std.specs.Prelude.{◌≡◌, All, IsSomeAnd};
 ghost use Rattle.std.specs.Thread.{IsSync};
 ghost use Rattle.register_words.specs.Requests.{IsUploadNumber};
@@ -111,8 +111,8 @@ trait Watch: Gate {
     fn note_reply(&self, issuer: &Lei);
 }
 
-// Holds the uploads of the first issuer up until one of another was answered, and those of others until one of the first
-// has come. Counts those of which one item was accepted ahead.
+// Holds the uploads of the first issuer up until one of another was answered, and those of others until one of the
+// first has come. Counts those of which one item was accepted ahead.
 #[derive(Drop)]
 struct AfterOther {
     come: AtomicU64,

@@ -224,9 +224,9 @@ struct Replies {
     repeated: Reply,
 }
 
-// The calls of two callers, one after the other. The first accredits the issuer of an upload, and the second asks what is
-// kept of it. They meet. Then the second sends the upload, and the first sends the same. The replies to the last three
-// requests come back with the passes.
+// The calls of two callers, one after the other. The first accredits the issuer of an upload, and the second asks what
+// is kept of it. They meet. Then the second sends the upload, and the first sends the same. The replies to the last
+// three requests come back with the passes.
 fn call_in_turn<K: Keeper, R: Threads + Wait + Sync>(
     rt: &R,
     hall: &Hall<K>,

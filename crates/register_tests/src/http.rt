@@ -492,8 +492,8 @@ pub fn parts_of(text: &str) -> Option<(&str, &str, &str)> {
     Some((ended, sent, wanted))
 }
 
-// Whether a connection comes out as its parts say, which are how it ends, what is sent and what comes back, with at most
-// so many bytes at once.
+// Whether a connection comes out as its parts say, which are how it ends, what is sent and what comes back, with at
+// most so many bytes at once.
 fn comes_back<R: Threads + Wait + Sync>(
     rt: &R,
     alloc: Global,
