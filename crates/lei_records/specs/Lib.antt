@@ -11,5 +11,6 @@ pub mod Exceptions
 pub mod Cells
 pub mod Tables
 pub mod Parents
+pub mod SuccessorLists
 pub mod Walks
 pub mod Sheets

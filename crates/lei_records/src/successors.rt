@@ -1,0 +1,98 @@
+//! The successors of a record: up to five LEIs in place, so that a cell that has them stays `Copy`.
+ghost use Rattle.std.specs.Prelude.{◌≡◌, ◌==◌, ◌<◌, ◌++◌, ◌∷◌, [], length, slice_get};
+ghost use Rattle.lei_records.specs.SuccessorLists.{filler, most_successors};
+
+use lei_code::Lei;
+use std::marker::Model;
+
+// How many successors a record names at most.
+const MOST_SUCCESSORS: usize = 5;
+
+/// The entities that followed one, in the order in which its record names them: at most five LEIs. Contracts see the
+/// list of them.
+#[derive(Clone, Copy, Debug, PartialEq, Eq)]
+pub struct Successors {
+    count: u8,
+    // Those past the count aren't read: each is the filler.
+    codes: [Lei; MOST_SUCCESSORS],
+}
+
+impl Model for Successors {
+    ghost use Rattle.std.specs.Prelude.{List, ℕ};
+
+    ghost Value = { List (List ℕ) };
+
+    ghost use Rattle.lei_records.specs.SuccessorLists.{IsFilled, fields_of, fields_of-listed, listed};
+
+    ghost view = { listed };
+
+    ghost invariant = { IsFilled };
+
+    ghost inverse = { fields_of };
+
+    ghost inverse_ok = { fields_of-listed };
+}
+
+impl Successors {
+    /// No successors.
+    pub fn none() -> Self
+        ensures { result ≡ [] }
+    {
+        Successors {
+            count: 0,
+            codes: [filler(); MOST_SUCCESSORS],
+        }
+    }
+
+    /// These and one more, as the last.
+    pub fn with(self, lei: Lei) -> Self
+        requires { length self < most_successors }
+        ensures { result ≡ self ++ lei ∷ [] }
+    {
+        let mut codes = self.codes;
+        codes[usize::from(self.count)] = lei;
+        Successors {
+            count: self.count + 1,
+            codes,
+        }
+    }
+
+    /// How many they are.
+    pub fn len(&self) -> usize
+        ensures { result ≡ length self.now }
+    {
+        usize::from(self.count)
+    }
+
+    /// Whether there are none.
+    pub fn is_empty(&self) -> bool
+        ensures { result ≡ (length self.now == 0) }
+    {
+        self.count == 0
+    }
+
+    /// They as a slice.
+    pub fn as_slice(&self) -> &[Lei]
+        ensures { result.now ≡ self.now }
+    {
+        &self.codes[..usize::from(self.count)]
+    }
+
+    /// The first of them.
+    pub fn first(&self) -> Option<Lei>
+        ensures { result ≡ slice_get self.now 0 }
+    {
+        self.as_slice().first().copied()
+    }
+}
+
+// The LEI at the places past the count.
+#[tactic(auto, unfolding(lei_code::specs::Fault::fault_of, lei_code::specs::Fault::first_wrong, lei_code::specs::Number::number))]
+fn filler() -> Lei
+    ensures { result ≡ filler }
+{
+    match Lei::read(b"00000000000000000098") {
+        Ok(lei) => lei,
+        Err(_) => unreachable!(),
+    }
+}
