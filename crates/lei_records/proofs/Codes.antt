@@ -12,7 +12,7 @@ use Rattle.lei_code.specs.Code.{character, may_stand, IsWellFormed, IsValid}
 use Rattle.lei_shapes.specs.Shape.{is_code, is_capital_or_digit}
 
 -- what all pass, the one at an index passes
-passes_at : {X : Type 0} (p : X → Bool) (xs : List X) (i : ℕ) (d : X) → list_all p xs ≡ true → i < length xs → p (get_or xs i d) ≡ true
+pub passes_at : {X : Type 0} (p : X → Bool) (xs : List X) (i : ℕ) (d : X) → list_all p xs ≡ true → i < length xs → p (get_or xs i d) ≡ true
 passes_at p xs i d all within =
     elim (p (get_or xs i d)) as (λ b. p (get_or xs i d) ≡ b → b ≡ true) [
       | true ↦ λ is. refl

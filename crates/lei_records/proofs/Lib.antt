@@ -1,5 +1,6 @@
 pub mod SheetLemmas
 pub mod Codes
+pub mod SuccessorTexts
 pub mod RowLemmas
 pub mod NameLemmas
 pub mod PassLemmas

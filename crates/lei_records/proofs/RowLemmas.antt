@@ -1,9 +1,9 @@
 -- The checks of an item by its texts in order of place, and the row that it has where they pass.
 use Rattle.std.proofs.Common.{◌≡◌, ℕ, ℤ, ◌<◌, ◌%◌, zero, suc, List, [], ◌∷◌, Bool, true, false, not, ◌&&◌, cond, length, get_or, map, take, min, Option, None, Some, unwrap_or, refl, sym, ap, subst, ◌∙◌, arith, lit<}
 use Rattle.std.specs.Prelude.{◌==◌, codes, IfSome, is_some, IfOk, Result, Ok, Err}
-use Rattle.std.proofs.lemmas.Bool.{false≢true}
+use Rattle.std.proofs.lemmas.Bool.{false≢true, or_parts}
 use Rattle.std.proofs.lemmas.Int.{ints}
-use Rattle.std.specs.List.{find, zip}
+use Rattle.std.specs.List.{find, list_any, zip}
 use Rattle.std.specs.Option.{option_map, option_or}
 use Rattle.std.specs.Map.{lookup}
 use Rattle.std.specs.Str.{bytes_eq}
@@ -25,16 +25,18 @@ use Rattle.lei_records.specs.declared.fields.Kind.{Kind}
 use Rattle.lei_records.specs.declared.fields.Need.{Need}
 use Rattle.lei_records.specs.declared.item.Readied.{Readied}
 use Rattle.lei_records.specs.declared.readying.FieldCheck.{FieldCheck}
+use Rattle.lei_records.specs.declared.rules.Rules.{Rules}
 use Rattle.lei_records.specs.Checks.{FailedCheck}
-use Rattle.lei_records.specs.Fields.{Field, exception_fields, field_count, fields, fields_of, fits_content, is_code_content, is_needed, may_stand, relation_fields, row_fields, row_len}
+use Rattle.lei_records.specs.Fields.{Field, exception_fields, field_count, fields, fields_of, codes_in, fits_content, is_needed, may_stand, relation_fields, row_fields, row_len, successors_shape}
 use Rattle.lei_records.specs.Items.{facts_of, failed_check, failed_field, first_field, has_other_remainder, is_archival, is_field, is_withdrawal, item_of, row_text, miscoded_field, misshapen_field, missing_field, printed, readied, row_of, text_of, unknown_name}
 use Rattle.lei_records.specs.Names.{AreRising, names}
 use Rattle.lei_records.specs.Rows.{Row}
-use Rattle.lei_records.specs.Sheets.{field_fails, first_unknown, facts_at, failed_at, first_at, printed_at, readied_by, texts_of}
-use Rattle.lei_records.specs.Spelled.{IsExceptionRow, IsListed, IsPrinted, IsRelationRow, IsRow, IsRowOf, is_absent, present}
+use Rattle.lei_records.specs.Sheets.{field_fails, first_unknown, facts_at, failed_at, first_at, printed_at, readied_by, texts_of, withdraws_at}
+use Rattle.lei_records.specs.Spelled.{AreCodes, IsExceptionRow, IsListed, IsPrinted, IsRelationRow, IsRow, IsRowOf, is_absent, present}
 use Rattle.lei_records.proofs.Codes.{IsValid-from_shape}
 use Rattle.lei_records.proofs.NameLemmas.{least-first, none_first_of}
 use Rattle.lei_records.proofs.SheetLemmas.{find-map, length-fields_of, map-map}
+use Rattle.lei_records.proofs.SuccessorTexts.{AreCodes-from_shape}
 
 -- ---- by place as by name
 
@@ -88,31 +90,31 @@ never_withdrawn : (kind : Kind) (pairs : List (List ℕ × List ℕ)) → is_fie
 never_withdrawn kind pairs none known = sym (ap (λ text. bytes_eq text (codes "WITHDRAW")) (not_sent kind (codes "Action") pairs none known))
 
 -- what the needs depend on, by place as by name
-facts_at-texts_of : (kind : Kind) (pairs : List (List ℕ × List ℕ)) → first_unknown kind pairs ≡ None → facts_at kind (texts_of kind pairs) ≡ facts_of pairs
+facts_at-texts_of : (rules : Rules) (kind : Kind) (pairs : List (List ℕ × List ℕ)) → first_unknown kind pairs ≡ None → facts_at rules kind (texts_of kind pairs) ≡ facts_of rules pairs
 unfolding fields relation_fields exception_fields
-facts_at-texts_of Kind.Record pairs known =
+facts_at-texts_of rules Kind.Record pairs known =
     let same = never_withdrawn Kind.Record pairs no_action known in
-    λ i. record { archival = is_archival pairs; withdrawal = same i }
-facts_at-texts_of Kind.Relation pairs known =
+    λ i. record { rules = rules; archival = is_archival pairs; withdrawal = same i }
+facts_at-texts_of rules Kind.Relation pairs known =
     let same = never_withdrawn Kind.Relation pairs no_action_either known in
-    λ i. record { archival = is_archival pairs; withdrawal = same i }
-facts_at-texts_of Kind.Exception pairs known =
+    λ i. record { rules = rules; archival = is_archival pairs; withdrawal = same i }
+facts_at-texts_of rules Kind.Exception pairs known =
     let same : false ≡ is_archival pairs = sym (ap (λ text. bytes_eq text (codes "PENDING_ARCHIVAL")) (not_sent Kind.Exception (codes "Registration.RegistrationStatus") pairs no_status known)) in
-    λ i. record { archival = same i; withdrawal = is_withdrawal pairs }
+    λ i. record { rules = rules; archival = same i; withdrawal = is_withdrawal pairs }
 
 name_of_found : {Y : Type 0} (g : Field → Y) (found : Option Field) → option_map (λ (entry : Field × Y). entry.0.0) (option_map (λ field. (field, g field)) found) ≡ option_map (λ field. field.0) found
 name_of_found g None = refl
 name_of_found g (Some field) = refl
 
-pub first_at-texts_of : (check : FieldCheck) (kind : Kind) (pairs : List (List ℕ × List ℕ)) → first_unknown kind pairs ≡ None → first_at check kind (texts_of kind pairs) ≡ first_field (field_fails check (facts_of pairs)) kind pairs
+pub first_at-texts_of : (rules : Rules) (check : FieldCheck) (kind : Kind) (pairs : List (List ℕ × List ℕ)) → first_unknown kind pairs ≡ None → first_at rules check kind (texts_of kind pairs) ≡ first_field (field_fails check (facts_of rules pairs)) kind pairs
 unfolding first_at
-first_at-texts_of check kind pairs known =
+first_at-texts_of rules check kind pairs known =
     let text : Field → List ℕ = λ field. text_of pairs field.0 in
     let asks : Facts → Field × List ℕ → Bool = λ facts entry. field_fails check facts entry.0 entry.1 in
-    ap (λ facts. option_map (λ entry. entry.0.0) (find (asks facts) (zip (fields_of kind) (texts_of kind pairs)))) (facts_at-texts_of kind pairs known)
-    ∙ (ap (λ l. option_map (λ entry. entry.0.0) (find (asks (facts_of pairs)) l)) (zip-self text (fields_of kind))
-    ∙ (ap (option_map (λ entry. entry.0.0)) (find-map (asks (facts_of pairs)) (λ field. (field, text field)) (fields_of kind))
-    ∙ name_of_found text (find (λ field. field_fails check (facts_of pairs) field (text field)) (fields_of kind))))
+    ap (λ facts. option_map (λ entry. entry.0.0) (find (asks facts) (zip (fields_of kind) (texts_of kind pairs)))) (facts_at-texts_of rules kind pairs known)
+    ∙ (ap (λ l. option_map (λ entry. entry.0.0) (find (asks (facts_of rules pairs)) l)) (zip-self text (fields_of kind))
+    ∙ (ap (option_map (λ entry. entry.0.0)) (find-map (asks (facts_of rules pairs)) (λ field. (field, text field)) (fields_of kind))
+    ∙ name_of_found text (find (λ field. field_fails check (facts_of rules pairs) field (text field)) (fields_of kind))))
 
 pub printed_at-texts_of : (kind : Kind) (pairs : List (List ℕ × List ℕ)) → printed_at kind (texts_of kind pairs) ≡ row_of kind pairs
 unfolding printed_at row_of
@@ -120,11 +122,11 @@ printed_at-texts_of kind pairs =
     let make : Field × List ℕ → List ℕ = λ entry. row_text entry.0.1 entry.1 in
     ap (map make) (zip-front (λ field. text_of pairs field.0) (row_len kind) (fields_of kind)) ∙ map-map make (λ field. (field, text_of pairs field.0)) (row_fields kind)
 
-pub failed_at-texts_of : (kind : Kind) (pairs : List (List ℕ × List ℕ)) → unknown_name kind pairs ≡ None → failed_check kind pairs ≡ failed_at kind (texts_of kind pairs)
+pub failed_at-texts_of : (rules : Rules) (kind : Kind) (pairs : List (List ℕ × List ℕ)) → unknown_name kind pairs ≡ None → failed_check rules kind pairs ≡ failed_at rules kind (texts_of kind pairs)
 unfolding failed_check failed_at
-failed_at-texts_of kind pairs known =
+failed_at-texts_of rules kind pairs known =
     let first = none_unknown kind pairs known in
-    rw (known, first_at-texts_of FieldCheck.Presence kind pairs first, first_at-texts_of FieldCheck.Shape kind pairs first, first_at-texts_of FieldCheck.Digits kind pairs first) refl
+    rw (known, first_at-texts_of rules FieldCheck.Presence kind pairs first, first_at-texts_of rules FieldCheck.Shape kind pairs first, first_at-texts_of rules FieldCheck.Digits kind pairs first) refl
 
 -- ---- a row of texts that pass
 
@@ -174,11 +176,11 @@ within_entries (f ∷ fs) (t ∷ texts) zero first second = omega arith
 within_entries (f ∷ fs) (t ∷ texts) (suc k) first second = let rest = within_entries fs texts k (omega (arith, first)) (omega (arith, second)) in omega (arith, rest)
 
 -- what a check that finds no field says of each
-asked_at : (check : FieldCheck) (kind : Kind) (texts : Row) → length texts ≡ field_count kind → first_at check kind texts ≡ None → (k : ℕ) → k < field_count kind
-    → field_fails check (facts_at kind texts) (field_at kind k) (sent texts k) ≡ false
+asked_at : (rules : Rules) (check : FieldCheck) (kind : Kind) (texts : Row) → length texts ≡ field_count kind → first_at rules check kind texts ≡ None → (k : ℕ) → k < field_count kind
+    → field_fails check (facts_at rules kind texts) (field_at kind k) (sent texts k) ≡ false
 unfolding first_at
-asked_at check kind texts len none k bound =
-    let asks : Field × List ℕ → Bool = λ entry. field_fails check (facts_at kind texts) entry.0 entry.1 in
+asked_at rules check kind texts len none k bound =
+    let asks : Field × List ℕ → Bool = λ entry. field_fails check (facts_at rules kind texts) entry.0 entry.1 in
     ap asks (sym (entry_at kind texts len k bound))
     ∙ none_found asks (zip (fields_of kind) texts) k (blank, []) (unmapped (λ entry. entry.0.0) (find asks (zip (fields_of kind) texts)) none)
     (within_entries (fields_of kind) texts k (rw (length-fields_of kind) bound) (rw len bound))
@@ -191,11 +193,11 @@ row_at kind texts len k bound =
     ∙ ap make (row_entry_at kind texts len k bound)
 
 -- what the texts at the places of a kind of item have passed
-record Passed (kind : Kind) (texts : Row) : Type 0 where
+record Passed (rules : Rules) (kind : Kind) (texts : Row) : Type 0 where
   len : length texts ≡ field_count kind
-  presence : (k : ℕ) → k < field_count kind → field_fails FieldCheck.Presence (facts_at kind texts) (field_at kind k) (sent texts k) ≡ false
-  shape : (k : ℕ) → k < field_count kind → field_fails FieldCheck.Shape (facts_at kind texts) (field_at kind k) (sent texts k) ≡ false
-  digits : (k : ℕ) → k < field_count kind → field_fails FieldCheck.Digits (facts_at kind texts) (field_at kind k) (sent texts k) ≡ false
+  presence : (k : ℕ) → k < field_count kind → field_fails FieldCheck.Presence (facts_at rules kind texts) (field_at kind k) (sent texts k) ≡ false
+  shape : (k : ℕ) → k < field_count kind → field_fails FieldCheck.Shape (facts_at rules kind texts) (field_at kind k) (sent texts k) ≡ false
+  digits : (k : ℕ) → k < field_count kind → field_fails FieldCheck.Digits (facts_at rules kind texts) (field_at kind k) (sent texts k) ≡ false
 
 fit : (absent fits may : Bool) → absent ≡ false → not absent && not (fits && may) ≡ false → fits ≡ true
 fit true fits may stands passes = cc
@@ -207,10 +209,10 @@ right true true fits passes = refl
 right true false fits passes = cc
 right false check fits passes = cc
 
-valid_code : (text : List ℕ) (may : Bool) → is_absent text ≡ false → not (is_absent text) && not (is_code text && may) ≡ false → has_other_remainder text ≡ false → IsValid text
+valid_code : (text : List ℕ) (may : Bool) → is_absent text ≡ false → not (is_absent text) && not (is_code text && may) ≡ false → list_any has_other_remainder (text ∷ []) ≡ false → IsValid text
 valid_code text may stands shape digits =
     let fits : is_code text ≡ true = fit (is_absent text) (is_code text) may stands shape in
-    IsValid-from_shape text fits (right (is_code text) (number text % 97 == 1) fits digits)
+    IsValid-from_shape text fits (right (is_code text) (number text % 97 == 1) fits (or_parts (has_other_remainder text) false digits).0)
 
 is_moment-holds : (s : ℤ) → is_moment s ≡ true → IsMoment s
 is_moment-holds s is = grind (arith, ints)
@@ -253,52 +255,52 @@ absent_stays text stands =
       | false ↦ λ is other. refl
     ] refl stands
 
-same_at : (kind : Kind) (texts : Row) → Passed kind texts → (k : ℕ) → k < row_len kind → (shape : Shape) → (field_at kind k).1 ≡ Content.Shaped shape
+same_at : {rules : Rules} (kind : Kind) (texts : Row) → Passed rules kind texts → (k : ℕ) → k < row_len kind → (shape : Shape) → (field_at kind k).1 ≡ Content.Shaped shape
     → get_or (printed_at kind texts) k [] ≡ printed shape (sent texts k)
 same_at kind texts passed k bound shape is = row_at kind texts passed.len k bound ∙ ap (λ content. row_text content (sent texts k)) is
 
-stands_at : (kind : Kind) (texts : Row) → Passed kind texts → (k : ℕ) → k < row_len kind → (field_at kind k).2 ≡ Need.Always → is_absent (sent texts k) ≡ false
-stands_at kind texts passed k bound is =
-    let P : Need → Type 0 = λ need. is_needed (facts_at kind texts) need && is_absent (sent texts k) ≡ false in subst P is (passed.presence k (row-within kind k bound))
+stands_at : {rules : Rules} (kind : Kind) (texts : Row) → Passed rules kind texts → (k : ℕ) → k < row_len kind → (field_at kind k).2 ≡ Need.Always → is_absent (sent texts k) ≡ false
+stands_at {rules} kind texts passed k bound is =
+    let P : Need → Type 0 = λ need. is_needed (facts_at rules kind texts) need && is_absent (sent texts k) ≡ false in subst P is (passed.presence k (row-within kind k bound))
 
-shaped_at : (kind : Kind) (texts : Row) → Passed kind texts → (k : ℕ) → k < row_len kind → (shape : Shape) → (field_at kind k).1 ≡ Content.Shaped shape
-    → not (is_absent (sent texts k)) && not (fits_shape shape (sent texts k) && may_stand (facts_at kind texts) (field_at kind k).2) ≡ false
-shaped_at kind texts passed k bound shape is =
-    let P : Content → Type 0 = λ content. not (is_absent (sent texts k)) && not (fits_content content (sent texts k) && may_stand (facts_at kind texts) (field_at kind k).2) ≡ false in
+shaped_at : {rules : Rules} (kind : Kind) (texts : Row) → Passed rules kind texts → (k : ℕ) → k < row_len kind → (shape : Shape) → (field_at kind k).1 ≡ Content.Shaped shape
+    → not (is_absent (sent texts k)) && not (fits_shape shape (sent texts k) && may_stand (facts_at rules kind texts) (field_at kind k).2) ≡ false
+shaped_at {rules} kind texts passed k bound shape is =
+    let P : Content → Type 0 = λ content. not (is_absent (sent texts k)) && not (fits_content rules content (sent texts k) && may_stand (facts_at rules kind texts) (field_at kind k).2) ≡ false in
     subst P is (passed.shape k (row-within kind k bound))
 
-fits_at : (kind : Kind) (texts : Row) → Passed kind texts → (k : ℕ) → k < row_len kind → (shape : Shape) → (field_at kind k).1 ≡ Content.Shaped shape → is_absent (sent texts k) ≡ false → fits_shape shape (sent texts k) ≡ true
-fits_at kind texts passed k bound shape is stands =
-    fit (is_absent (sent texts k)) (fits_shape shape (sent texts k)) (may_stand (facts_at kind texts) (field_at kind k).2) stands (shaped_at kind texts passed k bound shape is)
+fits_at : {rules : Rules} (kind : Kind) (texts : Row) → Passed rules kind texts → (k : ℕ) → k < row_len kind → (shape : Shape) → (field_at kind k).1 ≡ Content.Shaped shape → is_absent (sent texts k) ≡ false → fits_shape shape (sent texts k) ≡ true
+fits_at {rules} kind texts passed k bound shape is stands =
+    fit (is_absent (sent texts k)) (fits_shape shape (sent texts k)) (may_stand (facts_at rules kind texts) (field_at kind k).2) stands (shaped_at kind texts passed k bound shape is)
 
-code_at : (kind : Kind) (texts : Row) → Passed kind texts → (k : ℕ) → k < row_len kind → (field_at kind k).1 ≡ Content.Shaped Shape.Code → is_absent (sent texts k) ≡ false → IsValid (get_or (printed_at kind texts) k [])
-code_at kind texts passed k bound is stands =
-    let P : Content → Type 0 = λ content. is_code_content content && has_other_remainder (sent texts k) ≡ false in
+code_at : {rules : Rules} (kind : Kind) (texts : Row) → Passed rules kind texts → (k : ℕ) → k < row_len kind → (field_at kind k).1 ≡ Content.Shaped Shape.Code → is_absent (sent texts k) ≡ false → IsValid (get_or (printed_at kind texts) k [])
+code_at {rules} kind texts passed k bound is stands =
+    let P : Content → Type 0 = λ content. list_any has_other_remainder (codes_in content (sent texts k)) ≡ false in
     subst IsValid (sym (same_at kind texts passed k bound Shape.Code is))
-    (valid_code (sent texts k) (may_stand (facts_at kind texts) (field_at kind k).2) stands (shaped_at kind texts passed k bound Shape.Code is) (subst P is (passed.digits k (row-within kind k bound))))
+    (valid_code (sent texts k) (may_stand (facts_at rules kind texts) (field_at kind k).2) stands (shaped_at kind texts passed k bound Shape.Code is) (subst P is (passed.digits k (row-within kind k bound))))
 
-code_if_present : (kind : Kind) (texts : Row) → Passed kind texts → (k : ℕ) → k < row_len kind → (field_at kind k).1 ≡ Content.Shaped Shape.Code → IfSome (present (get_or (printed_at kind texts) k [])) IsValid
+code_if_present : {rules : Rules} (kind : Kind) (texts : Row) → Passed rules kind texts → (k : ℕ) → k < row_len kind → (field_at kind k).1 ≡ Content.Shaped Shape.Code → IfSome (present (get_or (printed_at kind texts) k [])) IsValid
 code_if_present kind texts passed k bound is =
     if_present IsValid (get_or (printed_at kind texts) k []) (λ stands. code_at kind texts passed k bound is (ap is_absent (sym (same_at kind texts passed k bound Shape.Code is)) ∙ stands))
 
-moment_at : (kind : Kind) (texts : Row) → Passed kind texts → (k : ℕ) → k < row_len kind → (field_at kind k).1 ≡ Content.Shaped Shape.Moment → is_absent (sent texts k) ≡ false → IsPrinted (get_or (printed_at kind texts) k [])
-moment_at kind texts passed k bound is stands =
+moment_at : {rules : Rules} (kind : Kind) (texts : Row) → Passed rules kind texts → (k : ℕ) → k < row_len kind → (field_at kind k).1 ≡ Content.Shaped Shape.Moment → is_absent (sent texts k) ≡ false → IsPrinted (get_or (printed_at kind texts) k [])
+moment_at {rules} kind texts passed k bound is stands =
     subst IsPrinted (sym (same_at kind texts passed k bound Shape.Moment is))
-    (moment_stands (sent texts k) (may_stand (facts_at kind texts) (field_at kind k).2) stands (shaped_at kind texts passed k bound Shape.Moment is))
+    (moment_stands (sent texts k) (may_stand (facts_at rules kind texts) (field_at kind k).2) stands (shaped_at kind texts passed k bound Shape.Moment is))
 
-moment_if_present : (kind : Kind) (texts : Row) → Passed kind texts → (k : ℕ) → k < row_len kind → (field_at kind k).1 ≡ Content.Shaped Shape.Moment → IfSome (present (get_or (printed_at kind texts) k [])) IsPrinted
+moment_if_present : {rules : Rules} (kind : Kind) (texts : Row) → Passed rules kind texts → (k : ℕ) → k < row_len kind → (field_at kind k).1 ≡ Content.Shaped Shape.Moment → IfSome (present (get_or (printed_at kind texts) k [])) IsPrinted
 moment_if_present kind texts passed k bound is =
     if_present IsPrinted (get_or (printed_at kind texts) k [])
     (λ stands. moment_at kind texts passed k bound is (absent_stays (sent texts k) (ap is_absent (sym (same_at kind texts passed k bound Shape.Moment is)) ∙ stands)))
 
 -- what a field that is always needed is
-always_code : (kind : Kind) (texts : Row) → Passed kind texts → (k : ℕ) → k < row_len kind → (field_at kind k).1 ≡ Content.Shaped Shape.Code → (field_at kind k).2 ≡ Need.Always → IsValid (get_or (printed_at kind texts) k [])
+always_code : {rules : Rules} (kind : Kind) (texts : Row) → Passed rules kind texts → (k : ℕ) → k < row_len kind → (field_at kind k).1 ≡ Content.Shaped Shape.Code → (field_at kind k).2 ≡ Need.Always → IsValid (get_or (printed_at kind texts) k [])
 always_code kind texts passed k bound is needed = code_at kind texts passed k bound is (stands_at kind texts passed k bound needed)
 
-always_moment : (kind : Kind) (texts : Row) → Passed kind texts → (k : ℕ) → k < row_len kind → (field_at kind k).1 ≡ Content.Shaped Shape.Moment → (field_at kind k).2 ≡ Need.Always → IsPrinted (get_or (printed_at kind texts) k [])
+always_moment : {rules : Rules} (kind : Kind) (texts : Row) → Passed rules kind texts → (k : ℕ) → k < row_len kind → (field_at kind k).1 ≡ Content.Shaped Shape.Moment → (field_at kind k).2 ≡ Need.Always → IsPrinted (get_or (printed_at kind texts) k [])
 always_moment kind texts passed k bound is needed = moment_at kind texts passed k bound is (stands_at kind texts passed k bound needed)
 
-always_fits : (kind : Kind) (texts : Row) → Passed kind texts → (k : ℕ) → k < row_len kind → (shape : Shape) → (field_at kind k).1 ≡ Content.Shaped shape → (field_at kind k).2 ≡ Need.Always → fits_shape shape (sent texts k) ≡ true
+always_fits : {rules : Rules} (kind : Kind) (texts : Row) → Passed rules kind texts → (k : ℕ) → k < row_len kind → (shape : Shape) → (field_at kind k).1 ≡ Content.Shaped shape → (field_at kind k).2 ≡ Need.Always → fits_shape shape (sent texts k) ≡ true
 always_fits kind texts passed k bound shape is needed = fits_at kind texts passed k bound shape is (stands_at kind texts passed k bound needed)
 
 least : (kind : Kind) → min (row_len kind) (field_count kind) ≡ row_len kind
@@ -312,7 +314,20 @@ length-printed_at kind texts len =
     length-map (zip (row_fields kind) texts) (λ entry. row_text entry.0.1 entry.1)
     ∙ (length-zip (row_fields kind) texts ∙ rw (length-row_fields kind, len) (least kind))
 
-rowed : (texts : Row) → Passed Kind.Record texts → IsRow (printed_at Kind.Record texts)
+-- what is named as successors, where something is
+successors_if_present : {rules : Rules} (texts : Row) → Passed rules Kind.Record texts → IfSome (present (get_or (printed_at Kind.Record texts) 20 [])) AreCodes
+unfolding fields
+successors_if_present {rules} texts passed =
+    let r = Kind.Record in
+    let sent_one = sent texts 20 in
+    let same : get_or (printed_at r texts) 20 [] ≡ sent_one = row_at r texts passed.len 20 (lit< tt) in
+    if_present AreCodes (get_or (printed_at r texts) 20 [])
+    (λ stands. subst AreCodes (sym same)
+    (AreCodes-from_shape rules sent_one
+    (fit (is_absent sent_one) (fits_shape (successors_shape rules) sent_one) (may_stand (facts_at rules r texts) Need.Optional) (ap is_absent (sym same) ∙ stands) (passed.shape 20 (lit< tt)))
+    (passed.digits 20 (lit< tt))))
+
+rowed : {rules : Rules} (texts : Row) → Passed rules Kind.Record texts → IsRow (printed_at Kind.Record texts)
 unfolding fields
 rowed texts passed =
     let r = Kind.Record in
@@ -322,7 +337,7 @@ rowed texts passed =
       category = subst (IsListed category_of) (sym (same_at r texts passed 16 (lit< tt) Shape.Category refl)) (always_fits r texts passed 16 (lit< tt) Shape.Category refl refl);
       entity_status = subst (IsListed entity_status_of) (sym (same_at r texts passed 18 (lit< tt) Shape.EntityStatus refl)) (always_fits r texts passed 18 (lit< tt) Shape.EntityStatus refl refl);
       created = moment_if_present r texts passed 19 (lit< tt) refl;
-      successor = code_if_present r texts passed 20 (lit< tt) refl;
+      successors = successors_if_present texts passed;
       initial = always_moment r texts passed 21 (lit< tt) refl refl;
       updated = always_moment r texts passed 22 (lit< tt) refl refl;
       status = subst (IsListed record_status_of) (sym (same_at r texts passed 23 (lit< tt) Shape.RecordStatus refl)) (always_fits r texts passed 23 (lit< tt) Shape.RecordStatus refl refl);
@@ -331,7 +346,7 @@ rowed texts passed =
       transfer_to = code_if_present r texts passed 27 (lit< tt) refl;
     }
 
-relation_rowed : (texts : Row) → Passed Kind.Relation texts → IsRelationRow (printed_at Kind.Relation texts)
+relation_rowed : {rules : Rules} (texts : Row) → Passed rules Kind.Relation texts → IsRelationRow (printed_at Kind.Relation texts)
 unfolding relation_fields
 relation_rowed texts passed =
     let r = Kind.Relation in
@@ -349,7 +364,7 @@ relation_rowed texts passed =
       manager = always_code r texts passed 9 (lit< tt) refl refl;
     }
 
-exception_rowed : (texts : Row) → Passed Kind.Exception texts → IsExceptionRow (printed_at Kind.Exception texts)
+exception_rowed : {rules : Rules} (texts : Row) → Passed rules Kind.Exception texts → IsExceptionRow (printed_at Kind.Exception texts)
 unfolding exception_fields
 exception_rowed texts passed =
     let r = Kind.Exception in
@@ -362,20 +377,20 @@ exception_rowed texts passed =
           (λ stands. subst (IsListed reason_of) (sym same) (fits_at r texts passed 2 (lit< tt) Shape.Reason refl (ap is_absent (sym same) ∙ stands)));
     }
 
-rowed_as : (kind : Kind) (texts : Row) → Passed kind texts → IsRowOf kind (printed_at kind texts)
+rowed_as : {rules : Rules} (kind : Kind) (texts : Row) → Passed rules kind texts → IsRowOf kind (printed_at kind texts)
 rowed_as Kind.Record = rowed
 rowed_as Kind.Relation = relation_rowed
 rowed_as Kind.Exception = exception_rowed
 
 -- texts that pass the checks are a row
-pub IsRowOf-printed_at : (kind : Kind) (texts : Row) → length texts ≡ field_count kind → first_at FieldCheck.Presence kind texts ≡ None → first_at FieldCheck.Shape kind texts ≡ None → first_at FieldCheck.Digits kind texts ≡ None
+pub IsRowOf-printed_at : (rules : Rules) (kind : Kind) (texts : Row) → length texts ≡ field_count kind → first_at rules FieldCheck.Presence kind texts ≡ None → first_at rules FieldCheck.Shape kind texts ≡ None → first_at rules FieldCheck.Digits kind texts ≡ None
     → IsRowOf kind (printed_at kind texts)
-IsRowOf-printed_at kind texts len presence shape digits =
-    rowed_as kind texts (record {
+IsRowOf-printed_at rules kind texts len presence shape digits =
+    rowed_as {rules = rules} kind texts (record {
       len = len;
-      presence = asked_at FieldCheck.Presence kind texts len presence;
-      shape = asked_at FieldCheck.Shape kind texts len shape;
-      digits = asked_at FieldCheck.Digits kind texts len digits;
+      presence = asked_at rules FieldCheck.Presence kind texts len presence;
+      shape = asked_at rules FieldCheck.Shape kind texts len shape;
+      digits = asked_at rules FieldCheck.Digits kind texts len digits;
     })
 
 none_failed : {X Y : Type 0} (a b c d : Option X) (f g h k : X → Y) → option_or (option_map f a) (option_or (option_map g b) (option_or (option_map h c) (option_map k d))) ≡ None
@@ -390,32 +405,38 @@ length-texts_of : (kind : Kind) (pairs : List (List ℕ × List ℕ)) → length
 length-texts_of kind pairs = length-map (fields_of kind) (λ field. text_of pairs field.0) ∙ length-fields_of kind
 
 -- an item that passes its checks has the row of an item of its kind
-pub IsRowOf-row_of : (kind : Kind) (pairs : List (List ℕ × List ℕ)) → failed_check kind pairs ≡ None → IsRowOf kind (row_of kind pairs)
+pub IsRowOf-row_of : (rules : Rules) (kind : Kind) (pairs : List (List ℕ × List ℕ)) → failed_check rules kind pairs ≡ None → IsRowOf kind (row_of kind pairs)
 unfolding failed_check
-IsRowOf-row_of kind pairs is =
-    let none = none_failed (unknown_name kind pairs) (missing_field kind pairs) (misshapen_field kind pairs) (miscoded_field kind pairs) (failed_field 1) (failed_field 2) (failed_field 3) (failed_field 4) is in
+IsRowOf-row_of rules kind pairs is =
+    let none = none_failed (unknown_name kind pairs) (missing_field rules kind pairs) (misshapen_field rules kind pairs) (miscoded_field kind pairs) (failed_field 1) (failed_field 2) (failed_field 3) (failed_field 4) is in
     let first = none_unknown kind pairs none.0 in
     subst (IsRowOf kind) (printed_at-texts_of kind pairs)
-    (IsRowOf-printed_at kind (texts_of kind pairs) (length-texts_of kind pairs)
-    (first_at-texts_of FieldCheck.Presence kind pairs first ∙ none.1) (first_at-texts_of FieldCheck.Shape kind pairs first ∙ none.2) (first_at-texts_of FieldCheck.Digits kind pairs first ∙ none.3))
+    (IsRowOf-printed_at rules kind (texts_of kind pairs) (length-texts_of kind pairs)
+    (first_at-texts_of rules FieldCheck.Presence kind pairs first ∙ none.1) (first_at-texts_of rules FieldCheck.Shape kind pairs first ∙ none.2) (first_at-texts_of rules FieldCheck.Digits kind pairs first ∙ none.3))
+
+withdraws_at-texts_of : (kind : Kind) (pairs : List (List ℕ × List ℕ)) → first_unknown kind pairs ≡ None → withdraws_at kind (texts_of kind pairs) ≡ is_withdrawal pairs
+unfolding fields relation_fields exception_fields
+withdraws_at-texts_of Kind.Record pairs known = never_withdrawn Kind.Record pairs no_action known
+withdraws_at-texts_of Kind.Relation pairs known = never_withdrawn Kind.Relation pairs no_action_either known
+withdraws_at-texts_of Kind.Exception pairs known = refl
 
 readied_same : (kind : Kind) (pairs : List (List ℕ × List ℕ)) (failed : Option FailedCheck) → first_unknown kind pairs ≡ None → readied_by kind (texts_of kind pairs) failed ≡ readied kind pairs failed
 readied_same kind pairs None known =
-    ap (λ row. Readied.Good (item_of kind (facts_at kind (texts_of kind pairs)).withdrawal row)) (printed_at-texts_of kind pairs)
-    ∙ ap (λ (facts : Facts). Readied.Good (item_of kind facts.withdrawal (row_of kind pairs))) (facts_at-texts_of kind pairs known)
+    ap (λ row. Readied.Good (item_of kind (withdraws_at kind (texts_of kind pairs)) row)) (printed_at-texts_of kind pairs)
+    ∙ ap (λ withdraws. Readied.Good (item_of kind withdraws (row_of kind pairs))) (withdraws_at-texts_of kind pairs known)
 readied_same kind pairs (Some check) known = refl
 
 -- what the checks by place answer is what the item's checks do
-pub readied-by_place : {E : Type 0} (kind : Kind) (pairs : List (List ℕ × List ℕ)) (texts : Row) (r : Result Readied E) → unknown_name kind pairs ≡ None → texts ≡ texts_of kind pairs
-    → IfOk r (λ item. item ≡ readied_by kind texts (failed_at kind texts)) → IfOk r (λ item. item ≡ readied kind pairs (failed_check kind pairs))
-readied-by_place kind pairs texts (Ok item) known same is =
-    is ∙ (ap (λ t. readied_by kind t (failed_at kind t)) same
-    ∙ (readied_same kind pairs (failed_at kind (texts_of kind pairs)) (none_unknown kind pairs known) ∙ ap (readied kind pairs) (sym (failed_at-texts_of kind pairs known))))
-readied-by_place kind pairs texts (Err e) known same is = tt
+pub readied-by_place : {E : Type 0} (rules : Rules) (kind : Kind) (pairs : List (List ℕ × List ℕ)) (texts : Row) (r : Result Readied E) → unknown_name kind pairs ≡ None → texts ≡ texts_of kind pairs
+    → IfOk r (λ item. item ≡ readied_by kind texts (failed_at rules kind texts)) → IfOk r (λ item. item ≡ readied kind pairs (failed_check rules kind pairs))
+readied-by_place rules kind pairs texts (Ok item) known same is =
+    is ∙ (ap (λ t. readied_by kind t (failed_at rules kind t)) same
+    ∙ (readied_same kind pairs (failed_at rules kind (texts_of kind pairs)) (none_unknown kind pairs known) ∙ ap (readied kind pairs) (sym (failed_at-texts_of rules kind pairs known))))
+readied-by_place rules kind pairs texts (Err e) known same is = tt
 
 -- an unknown name is told before all else
-pub bad_by_name : {E : Type 0} (kind : Kind) (pairs : List (List ℕ × List ℕ)) (name : List ℕ) (r : Result Readied E) → unknown_name kind pairs ≡ Some name
-    → IfOk r (λ item. item ≡ Readied.Bad (failed_field 1 name)) → IfOk r (λ item. item ≡ readied kind pairs (failed_check kind pairs))
+pub bad_by_name : {E : Type 0} (rules : Rules) (kind : Kind) (pairs : List (List ℕ × List ℕ)) (name : List ℕ) (r : Result Readied E) → unknown_name kind pairs ≡ Some name
+    → IfOk r (λ item. item ≡ Readied.Bad (failed_field 1 name)) → IfOk r (λ item. item ≡ readied kind pairs (failed_check rules kind pairs))
 unfolding failed_check
-bad_by_name kind pairs name (Ok item) unknown is = rw unknown is
-bad_by_name kind pairs name (Err e) unknown is = tt
+bad_by_name rules kind pairs name (Ok item) unknown is = rw unknown is
+bad_by_name rules kind pairs name (Err e) unknown is = tt

@@ -15,6 +15,7 @@ use Rattle.lei_records.specs.declared.fields.Facts.{Facts}
 use Rattle.lei_records.specs.declared.fields.Kind.{Kind}
 use Rattle.lei_records.specs.declared.fields.Need.{Need}
 use Rattle.lei_records.specs.declared.readying.FieldCheck.{FieldCheck}
+use Rattle.lei_records.specs.declared.rules.Rules.{Rules}
 use Rattle.lei_records.specs.Fields.{Field, field_count, fields, fields_of, exception_fields, names_of, read_field, relation_fields, row_fields, row_len}
 use Rattle.lei_records.specs.Items.{is_field, row_text, text_of}
 use Rattle.lei_records.specs.Rows.{Row}
@@ -267,11 +268,11 @@ name_of_found : (found : Option ((Bor (List ℕ) × Content × Need) × Bor (Lis
 name_of_found None = refl
 name_of_found (Some entry) = refl
 
-pub first_in-all : (check : FieldCheck) (kind : Kind) (table : Lent) (texts : List (Bor (List ℕ))) → map read_field table ≡ fields_of kind
-    → first_in check (facts_at kind (read_texts texts)) table texts ≡ first_at check kind (read_texts texts)
+pub first_in-all : (rules : Rules) (check : FieldCheck) (kind : Kind) (table : Lent) (texts : List (Bor (List ℕ))) → map read_field table ≡ fields_of kind
+    → first_in check (facts_at rules kind (read_texts texts)) table texts ≡ first_at rules check kind (read_texts texts)
 unfolding first_at
-first_in-all check kind table texts same =
-    let asks : Field × List ℕ → Bool = λ entry. field_fails check (facts_at kind (read_texts texts)) entry.0 entry.1 in
+first_in-all rules check kind table texts same =
+    let asks : Field × List ℕ → Bool = λ entry. field_fails check (facts_at rules kind (read_texts texts)) entry.0 entry.1 in
     sym (ap (λ entries. option_map (λ entry. entry.0.0) (find asks entries)) (entries-read table texts (fields_of kind) same)
     ∙ (ap (option_map (λ entry. entry.0.0)) (find-map asks read_entry (zip table texts)) ∙ name_of_found (find (λ entry. asks (read_entry entry)) (zip table texts))))
 

@@ -1,5 +1,6 @@
 -- Cells: what the rules ask of a table, by key. What a record has by its texts, and what a view answers.
-use Rattle.std.specs.Prelude.{ℕ, ℤ, List, Bool, true, false, ◌&&◌, ◌||◌, if◌then◌else◌, Option, Some, None, unwrap_or, option_and_then, codes, ⊤}
+use Rattle.std.specs.Prelude.{ℕ, ℤ, List, [], Bool, true, false, ◌&&◌, ◌||◌, if◌then◌else◌, Option, Some, None, unwrap_or, option_and_then, codes, slice_get, ⊤}
+use Rattle.std.specs.Option.{option_map_or}
 use Rattle.std.specs.Str.{bytes_eq}
 use Rattle.lei_code.specs.Texts.{Lei, Text}
 use Rattle.lei_shapes.specs.declared.lists.Category.{Category}
@@ -9,6 +10,7 @@ use Rattle.lei_shapes.specs.declared.lists.RecordStatus.{RecordStatus}
 use Rattle.lei_shapes.specs.declared.lists.RelationType.{RelationType}
 use Rattle.lei_shapes.specs.Lists.{record_status_of, entity_status_of, category_of}
 use Rattle.lei_shapes.specs.Moment.{read_moment}
+use Rattle.lei_shapes.specs.Shape.{between_spaces}
 use Rattle.lei_records.specs.declared.view.RecCell.{RecCell}
 use Rattle.lei_records.specs.declared.view.RelCell.{RelCell}
 use Rattle.lei_records.specs.declared.view.Seen.{Seen}
@@ -63,9 +65,13 @@ created_in row = option_and_then read_moment (present (text_at row created_place
 abbrev pub manager_in : Row → Lei
 manager_in row = text_at row manager_place
 
--- The entity that followed this one.
+-- The entities that followed this one, in the order in which the record names them.
+unfoldable pub successors_in : Row → List Lei
+successors_in row = option_map_or between_spaces (present (text_at row successor_place)) []
+
+-- The first of them, which is the only one that the first rules know.
 abbrev pub successor_in : Row → Option Lei
-successor_in row = present (text_at row successor_place)
+successor_in row = slice_get (successors_in row) 0
 
 -- The issuer that the record is handed over to.
 abbrev pub receiver_in : Row → Option Lei
@@ -80,7 +86,7 @@ rec_cell row = record {
   initial = initial_in row;
   updated = updated_in row;
   category = category_in row;
-  successor = successor_in row;
+  successors = successors_in row;
 }
 
 -- ---- live records and their authority keys

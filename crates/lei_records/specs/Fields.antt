@@ -6,11 +6,12 @@ use Rattle.std.specs.Borrow.{Bor}
 use Rattle.std.specs.Str.{bytes_eq}
 use Rattle.lei_code.specs.Texts.{Text}
 use Rattle.lei_shapes.specs.declared.shapes.Shape.{Shape}
-use Rattle.lei_shapes.specs.Shape.{fits_shape}
+use Rattle.lei_shapes.specs.Shape.{between_spaces, fits_shape}
 use Rattle.lei_records.specs.declared.fields.Kind.{Kind}
 use Rattle.lei_records.specs.declared.fields.Content.{Content}
 use Rattle.lei_records.specs.declared.fields.Need.{Need}
 use Rattle.lei_records.specs.declared.fields.Facts.{Facts}
+use Rattle.lei_records.specs.declared.rules.Rules.{Rules}
 use Rattle.lei_records.specs.Places.{action_place, exception_places, record_places, relation_places}
 
 -- A field: its name, what it holds, and where it is needed.
@@ -44,7 +45,7 @@ fields =
     ∷ (codes "Entity.LegalForm.EntityLegalFormCode", Content.Shaped Shape.Form, Need.Always)
     ∷ (codes "Entity.EntityStatus", Content.Shaped Shape.EntityStatus, Need.Always)
     ∷ (codes "Entity.EntityCreationDate", Content.Shaped Shape.Moment, Need.Optional)
-    ∷ (codes "Entity.SuccessorEntity.1.SuccessorLEI", Content.Shaped Shape.Code, Need.Optional)
+    ∷ (codes "Entity.SuccessorEntity.1.SuccessorLEI", Content.Successors, Need.Optional)
     ∷ (codes "Registration.InitialRegistrationDate", Content.Shaped Shape.Moment, Need.Always)
     ∷ (codes "Registration.LastUpdateDate", Content.Shaped Shape.Moment, Need.Always)
     ∷ (codes "Registration.RegistrationStatus", Content.Shaped Shape.RecordStatus, Need.Always)
@@ -120,20 +121,27 @@ has_name kind named = bytes_eq (slice_index_or (names_of kind) (named.0 - 1) (co
 abbrev pub is_action : Text → Bool
 is_action text = bytes_eq text (codes "PUT") || bytes_eq text (codes "WITHDRAW")
 
--- The text is one that the field can hold.
-abbrev pub fits_content : Content → Text → Bool
-fits_content (Content.Shaped shape) text = fits_shape shape text
-fits_content Content.Action text = is_action text
+-- The shape of the text that names successors: one LEI by the first rules, and up to five by the later ones.
+abbrev pub successors_shape : Rules → Shape
+successors_shape Rules.First = Shape.Code
+successors_shape Rules.Second = Shape.Codes
 
--- The shape is that of an LEI, whose texts have check digits.
-abbrev pub is_code_shape : Shape → Bool
-is_code_shape Shape.Code = true
-is_code_shape other = false
+-- The text is one that the field can hold by these rules.
+abbrev pub fits_content : Rules → Content → Text → Bool
+fits_content rules (Content.Shaped shape) text = fits_shape shape text
+fits_content rules Content.Successors text = fits_shape (successors_shape rules) text
+fits_content rules Content.Action text = is_action text
 
--- The field holds an LEI.
-abbrev pub is_code_content : Content → Bool
-is_code_content (Content.Shaped shape) = is_code_shape shape
-is_code_content Content.Action = false
+-- The LEIs that a text of this shape has, whatever their check digits.
+abbrev pub codes_of_shape : Shape → Text → List Text
+codes_of_shape Shape.Code text = text ∷ []
+codes_of_shape other text = []
+
+-- The LEIs that the text of a field has, whatever their check digits.
+abbrev pub codes_in : Content → Text → List Text
+codes_in (Content.Shaped shape) text = codes_of_shape shape text
+codes_in Content.Successors text = between_spaces text
+codes_in Content.Action text = []
 
 -- ---- where a field is needed
 

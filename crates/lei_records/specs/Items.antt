@@ -18,8 +18,9 @@ use Rattle.lei_records.specs.declared.fields.Kind.{Kind}
 use Rattle.lei_records.specs.declared.item.RawItem.{RawItem}
 use Rattle.lei_records.specs.declared.item.Item.{Item}
 use Rattle.lei_records.specs.declared.item.Readied.{Readied}
+use Rattle.lei_records.specs.declared.rules.Rules.{Rules}
 use Rattle.lei_records.specs.Checks.{FailedCheck}
-use Rattle.lei_records.specs.Fields.{Field, fields_of, row_fields, fits_content, is_code_content, is_needed, may_stand}
+use Rattle.lei_records.specs.Fields.{Field, fields_of, row_fields, codes_in, fits_content, is_needed, may_stand}
 use Rattle.lei_records.specs.Names.{least, names}
 use Rattle.lei_records.specs.Rows.{Row}
 use Rattle.lei_records.specs.Spelled.{is_absent}
@@ -37,9 +38,9 @@ is_archival pairs = bytes_eq (text_of pairs (codes "Registration.RegistrationSta
 abbrev pub is_withdrawal : List (Text × Text) → Bool
 is_withdrawal pairs = bytes_eq (text_of pairs (codes "Action")) (codes "WITHDRAW")
 
--- What the needs of an item's fields depend on.
-abbrev pub facts_of : List (Text × Text) → Facts
-facts_of pairs = record { archival = is_archival pairs; withdrawal = is_withdrawal pairs }
+-- What the checks of an item's fields depend on.
+abbrev pub facts_of : Rules → List (Text × Text) → Facts
+facts_of rules pairs = record { rules = rules; archival = is_archival pairs; withdrawal = is_withdrawal pairs }
 
 -- The name is that of a field of this kind of item.
 abbrev pub is_field : Kind → Text → Bool
@@ -54,15 +55,15 @@ is_missing facts field text = is_needed facts field.2 && is_absent text
 -- A field stands, and has another shape or may not stand there.
 abbrev pub is_misshapen : Facts → Field → Text → Bool
 is_misshapen facts field text = not (is_absent text) && not
-    (fits_content field.1 text && may_stand facts field.2)
+    (fits_content facts.rules field.1 text && may_stand facts field.2)
 
 -- A text of an LEI's shape leaves, as a number, another remainder than 1 by 97 (ISO/IEC 7064, MOD 97-10).
 abbrev pub has_other_remainder : Text → Bool
 has_other_remainder text = is_code text && not (number text % 97 == 1)
 
--- A field that is to hold an LEI has wrong check digits.
+-- A field that is to hold an LEI, or several, has one with wrong check digits.
 abbrev pub has_wrong_digits : Field → Text → Bool
-has_wrong_digits field text = is_code_content field.1 && has_other_remainder text
+has_wrong_digits field text = list_any has_other_remainder (codes_in field.1 text)
 
 -- ---- the checks, each with the name that it finds
 
@@ -76,14 +77,14 @@ first_field asks kind pairs = option_map (λ field. field.0)
     (find (λ field. asks field (text_of pairs field.0)) (fields_of kind))
 
 -- C02: the first needed field that is absent.
-abbrev pub missing_field : Kind → List (Text × Text) → Option Text
-missing_field kind pairs = first_field (is_missing (facts_of pairs)) kind pairs
+abbrev pub missing_field : Rules → Kind → List (Text × Text) → Option Text
+missing_field rules kind pairs = first_field (is_missing (facts_of rules pairs)) kind pairs
 
 -- C03: the first field that stands and has another shape, or may not stand there.
-abbrev pub misshapen_field : Kind → List (Text × Text) → Option Text
-misshapen_field kind pairs = first_field (is_misshapen (facts_of pairs)) kind pairs
+abbrev pub misshapen_field : Rules → Kind → List (Text × Text) → Option Text
+misshapen_field rules kind pairs = first_field (is_misshapen (facts_of rules pairs)) kind pairs
 
--- C04: the first LEI with wrong check digits.
+-- C04: the first field with an LEI that has wrong check digits.
 abbrev pub miscoded_field : Kind → List (Text × Text) → Option Text
 miscoded_field kind pairs = first_field has_wrong_digits kind pairs
 
@@ -91,11 +92,11 @@ miscoded_field kind pairs = first_field has_wrong_digits kind pairs
 abbrev pub failed_field : ℕ → Text → FailedCheck
 failed_field check name = record { number = check; detail = Detail.Field name }
 
--- The first of the checks of its fields, in order of their numbers, that an item fails.
-unfoldable pub failed_check : Kind → List (Text × Text) → Option FailedCheck
-failed_check kind pairs = option_or (option_map (failed_field 1) (unknown_name kind pairs))
-    (option_or (option_map (failed_field 2) (missing_field kind pairs))
-    (option_or (option_map (failed_field 3) (misshapen_field kind pairs))
+-- The first of the checks of its fields, in order of their numbers, that an item fails by these rules.
+unfoldable pub failed_check : Rules → Kind → List (Text × Text) → Option FailedCheck
+failed_check rules kind pairs = option_or (option_map (failed_field 1) (unknown_name kind pairs))
+    (option_or (option_map (failed_field 2) (missing_field rules kind pairs))
+    (option_or (option_map (failed_field 3) (misshapen_field rules kind pairs))
     (option_map (failed_field 4) (miscoded_field kind pairs))))
 
 -- ---- what an item is
@@ -109,6 +110,7 @@ printed other text = text
 -- The text of a field as a row has it.
 abbrev pub row_text : Content → Text → Text
 row_text (Content.Shaped shape) text = printed shape text
+row_text Content.Successors text = text
 row_text Content.Action text = text
 
 -- The row of an item: the texts of the fields that stand in one, in order of place.
@@ -126,12 +128,12 @@ abbrev pub readied : Kind → List (Text × Text) → Option FailedCheck → Rea
 readied kind pairs (Some check) = Readied.Bad check
 readied kind pairs None = Readied.Good (item_of kind (is_withdrawal pairs) (row_of kind pairs))
 
--- What the fields of an item of this kind come to: the first check that they fail, or else the item.
-abbrev pub ready_as : Kind → List (Text × Text) → Readied
-ready_as kind pairs = readied kind pairs (failed_check kind pairs)
+-- What the fields of an item of this kind come to by these rules: the first check that they fail, or else the item.
+abbrev pub ready_as : Rules → Kind → List (Text × Text) → Readied
+ready_as rules kind pairs = readied kind pairs (failed_check rules kind pairs)
 
--- What an item comes to as it was sent: the first check that its fields fail, or else the item.
-abbrev pub ready : RawItem → Readied
-ready (RawItem.Record pairs) = ready_as Kind.Record pairs
-ready (RawItem.Relation pairs) = ready_as Kind.Relation pairs
-ready (RawItem.Exception pairs) = ready_as Kind.Exception pairs
+-- What an item comes to as it was sent, by these rules: the first check that its fields fail, or else the item.
+abbrev pub ready : Rules → RawItem → Readied
+ready rules (RawItem.Record pairs) = ready_as rules Kind.Record pairs
+ready rules (RawItem.Relation pairs) = ready_as rules Kind.Relation pairs
+ready rules (RawItem.Exception pairs) = ready_as rules Kind.Exception pairs

@@ -1,6 +1,8 @@
 pub mod Places
 pub mod Rows
 pub mod Names
+pub mod SuccessorLists
+pub mod RuleNumbers
 pub mod Fields
 pub mod Checks
 pub mod Spelled
@@ -11,6 +13,5 @@ pub mod Exceptions
 pub mod Cells
 pub mod Tables
 pub mod Parents
-pub mod SuccessorLists
 pub mod Walks
 pub mod Sheets

@@ -9,6 +9,7 @@ use Rattle.lei_records.specs.declared.fields.Facts.{Facts}
 use Rattle.lei_records.specs.declared.fields.Kind.{Kind}
 use Rattle.lei_records.specs.declared.item.Readied.{Readied}
 use Rattle.lei_records.specs.declared.readying.FieldCheck.{FieldCheck}
+use Rattle.lei_records.specs.declared.rules.Rules.{Rules}
 use Rattle.lei_records.specs.Checks.{FailedCheck}
 use Rattle.lei_records.specs.Fields.{Field, fields_of, row_fields}
 use Rattle.lei_records.specs.Items.{failed_field, has_wrong_digits, is_field, is_misshapen, is_missing, item_of, row_text, text_of}
@@ -36,11 +37,22 @@ archival_at place texts = bytes_eq (text_at texts place) (codes "PENDING_ARCHIVA
 abbrev pub withdrawal_at : Row → Bool
 withdrawal_at texts = bytes_eq (text_at texts action_place) (codes "WITHDRAW")
 
--- What the needs of an item's fields depend on, by place.
-abbrev pub facts_at : Kind → Row → Facts
-facts_at Kind.Record texts = record { archival = archival_at status_place texts; withdrawal = false }
-facts_at Kind.Relation texts = record { archival = archival_at registration_place texts; withdrawal = false }
-facts_at Kind.Exception texts = record { archival = false; withdrawal = withdrawal_at texts }
+-- The item's registration status is PENDING_ARCHIVAL, by place.
+abbrev pub archives_at : Kind → Row → Bool
+archives_at Kind.Record texts = archival_at status_place texts
+archives_at Kind.Relation texts = archival_at registration_place texts
+archives_at Kind.Exception texts = false
+
+-- The item is a withdrawal, by place.
+abbrev pub withdraws_at : Kind → Row → Bool
+withdraws_at Kind.Record texts = false
+withdraws_at Kind.Relation texts = false
+withdraws_at Kind.Exception texts = withdrawal_at texts
+
+-- What the checks of an item's fields depend on, by place.
+abbrev pub facts_at : Rules → Kind → Row → Facts
+facts_at rules kind texts =
+    record { rules = rules; archival = archives_at kind texts; withdrawal = withdraws_at kind texts }
 
 -- A field with this text fails a check of single fields, in an item of these facts.
 abbrev pub field_fails : FieldCheck → Facts → Field → Text → Bool
@@ -49,16 +61,16 @@ field_fails FieldCheck.Shape facts field text = is_misshapen facts field text
 field_fails FieldCheck.Digits facts field text = has_wrong_digits field text
 
 -- The first field by place that fails the check with its text in this list.
-unfoldable pub first_at : FieldCheck → Kind → Row → Option Text
-first_at check kind texts =
+unfoldable pub first_at : Rules → FieldCheck → Kind → Row → Option Text
+first_at rules check kind texts =
     option_map (λ entry. entry.0.0)
-    (find (λ entry. field_fails check (facts_at kind texts) entry.0 entry.1) (zip (fields_of kind) texts))
+    (find (λ entry. field_fails check (facts_at rules kind texts) entry.0 entry.1) (zip (fields_of kind) texts))
 
 -- The first of C02, C03 and C04 that fails.
-unfoldable pub failed_at : Kind → Row → Option FailedCheck
-failed_at kind texts = option_or (option_map (failed_field 2) (first_at FieldCheck.Presence kind texts))
-    (option_or (option_map (failed_field 3) (first_at FieldCheck.Shape kind texts))
-    (option_map (failed_field 4) (first_at FieldCheck.Digits kind texts)))
+unfoldable pub failed_at : Rules → Kind → Row → Option FailedCheck
+failed_at rules kind texts = option_or (option_map (failed_field 2) (first_at rules FieldCheck.Presence kind texts))
+    (option_or (option_map (failed_field 3) (first_at rules FieldCheck.Shape kind texts))
+    (option_map (failed_field 4) (first_at rules FieldCheck.Digits kind texts)))
 
 -- The row of these texts.
 unfoldable pub printed_at : Kind → Row → Row
@@ -67,5 +79,4 @@ printed_at kind texts = map (λ entry. row_text entry.0.1 entry.1) (zip (row_fie
 -- An item with these texts that failed this check, or that failed none.
 abbrev pub readied_by : Kind → Row → Option FailedCheck → Readied
 readied_by kind texts (Some check) = Readied.Bad check
-readied_by kind texts None = Readied.Good
-    (item_of kind (facts_at kind texts).withdrawal (printed_at kind texts))
+readied_by kind texts None = Readied.Good (item_of kind (withdraws_at kind texts) (printed_at kind texts))

@@ -1,10 +1,12 @@
 -- What a row spells by its texts, and which rows are those of records, of relationships and of exceptions.
-use Rattle.std.specs.Prelude.{◌≡◌, ◌-◌, ℕ, ℤ, pos, List, length, Bool, ◌==◌, if◌then◌else◌, Option, None, Some, IsSome, IfSome, unwrap_or}
+use Rattle.std.specs.Prelude.{◌≡◌, ◌≤◌, ◌-◌, ℕ, ℤ, pos, List, length, Bool, ◌==◌, if◌then◌else◌, Option, None, Some, IsSome, IfSome, IsTrue, unwrap_or}
+use Rattle.std.specs.List.{All}
 use Rattle.lei_code.specs.Code.{IsValid}
 use Rattle.lei_code.specs.Texts.{Text}
 use Rattle.lei_shapes.specs.Clock.{moment_text}
 use Rattle.lei_shapes.specs.Lists.{record_status_of, entity_status_of, category_of, relation_type_of, relation_status_of, relation_registration_of, exception_category_of, reason_of}
 use Rattle.lei_shapes.specs.Moment.{read_moment}
+use Rattle.lei_shapes.specs.Shape.{are_different, between_spaces}
 use Rattle.lei_records.specs.declared.fields.Kind.{Kind}
 use Rattle.lei_records.specs.Places.{category_place, created_place, end_place, ended_place, entity_status_place, exception_category_place, exception_places, initial_place, lei_place, manager_place, reason_place, receiver_place, record_places, registration_place, relation_initial_place, relation_manager_place, relation_places, relation_status_place, relation_updated_place, renewal_place, start_place, started_place, status_place, subject_place, successor_place, type_place, updated_place}
 use Rattle.lei_records.specs.Rows.{Row, text_at}
@@ -30,15 +32,21 @@ IsPrinted text = (seconds : ℤ) × (read_moment text ≡ Some seconds) × (text
 abbrev pub IsListed : {V : Type 0} → (Text → Option V) → Text → Type 0
 IsListed {V} value_of text = IsSome (value_of text)
 
+-- The text is one to five LEIs, all different, with one space between each and the next.
+pub record AreCodes (text : Text) : Type 0 where
+  pub few : length (between_spaces text) ≤ 5
+  pub valid : All IsValid (between_spaces text)
+  pub different : IsTrue (are_different (between_spaces text))
+
 -- The row is that of a record. Each part of it that is more than a text can be read: an LEI by its check digits, a
--- value by its list, and a moment by its printed form. An LEI and a moment that need not stand may be absent.
+-- value by its list, and a moment by its printed form. LEIs and a moment that need not stand may be absent.
 pub record IsRow (row : Row) : Type 0 where
   pub places : length row ≡ record_places
   pub lei : IsValid (text_at row lei_place)
   pub category : IsSome (category_of (text_at row category_place))
   pub entity_status : IsSome (entity_status_of (text_at row entity_status_place))
   pub created : IfSome (present (text_at row created_place)) IsPrinted
-  pub successor : IfSome (present (text_at row successor_place)) IsValid
+  pub successors : IfSome (present (text_at row successor_place)) AreCodes
   pub initial : IsPrinted (text_at row initial_place)
   pub updated : IsPrinted (text_at row updated_place)
   pub status : IsSome (record_status_of (text_at row status_place))

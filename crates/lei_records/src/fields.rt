@@ -3,6 +3,7 @@ ghost use Rattle.lei_records.specs.Fields;
 ghost use Rattle.lei_records.specs.Fields.{is_needed, may_stand, read_field};
 
 use crate::places::{ACTION, EXCEPTION_PLACES, RECORD_PLACES, RELATION_PLACES};
+use crate::rules::Rules;
 use crate::tables;
 use lei_shapes::{Shape, fits};
 
@@ -22,6 +23,9 @@ pub enum Kind {
 pub enum Content {
     /// A text of this shape. It stands in the row.
     Shaped(Shape),
+    /// The LEIs of the entities that followed: one by the first rules, and one to five by the later ones. They stand in
+    /// the row.
+    Successors,
     /// What is to be done with an exception: `PUT` or `WITHDRAW`. It stands in no row.
     Action,
 }
@@ -40,9 +44,11 @@ pub enum Need {
     UnlessWithdrawn,
 }
 
-/// What needs depend on: two facts of an item as it was sent.
+/// What the checks of an item's fields depend on: the rules, and two facts of the item as it was sent.
 #[derive(Clone, Copy, Debug, PartialEq, Eq)]
 pub struct Facts {
+    /// The rules by which the item is read.
+    pub rules: Rules,
     /// Its registration status is PENDING_ARCHIVAL.
     pub archival: bool,
     /// Its action is WITHDRAW.
@@ -90,21 +96,15 @@ impl Kind {
 }
 
 impl Content {
-    /// Whether the text is one that the field can hold.
-    pub fn fits(self, text: &str) -> bool
-        ensures { result ≡ Fields.fits_content self text.now }
+    /// Whether the text is one that the field can hold by these rules.
+    pub fn fits(self, rules: Rules, text: &str) -> bool
+        ensures { result ≡ Fields.fits_content rules self text.now }
     {
         match self {
             Content::Shaped(shape) => fits(shape, text),
+            Content::Successors => fits(successors_shape(rules), text),
             Content::Action => text == "PUT" || text == "WITHDRAW",
         }
-    }
-
-    /// Whether the field holds a code, and so has check digits.
-    pub fn is_code(self) -> bool
-        ensures { result ≡ Fields.is_code_content self }
-    {
-        self == Content::Shaped(Shape::Code)
     }
 }
 
@@ -126,5 +126,15 @@ impl Need {
         ensures { result ≡ may_stand facts self }
     {
         facts.archival || self != Need::WherePendingArchival
+    }
+}
+
+// The shape of the text that names successors.
+fn successors_shape(rules: Rules) -> Shape
+    ensures { result ≡ Fields.successors_shape rules }
+{
+    match rules {
+        Rules::First => Shape::Code,
+        Rules::Second => Shape::Codes,
     }
 }

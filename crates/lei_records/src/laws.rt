@@ -3,6 +3,7 @@ ghost use Rattle.std.specs.Prelude.{◌≡◌, List, None, IsTrue};
 ghost use Rattle.std.specs.List.{list_all};
 ghost use Rattle.lei_code.specs.Texts.{Text};
 ghost use Rattle.lei_records.specs.declared.fields.Kind.{Kind};
+ghost use Rattle.lei_records.specs.declared.rules.Rules.{Rules};
 ghost use Rattle.lei_records.specs.Fields.{has_name};
 ghost use Rattle.lei_records.specs.Items.{IsRowOf, failed_check, row_of};
 ghost use Rattle.lei_records.specs.Places.{named_places};
@@ -14,6 +15,6 @@ pub fn places_have_their_fields()
 
 /// An item that passes its checks has the row of an item of its kind.
 pub fn good_items_have_rows()
-    ensures { (kind : Kind) (pairs : List (Text × Text)) → failed_check kind pairs ≡ None
+    ensures { (rules : Rules) (kind : Kind) (pairs : List (Text × Text)) → failed_check rules kind pairs ≡ None
         → IsRowOf kind (row_of kind pairs) }
 {}

@@ -1,11 +1,15 @@
-ghost use Rattle.std.specs.Prelude.{◌≡◌, ◌<◌, ◌++◌, ◌∷◌, ◌&&◌, [], codes, length, not, is_some, IfOk, IfSome, IsAscii, IsTrue, OnOk, None, Some, option_map, unwrap_or, if◌then◌else◌};
+ghost use Rattle.std.specs.Prelude.{◌≡◌, ◌≤◌, ◌<◌, ◌++◌, ◌∷◌, ◌&&◌, [], codes, length, not, is_some, IfOk, IfSome, IsAscii, IsTrue, OnOk, None, Some, option_map, unwrap_or, if◌then◌else◌};
+ghost use Rattle.std.specs.List.{list_any};
 ghost use Rattle.std.specs.Str.{bytes_eq};
 ghost use Rattle.std.specs.Option.{option_copied};
 ghost use Rattle.lei_shapes.specs.Clock.{moment_text};
 ghost use Rattle.lei_shapes.specs.Moment.{read_moment};
 ghost use Rattle.lei_records.specs.Checks.{IsNumber};
-ghost use Rattle.lei_records.specs.Fields.{field_count, read_field};
+ghost use Rattle.lei_shapes.specs.Shape.{between_spaces};
+ghost use Rattle.lei_records.specs.Fields.{codes_in, field_count, read_field};
 ghost use Rattle.lei_records.specs.Items;
+ghost use Rattle.lei_records.specs.RuleNumbers.{rules_of};
+ghost use Rattle.lei_records.specs.declared.rules.Rules.{Rules};
 ghost use Rattle.lei_records.specs.Items.{failed_check, failed_field, ready_as};
 ghost use Rattle.lei_records.specs.Places.{record_places};
 ghost use Rattle.lei_records.specs.Sheets;
@@ -22,78 +26,95 @@ use crate::places;
 use crate::printed::Printed;
 use crate::record::Record;
 use crate::relation::Relation;
+use crate::rules::Rules;
 use crate::sheet::sheet_of;
 use lei_code::Lei;
 use lei_outside::{NoMemory, Text};
-use lei_shapes::{Moment, Shape, fits};
+use lei_shapes::{Moment, Shape, cut_at_space, is_code};
 use std::alloc::Global;
 
-/// Asks the checks of an item's fields in order of their numbers, up to the first that fails. Each name is looked up
-/// once, and each text of a row is copied once.
+/// Asks the checks of an item's fields by the newest rules, as [`ready_by`] does.
 pub fn ready(alloc: Global, raw: &RawItem) -> Result<Readied, NoMemory>
-    ensures { IfOk result (λ item. item ≡ Items.ready raw.now) }
+    ensures { IfOk result (λ item. item ≡ Items.ready Rules.Second raw.now) }
 {
+    ready_by(alloc, 2, raw)
+}
+
+/// Asks the checks of an item's fields by the rules of this number, in order of their numbers, up to the first that
+/// fails. Each name is looked up once, and each text of a row is copied once.
+pub fn ready_by(alloc: Global, rules: u16, raw: &RawItem) -> Result<Readied, NoMemory>
+    requires first { 1 ≤ rules }
+    requires last { rules ≤ 2 }
+    ensures { IfOk result (λ item. item ≡ Items.ready (rules_of rules) raw.now) }
+{
+    let rules = Rules::numbered(rules);
     match raw {
-        RawItem::Record(fields) => by_names(alloc, Kind::Record, fields),
-        RawItem::Relation(fields) => by_names(alloc, Kind::Relation, fields),
-        RawItem::Exception(fields) => by_names(alloc, Kind::Exception, fields),
+        RawItem::Record(fields) => by_names(alloc, rules, Kind::Record, fields),
+        RawItem::Relation(fields) => by_names(alloc, rules, Kind::Relation, fields),
+        RawItem::Exception(fields) => by_names(alloc, rules, Kind::Exception, fields),
     }
 }
 
 // C01, and then the checks after it.
 #[tactic(auto, unfolding(crate::specs::Items::failed_check))]
-fn by_names(alloc: Global, kind: Kind, fields: &Fields) -> Result<Readied, NoMemory>
-    ensures { IfOk result (λ item. item ≡ ready_as kind fields.now) }
+fn by_names(alloc: Global, rules: Rules, kind: Kind, fields: &Fields) -> Result<Readied, NoMemory>
+    ensures { IfOk result (λ item. item ≡ ready_as rules kind fields.now) }
 {
     let _rising = fields.len();
     let sheet = sheet_of(kind, fields);
     match sheet.unknown {
         Some(name) => bad(alloc, FIELD_UNKNOWN, name),
-        None => by_presence(alloc, kind, &sheet.texts[..kind.field_count()]),
+        None => by_presence(alloc, rules, kind, &sheet.texts[..kind.field_count()]),
     }
 }
 
 // C02, and then the checks after it.
 #[tactic(auto, unfolding(crate::specs::Sheets::failed_at))]
-fn by_presence(alloc: Global, kind: Kind, texts: &[&str]) -> Result<Readied, NoMemory>
+fn by_presence(alloc: Global, rules: Rules, kind: Kind, texts: &[&str]) -> Result<Readied, NoMemory>
     requires { length texts.now ≡ field_count kind }
     ensures { let row = read_texts texts.now in IfOk result
-        (λ item. item ≡ readied_by kind row (failed_at kind row)) }
+        (λ item. item ≡ readied_by kind row (failed_at rules kind row)) }
 {
-    match first_failing(FieldCheck::Presence, kind, texts) {
+    match first_failing(rules, FieldCheck::Presence, kind, texts) {
         Some(name) => bad(alloc, FIELD_MISSING, name),
-        None => by_shapes(alloc, kind, texts),
+        None => by_shapes(alloc, rules, kind, texts),
     }
 }
 
 // C03, and then the check after it.
 #[tactic(auto, unfolding(crate::specs::Sheets::failed_at))]
-fn by_shapes(alloc: Global, kind: Kind, texts: &[&str]) -> Result<Readied, NoMemory>
+fn by_shapes(alloc: Global, rules: Rules, kind: Kind, texts: &[&str]) -> Result<Readied, NoMemory>
     requires places { length texts.now ≡ field_count kind }
-    requires present { first_at FieldCheck.Presence kind (read_texts texts.now) ≡ None }
+    requires present { first_at rules FieldCheck.Presence kind (read_texts texts.now) ≡ None }
     ensures { let row = read_texts texts.now in IfOk result
-        (λ item. item ≡ readied_by kind row (failed_at kind row)) }
+        (λ item. item ≡ readied_by kind row (failed_at rules kind row)) }
 {
-    let shaped = shaped_row(alloc, kind, texts)?;
+    let shaped = shaped_row(alloc, rules, kind, texts)?;
     match shaped.misshapen {
         Some(name) => bad(alloc, FIELD_SHAPE, name),
-        None => by_digits(alloc, kind, texts, shaped.row),
+        None => by_digits(alloc, rules, kind, texts, shaped.row),
     }
 }
 
 // C04, and then the item.
 #[tactic(auto, unfolding(crate::specs::Sheets::failed_at))]
-fn by_digits(alloc: Global, kind: Kind, texts: &[&str], row: Printed) -> Result<Readied, NoMemory>
+fn by_digits(
+    alloc: Global,
+    rules: Rules,
+    kind: Kind,
+    texts: &[&str],
+    row: Printed,
+) -> Result<Readied, NoMemory>
     requires places { length texts.now ≡ field_count kind }
-    requires present { first_at FieldCheck.Presence kind (read_texts texts.now) ≡ None }
-    requires shaped { first_at FieldCheck.Shape kind (read_texts texts.now) ≡ None }
+    requires present { first_at rules FieldCheck.Presence kind (read_texts texts.now) ≡ None }
+    requires shaped { first_at rules FieldCheck.Shape kind (read_texts texts.now) ≡ None }
     requires row { row ≡ printed_at kind (read_texts texts.now) }
     ensures { let row = read_texts texts.now in IfOk result
-        (λ item. item ≡ readied_by kind row (failed_at kind row)) }
+        (λ item. item ≡ readied_by kind row (failed_at rules kind row)) }
 {
-    match first_failing(FieldCheck::Digits, kind, texts) {
+    match first_failing(rules, FieldCheck::Digits, kind, texts) {
         Some(name) => bad(alloc, CHECK_DIGITS, name),
-        None => good(alloc, kind, texts, row),
+        None => good(alloc, rules, kind, texts, row),
     }
 }
 
@@ -105,15 +126,21 @@ fn bad(alloc: Global, code: u8, name: &str) -> Result<Readied, NoMemory>
     Ok(Readied::Bad(Check { code, detail }))
 }
 
-fn good(alloc: Global, kind: Kind, texts: &[&str], row: Printed) -> Result<Readied, NoMemory>
+fn good(
+    alloc: Global,
+    rules: Rules,
+    kind: Kind,
+    texts: &[&str],
+    row: Printed,
+) -> Result<Readied, NoMemory>
     requires places { length texts.now ≡ field_count kind }
-    requires present { first_at FieldCheck.Presence kind (read_texts texts.now) ≡ None }
-    requires shaped { first_at FieldCheck.Shape kind (read_texts texts.now) ≡ None }
-    requires checked { first_at FieldCheck.Digits kind (read_texts texts.now) ≡ None }
+    requires present { first_at rules FieldCheck.Presence kind (read_texts texts.now) ≡ None }
+    requires shaped { first_at rules FieldCheck.Shape kind (read_texts texts.now) ≡ None }
+    requires checked { first_at rules FieldCheck.Digits kind (read_texts texts.now) ≡ None }
     requires row { row ≡ printed_at kind (read_texts texts.now) }
     ensures { let row = read_texts texts.now in IfOk result (λ item. item ≡ readied_by kind row None) }
 {
-    let withdraws = facts_at(kind, texts).withdrawal;
+    let withdraws = facts_at(rules, kind, texts).withdrawal;
     Ok(Readied::Good(item_of(alloc, kind, withdraws, row)?))
 }
 
@@ -146,11 +173,16 @@ pub enum FieldCheck {
 
 // The first field that fails the check.
 #[tactic(auto, unfolding(crate::specs::Sheets::first_at))]
-fn first_failing(check: FieldCheck, kind: Kind, texts: &[&str]) -> Option<&'static str>
+fn first_failing(
+    rules: Rules,
+    check: FieldCheck,
+    kind: Kind,
+    texts: &[&str],
+) -> Option<&'static str>
     requires { length texts.now ≡ field_count kind }
-    ensures { option_copied result ≡ first_at check kind (read_texts texts.now) }
+    ensures { option_copied result ≡ first_at rules check kind (read_texts texts.now) }
 {
-    let facts = facts_at(kind, texts);
+    let facts = facts_at(rules, kind, texts);
     let table = kind.fields();
     for (index, field) in table.iter().enumerate() {
         if fails(check, facts, field, texts[index]) {
@@ -160,21 +192,24 @@ fn first_failing(check: FieldCheck, kind: Kind, texts: &[&str]) -> Option<&'stat
     None
 }
 
-// What the needs of an item's fields depend on.
-fn facts_at(kind: Kind, texts: &[&str]) -> Facts
+// What the checks of an item's fields depend on.
+fn facts_at(rules: Rules, kind: Kind, texts: &[&str]) -> Facts
     requires { length texts.now ≡ field_count kind }
-    ensures { result ≡ Sheets.facts_at kind (read_texts texts.now) }
+    ensures { result ≡ Sheets.facts_at rules kind (read_texts texts.now) }
 {
     match kind {
         Kind::Record => Facts {
+            rules,
             archival: is_archival(texts[places::STATUS - 1]),
             withdrawal: false,
         },
         Kind::Relation => Facts {
+            rules,
             archival: is_archival(texts[places::REGISTRATION - 1]),
             withdrawal: false,
         },
         Kind::Exception => Facts {
+            rules,
             archival: false,
             withdrawal: texts[places::ACTION - 1] == "WITHDRAW",
         },
@@ -193,15 +228,42 @@ fn fails(check: FieldCheck, facts: Facts, field: &Field, text: &str) -> bool
 {
     match check {
         FieldCheck::Presence => field.2.is_needed(facts) && text.is_empty(),
-        FieldCheck::Shape => !text.is_empty() && !(field.1.fits(text) && field.2.may_stand(facts)),
-        FieldCheck::Digits => field.1.is_code() && has_other_remainder(text),
+        FieldCheck::Shape => !text.is_empty()
+            && !(field.1.fits(facts.rules, text) && field.2.may_stand(facts)),
+        FieldCheck::Digits => has_wrong_digits(field.1, text),
     }
 }
 
-fn has_other_remainder(text: &str) -> bool
+// Whether a code in the text of a field has wrong check digits.
+fn has_wrong_digits(content: Content, text: &str) -> bool
+    ensures { result ≡ list_any Items.has_other_remainder (codes_in content text.now) }
+{
+    match content {
+        Content::Shaped(Shape::Code) => has_other_remainder(text.as_bytes()),
+        Content::Successors => one_has_other_remainder(text.as_bytes()),
+        Content::Shaped(_) | Content::Action => false,
+    }
+}
+
+fn has_other_remainder(text: &[u8]) -> bool
     ensures { result ≡ Items.has_other_remainder text.now }
 {
-    fits(Shape::Code, text) && Lei::read(text.as_bytes()).is_err()
+    is_code(text) && Lei::read(text).is_err()
+}
+
+// Whether one of the texts between the spaces of a text has.
+fn one_has_other_remainder(text: &[u8]) -> bool
+    ensures { result ≡ list_any Items.has_other_remainder (between_spaces text.now) }
+{
+    let mut left = Some(text);
+    while let Some(text) = left {
+        let (code, rest) = cut_at_space(text);
+        if has_other_remainder(code) {
+            return true;
+        }
+        left = rest;
+    }
+    false
 }
 
 // A row as far as its fields have their shapes, and the first field that hasn't.
@@ -214,14 +276,14 @@ struct Shaped {
 // C03 of each field, and the texts of the row: each a copy or, of a moment, its printed form. So each text is read
 // once.
 #[tactic(auto, unfolding(crate::specs::Sheets::first_at, crate::specs::Sheets::printed_at))]
-fn shaped_row(alloc: Global, kind: Kind, texts: &[&str]) -> Result<Shaped, NoMemory>
+fn shaped_row(alloc: Global, rules: Rules, kind: Kind, texts: &[&str]) -> Result<Shaped, NoMemory>
     requires { length texts.now ≡ field_count kind }
     ensures misshapen { IfOk result
-        (λ shaped. option_copied shaped.misshapen ≡ first_at FieldCheck.Shape kind (read_texts texts.now)) }
+        (λ shaped. option_copied shaped.misshapen ≡ first_at rules FieldCheck.Shape kind (read_texts texts.now)) }
     ensures row { IfOk result
         (λ shaped. shaped.misshapen ≡ None → shaped.row ≡ printed_at kind (read_texts texts.now)) }
 {
-    let facts = facts_at(kind, texts);
+    let facts = facts_at(rules, kind, texts);
     let table = kind.fields();
     let count = kind.row_len();
     let mut row = Printed::with_capacity(alloc, size_of(table, texts))?;

@@ -7,7 +7,8 @@ ghost use Rattle.lei_records.specs.Spelled.{IsRow};
 use crate::field_texts::FieldTexts;
 use crate::places;
 use crate::printed::Printed;
-use crate::texts::{code_at, present_code_at, text_at};
+use crate::successors::Successors;
+use crate::texts::{code_at, present_code_at, successors_at, text_at};
 use lei_code::Lei;
 use lei_outside::NoMemory;
 use lei_shapes::{Category, EntityStatus, Moment, RecordStatus};
@@ -25,7 +26,7 @@ pub struct Record {
     entity_status: EntityStatus,
     category: Category,
     manager: Lei,
-    successor: Option<Lei>,
+    successors: Successors,
     transfer_to: Option<Lei>,
     initial: Moment,
     updated: Moment,
@@ -80,7 +81,7 @@ impl Record {
             category: category_of(texts),
             entity_status: entity_status_of(texts),
             created: row.present_moment(places::CREATED),
-            successor: present_code_at(texts, places::SUCCESSOR),
+            successors: successors_at(texts),
             initial: row.moment(places::INITIAL),
             updated: row.moment(places::UPDATED),
             status: status_of(texts),
@@ -160,11 +161,18 @@ impl Record {
         self.manager
     }
 
-    /// The entity that followed this one: the field Entity.SuccessorEntity.1.SuccessorLEI.
+    /// The entities that followed this one, at most five: the field Entity.SuccessorEntity.1.SuccessorLEI.
+    pub fn successors(&self) -> Successors
+        ensures { result ≡ Cells.successors_in self.now }
+    {
+        self.successors
+    }
+
+    /// The first of them, which is the only one that the first rules know.
     pub fn successor(&self) -> Option<Lei>
         ensures { result ≡ Cells.successor_in self.now }
     {
-        self.successor
+        self.successors.first()
     }
 
     /// The issuer that the record is handed over to: the field Register.TransferTo.
@@ -214,7 +222,7 @@ impl Record {
             entity_status: self.entity_status,
             category: self.category,
             manager: self.manager,
-            successor: self.successor,
+            successors: self.successors,
             transfer_to: self.transfer_to,
             initial: self.initial,
             updated: self.updated,

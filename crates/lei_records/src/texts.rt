@@ -1,12 +1,16 @@
 //! What the texts of a row spell, by place.
 ghost use Rattle.std.specs.Prelude.{◌≡◌, ◌≤◌, length, IfSome};
 ghost use Rattle.lei_code.specs.Code.{IsValid};
+ghost use Rattle.lei_shapes.specs.Shape.{between_spaces};
+ghost use Rattle.lei_records.specs.Cells.{successors_in};
 ghost use Rattle.lei_records.specs.Rows.{text_at};
-ghost use Rattle.lei_records.specs.Spelled.{IsPrinted, moment_in, present};
+ghost use Rattle.lei_records.specs.Spelled.{AreCodes, IsPrinted, IsRow, moment_in, present};
 
 use crate::field_texts::FieldTexts;
+use crate::places;
+use crate::successors::Successors;
 use lei_code::Lei;
-use lei_shapes::Moment;
+use lei_shapes::{Moment, cut_at_space};
 
 // The text at a place, places counted from 1.
 pub fn text_at(texts: &FieldTexts, place: usize) -> &str
@@ -41,6 +45,37 @@ pub fn present_code_at(texts: &FieldTexts, place: usize) -> Option<Lei>
         return None;
     }
     Some(code_at(texts, place))
+}
+
+// The codes between the spaces of the text at a place. There are none where the text is absent.
+#[tactic(auto, unfolding(crate::specs::Cells::successors_in))]
+pub fn successors_at(texts: &FieldTexts) -> Successors
+    requires row { IsRow texts.now }
+    ensures { result ≡ successors_in texts.now }
+{
+    let text = text_at(texts, places::SUCCESSOR);
+    if text.is_empty() {
+        return Successors::none();
+    }
+    codes_in(text.as_bytes())
+}
+
+// The codes between the spaces of a text.
+fn codes_in(text: &[u8]) -> Successors
+    requires { AreCodes text.now }
+    ensures { result ≡ between_spaces text.now }
+{
+    let mut codes = Successors::none();
+    let mut left = Some(text);
+    while let Some(text) = left {
+        let (code, rest) = cut_at_space(text);
+        match Lei::read(code) {
+            Ok(code) => codes = codes.with(code),
+            Err(_) => unreachable!(),
+        }
+        left = rest;
+    }
+    codes
 }
 
 // The moment that the text at a place reads as.

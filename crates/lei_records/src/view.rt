@@ -6,6 +6,7 @@ ghost use Rattle.lei_records.specs.Relations.{rel_cell};
 use crate::item::Item;
 use crate::record::Record;
 use crate::relation::Relation;
+use crate::successors::Successors;
 use lei_code::Lei;
 use lei_outside::{List, Text};
 use lei_shapes::{
@@ -33,7 +34,7 @@ pub struct RecCell {
     pub initial: Moment,
     pub updated: Moment,
     pub category: Category,
-    pub successor: Option<Lei>,
+    pub successors: Successors,
 }
 
 /// What the rules ask of a relationship that is held.
@@ -126,7 +127,7 @@ impl Record {
             initial: self.initial(),
             updated: self.updated(),
             category: self.category(),
-            successor: self.successor(),
+            successors: self.successors(),
         }
     }
 }

@@ -1,4 +1,5 @@
 pub mod ClockLemmas
+pub mod CodeLemmas
 pub mod ListLemmas
 pub mod MomentLemmas
 pub mod ShapeLemmas

@@ -26,6 +26,21 @@ pub known_fits : map (fits_shape Shape.Jurisdiction) (codes "FR" ∷ codes "FR-"
     ≡ true ∷ false ∷ true ∷ false ∷ false ∷ []
 known_fits = refl
 
+pub known_codes : map (fits_shape Shape.Codes)
+    (codes "00000000000000000195"
+    ∷ codes "00000000000000000292 00000000000000000389"
+    ∷ codes "00000000000000000195 00000000000000000292 00000000000000000389 00000000000000000486 506700GE1G29325QX363"
+    ∷ codes ""
+    ∷ codes "00000000000000000292 00000000000000000292"
+    ∷ codes "00000000000000000292  00000000000000000389"
+    ∷ codes "00000000000000000292 "
+    ∷ codes " 00000000000000000292"
+    ∷ codes "00000000000000000292 0000000000000000038"
+    ∷ codes "00000000000000000195 00000000000000000292 00000000000000000389 00000000000000000486 506700GE1G29325QX363 HWUPKR0MPOU8FGXBT394"
+    ∷ [])
+    ≡ true ∷ true ∷ true ∷ false ∷ false ∷ false ∷ false ∷ false ∷ false ∷ false ∷ []
+known_codes = refl
+
 pub known_frees : map (fits_shape Shape.Free) (codes "" ∷ codes "Alpha" ∷ (194 ∷ 128 ∷ []) ∷ (194 ∷ 160 ∷ []) ∷ [])
     ≡ false ∷ true ∷ false ∷ true ∷ []
 unfolding chars

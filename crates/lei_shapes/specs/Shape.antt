@@ -1,8 +1,10 @@
 -- The shapes of texts. A text is seen as its bytes, and by `chars` as its characters.
-use Rattle.std.specs.Prelude.{ℕ, Bool, true, not, ◌&&◌, ◌||◌, ◌==◌, List, [], ◌∷◌, length, take, drop, chars, codes, is_some, nat_eq}
+use Rattle.std.specs.Prelude.{ℕ, Bool, true, not, ◌&&◌, ◌||◌, ◌==◌, List, [], ◌∷◌, length, take, drop, chars, codes, if◌then◌else◌, is_some, nat_eq, Option, Some, None}
+use Rattle.std.specs.Borrow.{Bor}
 use Rattle.std.specs.Char.{is_ascii_digit, is_ascii_uppercase, is_ascii_alphanumeric, is_control}
 use Rattle.std.specs.Int.{is_in_range}
 use Rattle.std.specs.List.{list_all, list_any, starts_with}
+use Rattle.std.specs.Str.{bytes_eq}
 use Rattle.lei_code.specs.Texts.{Lei, Text}
 use Rattle.lei_shapes.specs.declared.shapes.Shape.{Shape}
 use Rattle.lei_shapes.specs.Lists.{record_status_of, entity_status_of, category_of, validation_of, relation_type_of, relation_status_of, relation_registration_of, exception_category_of, reason_of}
@@ -20,6 +22,31 @@ is_lang_byte b = is_ascii_alphanumeric b || (b == 45)
 abbrev pub is_code : Lei → Bool
 is_code text = (length text == 20) && list_all is_capital_or_digit (take 18 text)
     && list_all is_ascii_digit (drop 18 text)
+
+-- The byte stands before the first of these texts.
+abbrev pub with_byte : ℕ → List Text → List Text
+with_byte byte [] = []
+with_byte byte (text ∷ texts) = (byte ∷ text) ∷ texts
+
+-- The texts between the spaces of a text, in order: one more than it has spaces.
+abbrev pub between_spaces : Text → List Text
+between_spaces [] = [] ∷ []
+between_spaces (byte ∷ text) = if byte == 32 then [] ∷ between_spaces text else with_byte byte (between_spaces text)
+
+-- The same of the text that stands after a space, if there is one.
+abbrev pub texts_behind : Option (Bor Text) → List Text
+texts_behind None = []
+texts_behind (Some text) = between_spaces text.now
+
+-- No text of the list stands in it twice.
+abbrev pub are_different : List Text → Bool
+are_different [] = true
+are_different (text ∷ texts) = not (list_any (bytes_eq text) texts) && are_different texts
+
+-- One to five LEIs, whatever their check digits, all different, with one space between each and the next.
+abbrev pub is_codes : Text → Bool
+is_codes text = is_in_range 1 5 (length (between_spaces text)) && list_all is_code (between_spaces text)
+    && are_different (between_spaces text)
 
 -- A free text: 1 to 500 characters, of which none is below U+0020 or from U+007F to U+009F. These are the control
 -- characters.
@@ -56,6 +83,7 @@ is_form text = (length text == 4) && list_all is_capital_or_digit text
 -- The text has the shape: by the shape's own test, or where it reads as a moment or as a value of the list.
 abbrev pub fits_shape : Shape → Text → Bool
 fits_shape Shape.Code text = is_code text
+fits_shape Shape.Codes text = is_codes text
 fits_shape Shape.Free text = is_free text
 fits_shape Shape.Lang text = is_lang text
 fits_shape Shape.Country text = is_country text

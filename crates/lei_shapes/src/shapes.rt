@@ -5,6 +5,7 @@ ghost use Rattle.std.specs.Char.{is_ascii_digit, is_control};
 ghost use Rattle.std.specs.List.{list_all, list_any};
 ghost use Rattle.lei_shapes.specs.Shape.{fits_shape, is_capital_or_digit, is_lang_byte, is_code as code, is_free as free, is_lang as lang, is_country as country, is_authority as authority, is_subdivision as subdivision, is_jurisdiction as jurisdiction, is_form as form};
 
+use crate::codes::are_codes;
 use crate::{
     Category, EntityStatus, ExceptionCategory, Moment, Reason, RecordStatus, RelationRegistration,
     RelationStatus, RelationType, Validation,
@@ -16,6 +17,9 @@ use crate::{
 pub enum Shape {
     /// A Legal Entity Identifier, whatever its check digits.
     Code,
+    /// One to five Legal Entity Identifiers, whatever their check digits, all different, with one space between each
+    /// and the next.
+    Codes,
     /// A text without control characters.
     Free,
     /// The tag of a language.
@@ -48,6 +52,7 @@ pub fn fits(shape: Shape, text: &str) -> bool
 {
     match shape {
         Shape::Code => is_code(text.as_bytes()),
+        Shape::Codes => are_codes(text.as_bytes()),
         Shape::Free => is_free(text),
         Shape::Lang => is_lang(text.as_bytes()),
         Shape::Country => is_country(text.as_bytes()),
@@ -67,7 +72,8 @@ pub fn fits(shape: Shape, text: &str) -> bool
     }
 }
 
-fn is_code(text: &[u8]) -> bool
+/// Whether the text is written as a Legal Entity Identifier, whatever its check digits.
+pub fn is_code(text: &[u8]) -> bool
     ensures { result ≡ code text.now }
 {
     text.len() == 20 && are_capitals_or_digits(&text[..18]) && are_digits(&text[18..])

@@ -1,7 +1,7 @@
 //! The fields of a record in order of place. The names are those of the columns of a golden copy of
 //! level 1 data, but for the last one; shapes and needs are this project's profile.
 use crate::fields::Content::Shaped;
-use crate::fields::{Field, Need};
+use crate::fields::{Content, Field, Need};
 use crate::places::RECORD_PLACES;
 use lei_shapes::Shape;
 
@@ -100,7 +100,7 @@ pub const FIELDS: [Field; RECORD_PLACES] = [
     ),
     (
         "Entity.SuccessorEntity.1.SuccessorLEI",
-        Shaped(Shape::Code),
+        Content::Successors,
         Need::Optional,
     ),
     (

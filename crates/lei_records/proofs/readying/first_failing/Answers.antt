@@ -12,7 +12,7 @@ returns-then-fails c =
     let index = c.loop-index.index in
     let bound = c.loop-index-test.true in
     first_in-yes c.args.check c.facts_at-facts.result table texts index _ _ bound (has_text c.args.kind table texts index c.fields-table.ensures.table c.requires bound) (sym c.fails.ensures ∙ c.if-fails.true)
-    ∙ (c.loop-index.invariant ∙ (ap (λ facts. first_in c.args.check facts table texts) c.facts_at-facts.ensures ∙ first_in-all c.args.check c.args.kind table texts c.fields-table.ensures.table))
+    ∙ (c.loop-index.invariant ∙ (ap (λ facts. first_in c.args.check facts table texts) c.facts_at-facts.ensures ∙ first_in-all c.args.rules c.args.check c.args.kind table texts c.fields-table.ensures.table))
 
 pub loop-index-preserved : goal.loop-index-preserved
 loop-index-preserved c =
@@ -29,4 +29,4 @@ returns c =
     let texts = c.args.texts.now in
     let index = c.loop-index.index in
     first_in-past c.args.check c.facts_at-facts.result table texts index c.loop-index-test.false
-    ∙ (c.loop-index.invariant ∙ (ap (λ facts. first_in c.args.check facts table texts) c.facts_at-facts.ensures ∙ first_in-all c.args.check c.args.kind table texts c.fields-table.ensures.table))
+    ∙ (c.loop-index.invariant ∙ (ap (λ facts. first_in c.args.check facts table texts) c.facts_at-facts.ensures ∙ first_in-all c.args.rules c.args.check c.args.kind table texts c.fields-table.ensures.table))

@@ -8,4 +8,4 @@ use Rattle.lei_records.proofs.readying.good.Goals as goal
 pub item_of-requires : goal.item_of-requires
 item_of-requires c =
     subst (IsRowOf c.args.kind) (sym c.requires.row)
-    (IsRowOf-printed_at c.args.kind (read_texts c.args.texts.now) (length-map c.args.texts.now (λ text. text.now) ∙ c.requires.places) c.requires.present c.requires.shaped c.requires.checked)
+    (IsRowOf-printed_at c.args.rules c.args.kind (read_texts c.args.texts.now) (length-map c.args.texts.now (λ text. text.now) ∙ c.requires.places) c.requires.present c.requires.shaped c.requires.checked)

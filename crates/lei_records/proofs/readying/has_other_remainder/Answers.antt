@@ -1,9 +1,7 @@
-use Rattle.std.proofs.Common.{subst, sym, ◌∙◌}
-use Rattle.lei_code.specs.Code.{IsValid}
+use Rattle.std.proofs.Common.{sym, ◌∙◌}
 use Rattle.lei_records.proofs.Codes.{remainder_told}
 use Rattle.lei_records.proofs.readying.has_other_remainder.Goals as goal
 
-pub returns-then-fits : goal.returns-then-fits
-returns-then-fits c =
-    c.is_err.ensures.value ∙ remainder_told c.read.result c.args.text.now (sym c.fits.ensures ∙ c.if-fits.true)
-    (λ ok. subst IsValid c.as_bytes.ensures.value (c.read.ensures.valid.0 ok)) (λ valid. c.read.ensures.valid.1 (subst IsValid (sym c.as_bytes.ensures.value) valid))
+pub returns-then-is_code : goal.returns-then-is_code
+returns-then-is_code c =
+    c.is_err.ensures.value ∙ remainder_told c.read.result c.args.text.now (sym c.is_code.ensures ∙ c.if-is_code.true) c.read.ensures.valid.0 c.read.ensures.valid.1

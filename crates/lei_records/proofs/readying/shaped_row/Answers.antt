@@ -14,7 +14,7 @@ returns-then-not-fits-clause-misshapen c =
     let index = c.loop-index.index in
     let bound = c.loop-index-test.true in
     first_in-yes FieldCheck.Shape c.facts_at-facts.result table texts index _ _ bound (has_text c.args.kind table texts index c.fields-table.ensures.table c.requires bound) (sym c.in_ok-fits.ensures.fits ∙ ap not c.if-not-fits.true)
-    ∙ (c.loop-index.invariant.misshapen ∙ (ap (λ facts. first_in FieldCheck.Shape facts table texts) c.facts_at-facts.ensures ∙ first_in-all FieldCheck.Shape c.args.kind table texts c.fields-table.ensures.table))
+    ∙ (c.loop-index.invariant.misshapen ∙ (ap (λ facts. first_in FieldCheck.Shape facts table texts) c.facts_at-facts.ensures ∙ first_in-all c.args.rules FieldCheck.Shape c.args.kind table texts c.fields-table.ensures.table))
 
 pub loop-index-preserved : goal.loop-index-preserved
 loop-index-preserved c =
@@ -35,7 +35,7 @@ returns-clause-misshapen c =
     let table = c.fields-table.result.now in
     let texts = c.args.texts.now in
     first_in-past FieldCheck.Shape c.facts_at-facts.result table texts c.loop-index.index c.loop-index-test.false
-    ∙ (c.loop-index.invariant.misshapen ∙ (ap (λ facts. first_in FieldCheck.Shape facts table texts) c.facts_at-facts.ensures ∙ first_in-all FieldCheck.Shape c.args.kind table texts c.fields-table.ensures.table))
+    ∙ (c.loop-index.invariant.misshapen ∙ (ap (λ facts. first_in FieldCheck.Shape facts table texts) c.facts_at-facts.ensures ∙ first_in-all c.args.rules FieldCheck.Shape c.args.kind table texts c.fields-table.ensures.table))
 
 pub returns-clause-row : goal.returns-clause-row
 returns-clause-row c none =

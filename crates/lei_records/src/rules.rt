@@ -1,0 +1,28 @@
+//! The sets of rules by which items are read and judged.
+ghost use Rattle.std.specs.Prelude.{◌≡◌, ◌≤◌};
+ghost use Rattle.lei_records.specs.RuleNumbers.{rules_of};
+
+/// The rules by which an entry of the register was made. Each entry names them by their number, and is replayed by
+/// them. This project's profile.
+#[derive(Clone, Copy, Debug, PartialEq, Eq)]
+pub enum Rules {
+    /// A record names at most one successor.
+    First,
+    /// A record names up to five successors.
+    Second,
+}
+
+impl Rules {
+    /// The rules of this number.
+    pub fn numbered(number: u16) -> Rules
+        requires first { 1 ≤ number }
+        requires last { number ≤ 2 }
+        ensures { result ≡ rules_of number }
+    {
+        if number == 1 {
+            Rules::First
+        } else {
+            Rules::Second
+        }
+    }
+}

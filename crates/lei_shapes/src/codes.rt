@@ -1,0 +1,60 @@
+//! Texts of several codes, with one space between each and the next.
+ghost use Rattle.std.specs.Prelude.{◌≡◌, ◌==◌, ◌<◌, ◌∷◌, length, IfSome};
+ghost use Rattle.std.specs.List.{list_any, position};
+ghost use Rattle.std.specs.Str.{bytes_eq};
+ghost use Rattle.lei_shapes.specs.Shape.{between_spaces, is_codes, texts_behind};
+
+use crate::shapes::is_code;
+
+// The most codes that a text has. This project's profile.
+const MOST_CODES: usize = 5;
+
+fn first_space(text: &[u8]) -> Option<usize>
+    ensures { result ≡ position (λ byte. byte == 32) text.now }
+{
+    text.iter().position(|byte| *byte == b' ')
+}
+
+/// A text up to its first space, and what stands after that, if there is a space.
+pub fn cut_at_space(text: &[u8]) -> (&[u8], Option<&[u8]>)
+    ensures texts { between_spaces text.now ≡ result.0.now ∷ texts_behind result.1 }
+    ensures shorter { IfSome result.1 (λ rest. length rest.now < length text.now) }
+{
+    match first_space(text) {
+        Some(at) => (&text[..at], Some(&text[at + 1..])),
+        None => (text, None),
+    }
+}
+
+// Whether the text is one of those between the spaces of another.
+fn stands_in(text: &[u8], several: Option<&[u8]>) -> bool
+    ensures { result ≡ list_any (bytes_eq text.now) (texts_behind several.entry) }
+{
+    let mut left = several;
+    while let Some(several) = left {
+        let (first, rest) = cut_at_space(several);
+        if text == first {
+            return true;
+        }
+        left = rest;
+    }
+    false
+}
+
+// Whether the text is one to five codes, all different, with one space between each and the next.
+pub fn are_codes(text: &[u8]) -> bool
+    ensures { result ≡ is_codes text.now }
+{
+    let mut left = text;
+    for _ in 0..MOST_CODES {
+        let (code, rest) = cut_at_space(left);
+        if !is_code(code) || stands_in(code, rest) {
+            return false;
+        }
+        match rest {
+            Some(rest) => left = rest,
+            None => return true,
+        }
+    }
+    false
+}
