@@ -1,10 +1,10 @@
 -- The checks of an item by its texts in order of place, and the row that it has where they pass.
-use Rattle.std.proofs.Common.{◌≡◌, ℕ, ℤ, ◌<◌, ◌%◌, zero, suc, List, [], ◌∷◌, Bool, true, false, not, ◌&&◌, cond, length, get_or, map, take, min, Option, None, Some, unwrap_or, refl, sym, ap, subst, ◌∙◌, arith, lit<}
+use Rattle.std.proofs.Common.{◌≡◌, ℕ, ℤ, ◌<◌, ◌≤◌, ◌%◌, zero, suc, List, [], ◌∷◌, Bool, true, false, not, ◌&&◌, cond, length, get_or, map, take, min, Option, None, Some, unwrap_or, refl, sym, ap, subst, ◌∙◌, arith, lit<}
 use Rattle.std.specs.Prelude.{◌==◌, codes, IfSome, is_some, IfOk, Result, Ok, Err}
 use Rattle.std.proofs.lemmas.Bool.{false≢true, or_parts}
 use Rattle.std.proofs.lemmas.Int.{ints}
 use Rattle.std.specs.List.{find, list_any, zip}
-use Rattle.std.specs.Option.{option_map, option_or}
+use Rattle.std.specs.Option.{option_map, option_map_or, option_or}
 use Rattle.std.specs.Map.{lookup}
 use Rattle.std.specs.Str.{bytes_eq}
 use Rattle.std.proofs.lemmas.List.{get_or-map, get_or-take, length-map}
@@ -17,7 +17,8 @@ use Rattle.lei_shapes.specs.declared.shapes.Shape.{Shape}
 use Rattle.lei_shapes.specs.Clock.{moment_text}
 use Rattle.lei_shapes.specs.Lists.{category_of, entity_status_of, exception_category_of, reason_of, record_status_of, relation_registration_of, relation_status_of, relation_type_of}
 use Rattle.lei_shapes.specs.Moment.{IsMoment, is_moment, moment_of_instant, read_moment, whole_seconds}
-use Rattle.lei_shapes.specs.Shape.{is_code, fits_shape}
+use Rattle.lei_shapes.specs.Shape.{between_spaces, is_code, fits_shape}
+use Rattle.lei_shapes.proofs.CodeLemmas.{one_code}
 use Rattle.lei_shapes.proofs.MomentLemmas.{read_moment-text}
 use Rattle.lei_records.specs.declared.fields.Content.{Content}
 use Rattle.lei_records.specs.declared.fields.Facts.{Facts}
@@ -26,6 +27,7 @@ use Rattle.lei_records.specs.declared.fields.Need.{Need}
 use Rattle.lei_records.specs.declared.item.Readied.{Readied}
 use Rattle.lei_records.specs.declared.readying.FieldCheck.{FieldCheck}
 use Rattle.lei_records.specs.declared.rules.Rules.{Rules}
+use Rattle.lei_records.specs.Cells.{successors_in}
 use Rattle.lei_records.specs.Checks.{FailedCheck}
 use Rattle.lei_records.specs.Fields.{Field, exception_fields, field_count, fields, fields_of, codes_in, fits_content, is_needed, may_stand, relation_fields, row_fields, row_len, successors_shape}
 use Rattle.lei_records.specs.Items.{facts_of, failed_check, failed_field, first_field, has_other_remainder, is_archival, is_field, is_withdrawal, item_of, row_text, miscoded_field, misshapen_field, missing_field, printed, readied, row_of, text_of, unknown_name}
@@ -382,16 +384,20 @@ rowed_as Kind.Record = rowed
 rowed_as Kind.Relation = relation_rowed
 rowed_as Kind.Exception = exception_rowed
 
+-- what the checks by place say of texts that fail none of them
+passes : (rules : Rules) (kind : Kind) (texts : Row) → length texts ≡ field_count kind → first_at rules FieldCheck.Presence kind texts ≡ None → first_at rules FieldCheck.Shape kind texts ≡ None → first_at rules FieldCheck.Digits kind texts ≡ None
+    → Passed rules kind texts
+passes rules kind texts len presence shape digits = record {
+  len = len;
+  presence = asked_at rules FieldCheck.Presence kind texts len presence;
+  shape = asked_at rules FieldCheck.Shape kind texts len shape;
+  digits = asked_at rules FieldCheck.Digits kind texts len digits;
+}
+
 -- texts that pass the checks are a row
 pub IsRowOf-printed_at : (rules : Rules) (kind : Kind) (texts : Row) → length texts ≡ field_count kind → first_at rules FieldCheck.Presence kind texts ≡ None → first_at rules FieldCheck.Shape kind texts ≡ None → first_at rules FieldCheck.Digits kind texts ≡ None
     → IsRowOf kind (printed_at kind texts)
-IsRowOf-printed_at rules kind texts len presence shape digits =
-    rowed_as {rules = rules} kind texts (record {
-      len = len;
-      presence = asked_at rules FieldCheck.Presence kind texts len presence;
-      shape = asked_at rules FieldCheck.Shape kind texts len shape;
-      digits = asked_at rules FieldCheck.Digits kind texts len digits;
-    })
+IsRowOf-printed_at rules kind texts len presence shape digits = rowed_as kind texts (passes rules kind texts len presence shape digits)
 
 none_failed : {X Y : Type 0} (a b c d : Option X) (f g h k : X → Y) → option_or (option_map f a) (option_or (option_map g b) (option_or (option_map h c) (option_map k d))) ≡ None
     → (a ≡ None) × (b ≡ None) × (c ≡ None) × (d ≡ None)
@@ -404,15 +410,37 @@ none_failed (Some x) b c d f g h k is = cc
 length-texts_of : (kind : Kind) (pairs : List (List ℕ × List ℕ)) → length (texts_of kind pairs) ≡ field_count kind
 length-texts_of kind pairs = length-map (fields_of kind) (λ field. text_of pairs field.0) ∙ length-fields_of kind
 
--- an item that passes its checks has the row of an item of its kind
-pub IsRowOf-row_of : (rules : Rules) (kind : Kind) (pairs : List (List ℕ × List ℕ)) → failed_check rules kind pairs ≡ None → IsRowOf kind (row_of kind pairs)
+-- an item that passes its checks has texts that pass them by place
+passed_of : (rules : Rules) (kind : Kind) (pairs : List (List ℕ × List ℕ)) → failed_check rules kind pairs ≡ None → Passed rules kind (texts_of kind pairs)
 unfolding failed_check
-IsRowOf-row_of rules kind pairs is =
+passed_of rules kind pairs is =
     let none = none_failed (unknown_name kind pairs) (missing_field rules kind pairs) (misshapen_field rules kind pairs) (miscoded_field kind pairs) (failed_field 1) (failed_field 2) (failed_field 3) (failed_field 4) is in
     let first = none_unknown kind pairs none.0 in
-    subst (IsRowOf kind) (printed_at-texts_of kind pairs)
-    (IsRowOf-printed_at rules kind (texts_of kind pairs) (length-texts_of kind pairs)
-    (first_at-texts_of rules FieldCheck.Presence kind pairs first ∙ none.1) (first_at-texts_of rules FieldCheck.Shape kind pairs first ∙ none.2) (first_at-texts_of rules FieldCheck.Digits kind pairs first ∙ none.3))
+    passes rules kind (texts_of kind pairs) (length-texts_of kind pairs)
+    (first_at-texts_of rules FieldCheck.Presence kind pairs first ∙ none.1) (first_at-texts_of rules FieldCheck.Shape kind pairs first ∙ none.2) (first_at-texts_of rules FieldCheck.Digits kind pairs first ∙ none.3)
+
+-- it has the row of an item of its kind
+pub IsRowOf-row_of : (rules : Rules) (kind : Kind) (pairs : List (List ℕ × List ℕ)) → failed_check rules kind pairs ≡ None → IsRowOf kind (row_of kind pairs)
+IsRowOf-row_of rules kind pairs is =
+    subst (IsRowOf kind) (printed_at-texts_of kind pairs) (rowed_as kind (texts_of kind pairs) (passed_of rules kind pairs is))
+
+-- by the first rules it names at most one successor
+pub one_named : (pairs : List (List ℕ × List ℕ)) → failed_check Rules.First Kind.Record pairs ≡ None → length (successors_in (row_of Kind.Record pairs)) ≤ 1
+unfolding fields successors_in
+one_named pairs is =
+    let r = Kind.Record in
+    let texts = texts_of r pairs in
+    let passed = passed_of Rules.First r pairs is in
+    let text = sent texts 20 in
+    let same : get_or (row_of r pairs) 20 [] ≡ text = ap (λ row. get_or row 20 []) (sym (printed_at-texts_of r pairs)) ∙ row_at r texts passed.len 20 (lit< tt) in
+    subst (λ t. length (option_map_or between_spaces (present t) []) ≤ 1) (sym same)
+    (elim (is_absent text) as (λ b. is_absent text ≡ b → length (option_map_or between_spaces (cond b None (Some text)) []) ≤ 1) [
+      | true ↦ λ absent. omega arith
+      | false ↦ λ stands.
+          subst (λ (named : List (List ℕ)). length named ≤ 1)
+          (sym (one_code text (fit (is_absent text) (is_code text) (may_stand (facts_at Rules.First r texts) Need.Optional) stands (passed.shape 20 (lit< tt)))))
+          (omega arith)
+    ] refl)
 
 withdraws_at-texts_of : (kind : Kind) (pairs : List (List ℕ × List ℕ)) → first_unknown kind pairs ≡ None → withdraws_at kind (texts_of kind pairs) ≡ is_withdrawal pairs
 unfolding fields relation_fields exception_fields

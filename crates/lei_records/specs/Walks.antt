@@ -1,10 +1,11 @@
 -- Walks: from LEI to LEI, where each names at most one next one. This project's profile.
-use Rattle.std.specs.Prelude.{ℕ, zero, suc, ◌==◌, List, [], ◌∷◌, length, Bool, Option, option_and_then}
+use Rattle.std.specs.Prelude.{◌≡◌, ◌≤◌, ℕ, zero, suc, ◌==◌, List, [], ◌∷◌, length, Bool, Option, Some, option_and_then}
 use Rattle.std.specs.List.{list_any}
-use Rattle.std.specs.Option.{option_map_or, option_to_list}
+use Rattle.std.specs.Option.{option_map_or}
 use Rattle.std.specs.Str.{bytes_eq}
 use Rattle.lei_code.specs.Texts.{Lei}
-use Rattle.lei_records.specs.Cells.{successor_in}
+use Rattle.lei_records.specs.Cells.{successor_in, successors_in}
+use Rattle.lei_records.specs.Rows.{Row}
 use Rattle.lei_records.specs.Tables.{Table, row_at}
 
 -- What each LEI names next, if anything.
@@ -27,10 +28,14 @@ is_long next first = length (members 201 next first) == 201
 
 -- ---- successors
 
--- The successor that the record of an LEI names.
+-- The first successor that the record of an LEI names, which is the only one that the first rules know.
 abbrev pub successor_of : Table → Lei → Option Lei
 successor_of table lei = option_and_then successor_in (row_at table lei)
 
--- The same as a list of one or none.
+-- All successors that the record of an LEI names.
 abbrev pub successors_of : Table → Lei → List Lei
-successors_of table lei = option_to_list (successor_of table lei)
+successors_of table lei = option_map_or successors_in (row_at table lei) []
+
+-- Each record of a table names at most one successor, as those do that came by the first rules.
+abbrev pub NameOne : Table → Type 0
+NameOne table = (lei : Lei) (row : Row) → row_at table lei ≡ Some row → length (successors_in row) ≤ 1

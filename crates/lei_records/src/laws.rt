@@ -1,9 +1,10 @@
 //! Laws of the definitions, each as the contract of a function that does nothing.
-ghost use Rattle.std.specs.Prelude.{◌≡◌, List, None, IsTrue};
+ghost use Rattle.std.specs.Prelude.{◌≡◌, ◌≤◌, List, None, IsTrue, length};
 ghost use Rattle.std.specs.List.{list_all};
 ghost use Rattle.lei_code.specs.Texts.{Text};
 ghost use Rattle.lei_records.specs.declared.fields.Kind.{Kind};
 ghost use Rattle.lei_records.specs.declared.rules.Rules.{Rules};
+ghost use Rattle.lei_records.specs.Cells.{successors_in};
 ghost use Rattle.lei_records.specs.Fields.{has_name};
 ghost use Rattle.lei_records.specs.Items.{IsRowOf, failed_check, row_of};
 ghost use Rattle.lei_records.specs.Places.{named_places};
@@ -17,4 +18,10 @@ pub fn places_have_their_fields()
 pub fn good_items_have_rows()
     ensures { (rules : Rules) (kind : Kind) (pairs : List (Text × Text)) → failed_check rules kind pairs ≡ None
         → IsRowOf kind (row_of kind pairs) }
+{}
+
+/// A record that passes its checks by the first rules names at most one successor.
+pub fn first_rules_name_one_successor()
+    ensures { (pairs : List (Text × Text)) → failed_check Rules.First Kind.Record pairs ≡ None
+        → length (successors_in (row_of Kind.Record pairs)) ≤ 1 }
 {}
