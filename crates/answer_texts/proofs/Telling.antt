@@ -5,7 +5,7 @@ use Rattle.std.specs.Prelude.{IfSome}
 use Rattle.std.specs.Option.{option_or}
 use Rattle.std.proofs.lemmas.List.Elements.{All-cons, All-nil}
 use Rattle.lei_code.specs.Texts.{Lei, Text}
-use Rattle.lei_records.specs.Cells.{lei_in, successor_in}
+use Rattle.lei_records.specs.Cells.{lei_in, successor_in, successors_in}
 use Rattle.lei_records.specs.Checks.{FailedCheck, Finding, IsNumber, first_failing}
 use Rattle.lei_records.specs.Items.{failed_check, failed_field, is_withdrawal, item_of, miscoded_field, misshapen_field, missing_field, ready, readied, row_of, unknown_name}
 use Rattle.lei_records.specs.Rows.{Row}
@@ -15,9 +15,9 @@ use Rattle.lei_records.specs.declared.item.Item.{Item}
 use Rattle.lei_records.specs.declared.item.RawItem.{RawItem}
 use Rattle.lei_records.specs.declared.item.Readied.{Readied}
 use Rattle.lei_records.specs.declared.view.RecCell.{RecCell}
-use Rattle.register_judge.specs.declared.sitting.Rules.{Rules}
+use Rattle.lei_records.specs.declared.rules.Rules.{Rules}
 use Rattle.register_judge.specs.declared.sitting.Sitting.{Sitting}
-use Rattle.register_judge.specs.Checks.{c19, held_checks, limit_check, own_checks, successor_checks}
+use Rattle.register_judge.specs.Checks.{c19, first_checks, held_checks, level_checks, limit_check, own_checks, successor_checks}
 use Rattle.register_judge.specs.Taking.{item_checks, take, verdict, verdict_of, writes_of}
 use Rattle.answer_texts.specs.Answers.{IsTold}
 
@@ -48,9 +48,17 @@ held-numbered : (held : Option RecCell) (sitting : Sitting) (row : Row) → AreN
 held-numbered None sitting row = (refl, (refl, (refl, (refl, (refl, (refl, tt))))))
 held-numbered (Some held) sitting row = (refl, (refl, (refl, (refl, (refl, (refl, tt))))))
 
-successor-numbered : (rules : Rules) (table : Table) (row : Row) (successor : Option Lei) → AreNumbered (successor_checks rules table row successor)
-successor-numbered rules table row None = tt
-successor-numbered Rules.First table row (Some successor) = (refl, (refl, (refl, tt)))
+first-numbered-successor : (table : Table) (row : Row) (successor : Option Lei) → AreNumbered (first_checks table row successor)
+first-numbered-successor table row None = tt
+first-numbered-successor table row (Some successor) = (refl, (refl, (refl, tt)))
+
+levels-numbered : (table : Table) (row : Row) (successors : List Lei) → AreNumbered (level_checks table row successors)
+levels-numbered table row [] = tt
+levels-numbered table row (successor ∷ successors) = (refl, tt)
+
+successors-numbered : (rules : Rules) (table : Table) (row : Row) → AreNumbered (successor_checks rules table row)
+successors-numbered Rules.First table row = first-numbered-successor table row (successor_in row)
+successors-numbered Rules.Second table row = levels-numbered table row (successors_in row)
 
 parts-numbered : (own held followed taken full : List Finding) → AreNumbered own → AreNumbered held → AreNumbered followed → AreNumbered taken → AreNumbered full
     → AreNumbered ((own ++ held ++ followed ++ taken) ++ full)
@@ -63,8 +71,8 @@ item-numbered table sitting (Item.Record row) =
     let held = record_of table (lei_in row) in
     let taken = c19 (other_holder table row) row ∷ [] in
     let full = limit_check table sitting row ∷ [] in
-    parts-numbered (own_checks sitting row) (held_checks held sitting row) (successor_checks sitting.rules table row (successor_in row)) taken full
-    (refl, (refl, (refl, (refl, (refl, tt))))) (held-numbered held sitting row) (successor-numbered sitting.rules table row (successor_in row)) (refl, tt) (refl, tt)
+    parts-numbered (own_checks sitting row) (held_checks held sitting row) (successor_checks sitting.rules table row) taken full
+    (refl, (refl, (refl, (refl, (refl, tt))))) (held-numbered held sitting row) (successors-numbered sitting.rules table row) (refl, tt) (refl, tt)
 item-numbered table sitting (Item.Relation row) = (refl, (refl, (refl, (refl, (refl, (refl, (refl, (refl, (refl, (refl, (refl, tt)))))))))))
 item-numbered table sitting (Item.Exception item) = (refl, (refl, (refl, (refl, tt))))
 

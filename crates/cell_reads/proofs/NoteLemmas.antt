@@ -1,5 +1,5 @@
 -- What noting cells adds to those that were read: one cell, and several.
-use Rattle.std.specs.Prelude.{◌≡◌, ◌<◌, ◌+◌, ◌-◌, ℕ, zero, suc, List, [], ◌∷◌, ◌++◌, map, None, IsTrue}
+use Rattle.std.specs.Prelude.{◌≡◌, ◌<◌, ◌+◌, ◌-◌, ℕ, zero, suc, List, [], ◌∷◌, ◌++◌, map, slice_get, Some, None, IsTrue}
 use Rattle.std.specs.List.{Contains}
 use Rattle.std.specs.Option.{option_map_or}
 use mathlib.Core.Logic.{inl, inr}
@@ -144,3 +144,10 @@ pub walk-all : (cells : Cells) (old now : Listed) (answers : SeenNext) (cell : L
 walk-all cells old now answers cell member first left is goes_on =
     let P : List CellKey → Type 0 = NotesCells cells now now in
     goes_on now (subst P (sym (ap (λ n. walk_keys n answers cell member) is ∙ keys-zero answers cell member)) (notes-none cells now))
+
+-- ---- successors
+
+-- the record of the first successor is one of those that are named
+pub first_named : (successors : List (List ℕ)) (lei : List ℕ) → slice_get successors 0 ≡ Some lei → Contains (map CellKey.Rec successors) (CellKey.Rec lei)
+first_named [] lei is = cc
+first_named (successor ∷ successors) lei is = (0, omega arith, let same : successor ≡ lei = cc in ap CellKey.Rec same)

@@ -4,8 +4,9 @@ use Rattle.lei_code.specs.Texts.{Lei, Text}
 use Rattle.lei_shapes.specs.declared.lists.RelationType.{RelationType}
 use Rattle.lei_records.specs.declared.item.Item.{Item}
 use Rattle.lei_records.specs.declared.item.Readied.{Readied}
+use Rattle.lei_records.specs.declared.rules.Rules.{Rules}
 use Rattle.lei_records.specs.declared.view.CellKey.{CellKey}
-use Rattle.lei_records.specs.Cells.{Cells, akey, lei_in, successor_in}
+use Rattle.lei_records.specs.Cells.{Cells, akey, lei_in, successor_in, successors_in}
 use Rattle.lei_records.specs.Relations.{end_in}
 use Rattle.lei_records.specs.Rows.{Row}
 use Rattle.lei_records.specs.Walks.{members}
@@ -21,14 +22,13 @@ abbrev pub key_names : Option (Text × Text) → List CellKey
 key_names None = []
 key_names (Some key) = CellKey.Key key.0 key.1 ∷ []
 
--- The record of a successor, if a record names one.
-abbrev pub successor_names : Option Lei → List CellKey
-successor_names None = []
-successor_names (Some successor) = CellKey.Rec successor ∷ []
+-- The records of the successors that a record names.
+abbrev pub successor_names : List Lei → List CellKey
+successor_names successors = map CellKey.Rec successors
 
--- The cells that a record names: its own, that of its authority key, and that of its successor.
+-- The cells that a record names: its own, that of its authority key, and those of its successors.
 abbrev pub record_names : Row → List CellKey
-record_names row = CellKey.Rec (lei_in row) ∷ (key_names (akey row) ++ successor_names (successor_in row))
+record_names row = CellKey.Rec (lei_in row) ∷ (key_names (akey row) ++ successor_names (successors_in row))
 
 -- The cells that an item names. One that failed the checks of its fields names none.
 abbrev pub names : Readied → List CellKey
@@ -39,9 +39,9 @@ names (Readied.Good (Item.Exception item)) = exception_names item.0
 
 -- ---- the cells of walks
 
--- What a view answers of the successor that the record of an LEI names.
-abbrev pub successors_in : Cells → SeenNext
-successors_in cells lei = successor_seen (cells.record_cell lei)
+-- What a view answers of the first successor that the record of an LEI names.
+abbrev pub next_successor : Cells → SeenNext
+next_successor cells lei = successor_seen (cells.record_cell lei)
 
 -- What a view answers of the direct parent of an LEI.
 abbrev pub parents_in : Cells → SeenNext
@@ -54,20 +54,25 @@ parent_key lei = CellKey.Act lei RelationType.IsDirectlyConsolidatedBy
 -- The records of the first 200 members of the walk of successors from this one, as far as the view knows it.
 abbrev pub successor_walk : Cells → Option Lei → List CellKey
 successor_walk cells None = []
-successor_walk cells (Some successor) = map CellKey.Rec (members 200 (known (successors_in cells)) successor)
+successor_walk cells (Some successor) = map CellKey.Rec (members 200 (known (next_successor cells)) successor)
 
 -- The cells of the direct parents of the first 200 members of the walk from this one, as far as the view knows it.
 abbrev pub parent_walk : Cells → Lei → List CellKey
 parent_walk cells first = map parent_key (members 200 (known (parents_in cells)) first)
 
--- The cells of an item's walk: that of a record from its successor, and that of an active direct parent from its end.
-abbrev pub walk_cells : Cells → Readied → List CellKey
-walk_cells cells (Readied.Bad check) = []
-walk_cells cells (Readied.Good (Item.Record row)) = successor_walk cells (successor_in row)
-walk_cells cells (Readied.Good (Item.Relation row)) =
-    if is_direct_parent row then parent_walk cells (end_in row) else []
-walk_cells cells (Readied.Good (Item.Exception item)) = []
+-- The cells of a record's walk by the rules: from its first successor.
+abbrev pub record_walk : Rules → Cells → Row → List CellKey
+record_walk Rules.First cells row = successor_walk cells (successor_in row)
+record_walk Rules.Second cells row = []
 
--- The cells that an item needs over a view: those that it names, and those of its walk.
-abbrev pub needs : Cells → Readied → List CellKey
-needs cells item = names item ++ walk_cells cells item
+-- The cells of an item's walk by the rules: that of a record, and that of an active direct parent from its end.
+abbrev pub walk_cells : Rules → Cells → Readied → List CellKey
+walk_cells rules cells (Readied.Bad check) = []
+walk_cells rules cells (Readied.Good (Item.Record row)) = record_walk rules cells row
+walk_cells rules cells (Readied.Good (Item.Relation row)) =
+    if is_direct_parent row then parent_walk cells (end_in row) else []
+walk_cells rules cells (Readied.Good (Item.Exception item)) = []
+
+-- The cells that an item needs over a view by the rules: those that it names, and those of its walk.
+abbrev pub needs : Rules → Cells → Readied → List CellKey
+needs rules cells item = names item ++ walk_cells rules cells item

@@ -97,11 +97,17 @@ fn is_same_state(cell: &RecCell, found: &RecCell) -> bool
 
 fn has_same_parties(cell: &RecCell, found: &RecCell) -> bool
     ensures { IsTrue result ↔ (cell.now.manager ≡ found.now.manager)
-        × (cell.now.transfer_to ≡ found.now.transfer_to) × (cell.now.successor ≡ found.now.successor) }
+        × (cell.now.transfer_to ≡ found.now.transfer_to) × (cell.now.successors ≡ found.now.successors) }
 {
     cell.manager == found.manager
         && cell.transfer_to == found.transfer_to
-        && cell.successor == found.successor
+        && are_same(cell.successors.as_slice(), found.successors.as_slice())
+}
+
+fn are_same(leis: &[Lei], others: &[Lei]) -> bool
+    ensures { IsTrue result ↔ (leis.now ≡ others.now) }
+{
+    leis == others
 }
 
 fn has_same_moments(cell: &RecCell, found: &RecCell) -> bool

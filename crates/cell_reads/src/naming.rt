@@ -1,11 +1,11 @@
 //! The cells that items name.
-ghost use Rattle.std.specs.Prelude.{◌≡◌, ◌++◌, ◌∷◌, [], flat_map, option_map, IfOk, OnOk};
+ghost use Rattle.std.specs.Prelude.{◌≡◌, ◌++◌, ◌∷◌, [], flat_map, map, option_map, IfOk, OnOk};
 ghost use Rattle.lei_records.specs.declared.view.CellKey.{CellKey as Key};
 ghost use Rattle.lei_records.specs.Parents;
 ghost use Rattle.lei_records.specs.Relations.{end_in, kind_in, start_in};
 ghost use Rattle.relation_rules.specs.Needs.{exception_keys, exception_names, relation_names};
 ghost use Rattle.cell_reads.specs.Needs;
-ghost use Rattle.cell_reads.specs.Needs.{key_names, names, successor_names};
+ghost use Rattle.cell_reads.specs.Needs.{key_names, names};
 
 use authority_rules::key_of;
 use lei_code::Lei;
@@ -43,7 +43,7 @@ fn push_record_names(alloc: Global, keys: &mut Vec<CellKey>, item: &Record) -> R
 {
     keys.push(CellKey::Rec(item.lei()))?;
     push_key(alloc, keys, key_of(item))?;
-    push_successor(keys, item.successor())
+    push_records(keys, item.successors().as_slice())
 }
 
 fn push_key(
@@ -61,11 +61,12 @@ fn push_key(
     Ok(())
 }
 
-fn push_successor(keys: &mut Vec<CellKey>, successor: Option<Lei>) -> Result<(), NoMemory>
-    ensures { OnOk result (keys.new.items ≡ keys.old.items ++ successor_names successor) }
+// The cells of these records.
+fn push_records(keys: &mut Vec<CellKey>, leis: &[Lei]) -> Result<(), NoMemory>
+    ensures { OnOk result (keys.new.items ≡ keys.old.items ++ map Key.Rec leis.now) }
 {
-    if let Some(successor) = successor {
-        keys.push(CellKey::Rec(successor))?;
+    for lei in leis {
+        keys.push(CellKey::Rec(*lei))?;
     }
     Ok(())
 }

@@ -1,18 +1,17 @@
 //! The cells that were read, as items are judged.
 ghost use Rattle.std.specs.Prelude.{◌≡◌, ◌++◌, ◌∷◌, [], if◌then◌else◌, map, IsTrue, OnOk};
-ghost use Rattle.lei_records.specs.Cells.{successor_in};
 ghost use Rattle.lei_records.specs.Relations.{end_in};
 ghost use Rattle.lei_records.specs.Walks.{members};
 ghost use Rattle.successor_rules.specs.Walks.{known};
 ghost use Rattle.relation_rules.specs.Checks.{is_direct_parent};
-ghost use Rattle.cell_reads.specs.Needs.{needs, parent_walk, successor_walk, walk_cells};
+ghost use Rattle.cell_reads.specs.Needs.{needs, parent_walk, record_walk, walk_cells};
 ghost use Rattle.cell_reads.specs.Notes.{IsListed, NotesCells};
 
 use crate::cells::found_in;
 use crate::naming::push_names;
 use lei_code::Lei;
 use lei_outside::{List, NoMemory};
-use lei_records::{CellKey, CellSeen, Item, Readied, Reads, Record, Relation, Seen, View};
+use lei_records::{CellKey, CellSeen, Item, Readied, Reads, Record, Relation, Rules, Seen, View};
 use lei_shapes::RelationType;
 use relation_rules::{ParentChain, is_direct};
 use std::alloc::Global;
@@ -126,23 +125,24 @@ fn set_end(
     }
 }
 
-/// Notes the cells that an item needs by the answers of `over`, as `below` has them. So where accepted items lie over a
+/// Notes the cells that an item needs by the rules and the answers of `over`, as `below` has them. So where accepted items lie over a
 /// view, what is noted is what the view itself has. A cell that `below` lacks isn't noted. After an `Err` some of them
 /// may be noted.
 pub fn note_needs<V: View, W: View>(
     alloc: Global,
+    rules: Rules,
     below: &V,
     over: &W,
     noted: &mut Noted,
     item: &Readied,
 ) -> Result<(), NoMemory>
     ensures { OnOk result (NotesCells (V.cells below.now) noted.old noted.new
-        (needs (W.cells over.now) item.now)) }
+        (needs rules (W.cells over.now) item.now)) }
 {
     let mut keys = Vec::new(alloc);
     push_names(alloc, &mut keys, item)?;
     note_all(below, noted, keys)?;
-    note_walk_of(below, over, noted, item)
+    note_walk_of(rules, below, over, noted, item)
 }
 
 fn note_all<V: View>(view: &V, noted: &mut Noted, keys: Vec<CellKey>) -> Result<(), NoMemory>
@@ -167,33 +167,37 @@ fn note<V: View>(view: &V, noted: &mut Noted, key: CellKey) -> Result<(), NoMemo
 }
 
 fn note_walk_of<V: View, W: View>(
+    rules: Rules,
     below: &V,
     over: &W,
     noted: &mut Noted,
     item: &Readied,
 ) -> Result<(), NoMemory>
     ensures { OnOk result (NotesCells (V.cells below.now) noted.old noted.new
-        (walk_cells (W.cells over.now) item.now)) }
+        (walk_cells rules (W.cells over.now) item.now)) }
 {
     match item {
-        Readied::Good(Item::Record(item)) => note_successors(below, over, noted, item),
+        Readied::Good(Item::Record(item)) => note_successors(rules, below, over, noted, item),
         Readied::Good(Item::Relation(item)) => note_parents(below, over, noted, item),
         _ => Ok(()),
     }
 }
 
 fn note_successors<V: View, W: View>(
+    rules: Rules,
     below: &V,
     over: &W,
     noted: &mut Noted,
     item: &Record,
 ) -> Result<(), NoMemory>
     ensures { OnOk result (NotesCells (V.cells below.now) noted.old noted.new
-        (successor_walk (W.cells over.now) (successor_in item.now))) }
+        (record_walk rules (W.cells over.now) item.now)) }
 {
-    match item.successor() {
-        Some(first) => note_walk(below, &SuccessorChain { view: over }, noted, first),
-        None => Ok(()),
+    match (rules, item.successor()) {
+        (Rules::First, Some(first)) => {
+            note_walk(below, &SuccessorChain { view: over }, noted, first)
+        }
+        _ => Ok(()),
     }
 }
 

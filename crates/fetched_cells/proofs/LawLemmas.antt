@@ -7,8 +7,9 @@ use Rattle.std.proofs.Common.{refl, rules, sym, subst}
 use Rattle.std.proofs.lemmas.List.Elements.{Contains-append_cases, Contains-append_left, Contains-append_right, Contains-push}
 use Rattle.lei_records.specs.declared.item.Item.{Item}
 use Rattle.lei_records.specs.declared.item.Readied.{Readied}
+use Rattle.lei_records.specs.declared.rules.Rules.{Rules}
 use Rattle.lei_records.specs.declared.view.CellKey.{CellKey}
-use Rattle.lei_records.specs.Cells.{Cells, akey, lei_in, successor_in}
+use Rattle.lei_records.specs.Cells.{Cells, akey, lei_in, successor_in, successors_in}
 use Rattle.lei_records.specs.Parents.{parent_category}
 use Rattle.lei_records.specs.Relations.{end_in, kind_in, start_in}
 use Rattle.lei_records.specs.Rows.{Row}
@@ -16,7 +17,8 @@ use Rattle.lei_records.specs.Walks.{Next, members}
 use Rattle.successor_rules.specs.Walks.{held, known}
 use Rattle.relation_rules.specs.Checks.{is_direct_parent}
 use Rattle.relation_rules.specs.Needs.{exception_keys, relation_names}
-use Rattle.cell_reads.specs.Needs.{key_names, names, needs, parent_walk, record_names, successor_names, successor_walk, successors_in, walk_cells}
+use Rattle.cell_reads.proofs.NoteLemmas.{first_named}
+use Rattle.cell_reads.specs.Needs.{key_names, names, needs, parent_walk, record_names, successor_names, successor_walk, next_successor, walk_cells}
 use Rattle.fetched_cells.specs.Fetching.{brought, fetched_keys}
 
 -- ---- lists
@@ -92,19 +94,19 @@ module _ (cells : Cells) (key : CellKey) where
   of_brought keys own at within = flat_map-contains fetched keys own key at (later own (brought cells own) key within)
 
   -- the walk after a successor
-  after_successor : (named : Option (List ℕ)) → Contains (after 200 CellKey.Rec (known (successors_in cells)) named) key → Contains (successor_walk cells named) key
+  after_successor : (named : Option (List ℕ)) → Contains (after 200 CellKey.Rec (known (next_successor cells)) named) key → Contains (successor_walk cells named) key
   after_successor None at = at
   after_successor (Some lei) at = at
 
   of_successor : (keys : List CellKey) (lei : List ℕ) → Contains keys (CellKey.Rec lei) → Contains (successor_walk cells (Some lei)) key
       → Contains (fetched_keys cells keys) key
-  of_successor keys lei at walked = elim (walk_cases 199 CellKey.Rec (known (successors_in cells)) lei key walked) [
+  of_successor keys lei at walked = elim (walk_cases 199 CellKey.Rec (known (next_successor cells)) lei key walked) [
     | inl here ↦ of_names keys (subst (Contains keys) here at)
     | inr there ↦ of_brought keys (CellKey.Rec lei) at
-        (Contains-append_left (successor_walk cells (held (successors_in cells lei))) (parent_walk cells lei) key
-        (after_successor (held (successors_in cells lei))
-        (after_more 199 CellKey.Rec (known (successors_in cells)) key (walk_more 199 CellKey.Rec (known (successors_in cells)) key)
-        (held (successors_in cells lei)) there)))
+        (Contains-append_left (successor_walk cells (held (next_successor cells lei))) (parent_walk cells lei) key
+        (after_successor (held (next_successor cells lei))
+        (after_more 199 CellKey.Rec (known (next_successor cells)) key (walk_more 199 CellKey.Rec (known (next_successor cells)) key)
+        (held (next_successor cells lei)) there)))
   ]
 
   of_record : (row : Row) (named : Option (List ℕ)) → successor_in row ≡ named → Contains (successor_walk cells named) key
@@ -112,9 +114,9 @@ module _ (cells : Cells) (key : CellKey) where
   of_record row None is walked = absurd (none_at key walked)
   of_record row (Some lei) is walked =
       of_successor (record_names row) lei
-      (later (CellKey.Rec (lei_in row)) (key_names (akey row) ++ successor_names (successor_in row)) (CellKey.Rec lei)
-      (Contains-append_right (key_names (akey row)) (successor_names (successor_in row)) (CellKey.Rec lei)
-      (subst (λ o. Contains (successor_names o) (CellKey.Rec lei)) (sym is) (first_of (CellKey.Rec lei) []))))
+      (later (CellKey.Rec (lei_in row)) (key_names (akey row) ++ successor_names (successors_in row)) (CellKey.Rec lei)
+      (Contains-append_right (key_names (akey row)) (successor_names (successors_in row)) (CellKey.Rec lei)
+      (first_named (successors_in row) lei is)))
       walked
 
   of_relation : (row : Row) → Contains (parent_walk cells (end_in row)) key → Contains (fetched_keys cells (relation_names row)) key
@@ -124,17 +126,17 @@ module _ (cells : Cells) (key : CellKey) where
       ++ exception_keys (start_in row) (parent_category (kind_in row)) in
       of_brought (relation_names row) (CellKey.Rec (end_in row))
       (later (CellKey.Rec (start_in row)) (CellKey.Rec (end_in row) ∷ others) (CellKey.Rec (end_in row)) (first_of (CellKey.Rec (end_in row)) others))
-      (Contains-append_right (successor_walk cells (held (successors_in cells (end_in row)))) (parent_walk cells (end_in row)) key walked)
+      (Contains-append_right (successor_walk cells (held (next_successor cells (end_in row)))) (parent_walk cells (end_in row)) key walked)
 
-  of_walk : (item : Readied) → Contains (walk_cells cells item) key → Contains (fetched_keys cells (names item)) key
+  of_walk : (item : Readied) → Contains (walk_cells Rules.First cells item) key → Contains (fetched_keys cells (names item)) key
   of_walk (Readied.Bad check) at = absurd (none_at key at)
   of_walk (Readied.Good (Item.Record row)) at = of_record row (successor_in row) refl at
   of_walk (Readied.Good (Item.Relation row)) at =
       of_relation row (chosen (is_direct_parent row) (parent_walk cells (end_in row)) key at)
   of_walk (Readied.Good (Item.Exception item)) at = absurd (none_at key at)
 
-  pub needed_fetched : (item : Readied) → Contains (needs cells item) key → Contains (fetched_keys cells (names item)) key
-  needed_fetched item at = elim (Contains-append_cases (names item) (walk_cells cells item) key at) [
+  pub needed_fetched : (item : Readied) → Contains (needs Rules.First cells item) key → Contains (fetched_keys cells (names item)) key
+  needed_fetched item at = elim (Contains-append_cases (names item) (walk_cells Rules.First cells item) key at) [
     | inl named ↦ of_names (names item) named
     | inr walked ↦ of_walk item walked
   ]

@@ -5,7 +5,7 @@ use Rattle.lei_records.specs.declared.view.CellKey.{CellKey}
 use Rattle.lei_records.specs.Cells.{Cells}
 use Rattle.successor_rules.specs.Walks.{held}
 use Rattle.relation_rules.specs.Needs.{lacks}
-use Rattle.cell_reads.specs.Needs.{parent_walk, successor_walk, successors_in}
+use Rattle.cell_reads.specs.Needs.{parent_walk, successor_walk, next_successor}
 
 -- ---- which cells are fetched
 
@@ -14,7 +14,7 @@ use Rattle.cell_reads.specs.Needs.{parent_walk, successor_walk, successors_in}
 -- brings any.
 abbrev pub brought : Cells → CellKey → List CellKey
 brought cells (CellKey.Rec lei) =
-    successor_walk cells (held (successors_in cells lei)) ++ parent_walk cells lei
+    successor_walk cells (held (next_successor cells lei)) ++ parent_walk cells lei
 brought cells key = []
 
 -- The cells that are fetched for keys, in their order: each key, and then the cells that it brings. A cell stands here

@@ -2,7 +2,7 @@
 ghost use Rattle.std.specs.Prelude.{◌≡◌, [], ◌∷◌, OnOk};
 ghost use Rattle.lei_records.specs.declared.view.CellKey.{CellKey};
 ghost use Rattle.successor_rules.specs.Walks.{held};
-ghost use Rattle.cell_reads.specs.Needs.{parent_walk, successor_walk, successors_in};
+ghost use Rattle.cell_reads.specs.Needs.{parent_walk, successor_walk, next_successor};
 ghost use Rattle.fetched_cells.specs.Fetching.{brought, fetched_keys};
 ghost use Rattle.fetched_cells.specs.Filling.{Adds, member_keys};
 
@@ -60,7 +60,7 @@ impl Filling {
 
     fn add_successors<V: View>(&mut self, view: &V, lei: &Lei) -> Result<(), NoMemory>
         ensures { OnOk result (Adds (V.cells view.now) self.old self.new
-            (successor_walk (V.cells view.now) (held (successors_in (V.cells view.now) lei.now)))) }
+            (successor_walk (V.cells view.now) (held (next_successor (V.cells view.now) lei.now)))) }
     {
         let chain = SuccessorChain { view };
         match chain.next(lei) {

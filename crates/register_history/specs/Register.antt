@@ -10,7 +10,8 @@ use Rattle.lei_records.specs.Tables.{Table}
 use Rattle.lei_records.specs.declared.item.RawItem.{RawItem}
 use Rattle.lei_records.specs.declared.item.Readied.{Readied}
 use Rattle.register_judge.specs.declared.sitting.Sitting.{Sitting}
-use Rattle.register_judge.specs.Sittings.{rules_of, sitting_by}
+use Rattle.lei_records.specs.RuleNumbers.{rules_of}
+use Rattle.register_judge.specs.Sittings.{sitting_by}
 use Rattle.register_judge.specs.Taking.{Taken, take}
 use Rattle.register_table.specs.Held.{Held, TableState, no_rows, rows}
 use Rattle.register_table.specs.Undos.{IsLater, WriteList, touch_all}

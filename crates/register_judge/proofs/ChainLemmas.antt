@@ -1,36 +1,38 @@
 -- A record whose successor passes its checks leaves each successor held and each chain ending.
-use Rattle.std.specs.Prelude.{◌≡◌, ℕ, Bool, true, false, cond, List, [], ◌∷◌, if◌then◌else◌, Option, Some, None, IsSome, option_map, option_and_then}
+use Rattle.std.specs.Prelude.{◌≡◌, ◌≤◌, ℕ, zero, suc, length, slice_get, Bool, true, false, cond, List, [], ◌∷◌, if◌then◌else◌, Option, Some, None, IsSome, option_map, option_and_then}
 use Rattle.std.specs.List.{Contains}
-use Rattle.std.specs.Option.{option_to_list}
+use Rattle.std.specs.Option.{option_map_or, option_to_list}
 use Rattle.std.specs.Str.{bytes_eq}
-use Rattle.std.proofs.Common.{refl, sym, ap, subst, rules, ◌∙◌}
+use Rattle.std.proofs.Common.{refl, sym, ap, subst, rules, arith, ◌∙◌}
 use Rattle.std.proofs.lemmas.Bool.{false_from_ne_true}
 use Rattle.lei_records.specs.Checks.{FailedCheck}
 use Rattle.lei_records.specs.declared.check.Detail.{Detail}
 use Rattle.lei_records.specs.declared.item.Item.{Item}
 use Rattle.lei_records.specs.declared.item.Readied.{Readied}
 use Rattle.lei_records.specs.declared.view.RecCell.{RecCell}
-use Rattle.lei_records.specs.Cells.{lei_in, rec_cell, successor_in}
+use Rattle.lei_records.specs.Cells.{lei_in, rec_cell, successor_in, successors_in}
 use Rattle.lei_records.specs.Checks.{fails_if, first_failing}
 use Rattle.lei_records.specs.Rows.{Row}
 use Rattle.lei_records.specs.Tables.{Table, put, put_all, row_at, record_of}
 use Rattle.authority_rules.proofs.HolderLemmas.{bytes_same, bytes_itself, some_apart}
 use Rattle.authority_rules.proofs.PutLemmas.{row_at-put}
 use Rattle.successor_rules.specs.declared.walks.Walked.{Walked}
-use Rattle.successor_rules.specs.Chains.{AllEnd, IsTurned}
-use Rattle.lei_records.specs.Walks.{successor_of, successors_of}
+use Rattle.successor_rules.specs.Chains.{AllEnd, EndsIn, IsTurned, Nexts}
+use Rattle.lei_records.specs.Walks.{NameOne, successor_of, successors_of}
 use Rattle.successor_rules.specs.Successors.{SuccessorChainsEnd}
 use Rattle.lei_records.specs.Walks.{is_met, is_long}
 use Rattle.successor_rules.specs.Walks.{walked}
 use Rattle.successor_rules.proofs.ChainLemmas.{keeps_ends}
 use Rattle.successor_rules.proofs.WalkLemmas.{ended_walk_keeps_ends}
-use Rattle.register_judge.specs.declared.sitting.Rules.{Rules}
+use Rattle.lei_records.specs.declared.rules.Rules.{Rules}
 use Rattle.register_judge.specs.declared.sitting.Sitting.{Sitting}
-use Rattle.register_judge.specs.Checks.{c16, successor_checks}
+use Rattle.register_judge.specs.Checks.{c16, first_checks, level_checks, successor_checks}
+use Rattle.register_judge.specs.declared.outcome.Verdict.{Verdict}
+use Rattle.register_judge.specs.Fitting.{ItemFits, ItemsFit, RowFits, TableFits}
 use Rattle.register_judge.specs.Taking.{item_checks, verdict_of, verdict, writes_of, take}
 use Rattle.register_judge.proofs.TakingLemmas.{put-written, successors_pass}
 
--- ---- what the checks of a successor say of it where they pass
+-- ---- what the checks of one successor say of it where they pass
 
 held_and_ends : (found : Option RecCell) (met long : Bool)
     → first_failing (c16 found ∷ fails_if met 17 Detail.None ∷ fails_if long 18 Detail.None ∷ []) ≡ None
@@ -40,14 +42,20 @@ held_and_ends (Some cell) true long e = absurd (some_apart _ e)
 held_and_ends (Some cell) false true e = absurd (some_apart _ e)
 held_and_ends (Some cell) false false e = (refl, refl)
 
--- the checks of the successor pass
-abbrev Pass : Rules → Table → Row → Option (List ℕ) → Type 0
-Pass rules table row successor = first_failing (successor_checks rules table row successor) ≡ None
-
-passed : (rules : Rules) (table : Table) (row : Row) (successor : List ℕ) → Pass rules table row (Some successor)
+one_passed : (table : Table) (row : Row) (successor : List ℕ) → first_failing (first_checks table row (Some successor)) ≡ None
     → IsSome (record_of table successor) × (walked (successor_of table) (lei_in row) successor ≡ Walked.Ends)
-passed Rules.First table row successor passes =
+one_passed table row successor passes =
     held_and_ends (record_of table successor) (is_met (successor_of table) (lei_in row) successor) (is_long (successor_of table) successor) passes
+
+-- a list of one or none is what its first member makes
+one_or_none : (leis : List (List ℕ)) → length leis ≤ 1 → leis ≡ option_to_list (slice_get leis 0)
+one_or_none [] few = refl
+one_or_none (lei ∷ []) few = refl
+one_or_none (lei ∷ other ∷ leis) few = absurd (omega (arith, few))
+
+-- the checks of the successors pass
+abbrev Pass : Rules → Table → Row → Type 0
+Pass rules table row = first_failing (successor_checks rules table row) ≡ None
 
 -- ---- each successor is held
 
@@ -55,82 +63,158 @@ row_held : (row : Option Row) → IsSome (option_map rec_cell row) → IsSome ro
 row_held None held = held
 row_held (Some row) held = refl
 
-named_held : (rules : Rules) (table : Table) (row : Row) (successor : Option (List ℕ)) → Pass rules table row successor
-    → (next : List ℕ) → successor ≡ Some next → IsSome (row_at table next)
-named_held rules table row None passes next is = absurd (some_apart next (sym is))
-named_held rules table row (Some successor) passes next is =
-    let same : successor ≡ next = cc in
-    subst (λ lei. IsSome (row_at table lei)) same (row_held (row_at table successor) (passed rules table row successor passes).0)
+none_of : (lei : List ℕ) → Contains [] lei → ⊥
+none_of lei at = search rules
+
+only_one : (one lei : List ℕ) → Contains (one ∷ []) lei → one ≡ lei
+only_one one lei at = search rules
+
+one_held : (table : Table) (row : Row) (successor : Option (List ℕ)) → first_failing (first_checks table row successor) ≡ None
+    → (next : List ℕ) → Contains (option_to_list successor) next → IsSome (row_at table next)
+one_held table row None passes next at = absurd (none_of next at)
+one_held table row (Some successor) passes next at =
+    subst (λ lei. IsSome (row_at table lei)) (only_one successor next at) (row_held (row_at table successor) (one_passed table row successor passes).0)
+
+levels_held : (table : Table) (row : Row) (successors : List (List ℕ)) → first_failing (level_checks table row successors) ≡ None
+    → (next : List ℕ) → Contains successors next → IsSome (row_at table next)
+levels_held table row [] passes next at = absurd (none_of next at)
+levels_held table row (successor ∷ successors) passes next at = absurd (some_apart _ passes)
+
+named_held : (rules : Rules) (table : Table) (row : Row) → RowFits rules row → Pass rules table row
+    → (next : List ℕ) → Contains (successors_in row) next → IsSome (row_at table next)
+named_held Rules.First table row fits passes next at =
+    one_held table row (successor_in row) passes next (subst (λ leis. Contains leis next) (one_or_none (successors_in row) fits) at)
+named_held Rules.Second table row fits passes next at = levels_held table row (successors_in row) passes next at
 
 stays_held : (table : Table) (row : Row) (lei : List ℕ) → IsSome (row_at table lei) → IsSome (row_at (put table (Item.Record row)) lei)
 stays_held table row lei held =
     subst IsSome (sym (row_at-put table row lei))
     (elim (bytes_eq lei (lei_in row)) as (λ b. IsSome (cond b (Some row) (row_at table lei))) [ true ↦ refl | false ↦ held ])
 
-all_held : (rules : Rules) (table : Table) (row : Row) → SuccessorChainsEnd table → Pass rules table row (successor_in row)
-    → (lei : List ℕ) (other : Row) (next : List ℕ) → row_at (put table (Item.Record row)) lei ≡ Some other → successor_in other ≡ Some next
+all_held : (rules : Rules) (table : Table) (row : Row) → RowFits rules row → SuccessorChainsEnd table → Pass rules table row
+    → (lei : List ℕ) (other : Row) (next : List ℕ) → row_at (put table (Item.Record row)) lei ≡ Some other → Contains (successors_in other) next
     → IsSome (row_at (put table (Item.Record row)) next)
-all_held rules table row chains passes lei other next at names =
+all_held rules table row fits chains passes lei other next at names =
     let known : cond (bytes_eq lei (lei_in row)) (Some row) (row_at table lei) ≡ Some other = sym (row_at-put table row lei) ∙ at in
     stays_held table row next
     (elim (bytes_eq lei (lei_in row)) as (λ b. cond b (Some row) (row_at table lei) ≡ Some other → IsSome (row_at table next)) [
-      | true ↦ λ is. let same : row ≡ other = cc in named_held rules table row (successor_in row) passes next (ap successor_in same ∙ names)
+      | true ↦ λ is. let same : other ≡ row = cc in named_held rules table row fits passes next (subst (λ r. Contains (successors_in r) next) same names)
       | false ↦ λ is. chains.held lei other next is names
     ] known)
 
 -- ---- each chain ends
 
--- a record that is put names its successor, and each other one the one that it named
-turned : (table : Table) (row : Row) (successor : Option (List ℕ)) → successor_in row ≡ successor
-    → IsTurned (successors_of table) (successors_of (put table (Item.Record row))) (lei_in row) (option_to_list successor)
-turned table row successor names =
+-- a record that is put names its successors, and each other one those that it named
+turned : (table : Table) (row : Row) → IsTurned (successors_of table) (successors_of (put table (Item.Record row))) (lei_in row) (successors_in row)
+turned table row =
     let at : (lei : List ℕ) (own : Bool) → bytes_eq lei (lei_in row) ≡ own
-    → successors_of (put table (Item.Record row)) lei ≡ option_to_list (option_and_then successor_in (cond own (Some row) (row_at table lei))) =
-    λ lei own is. ap (λ r. option_to_list (option_and_then successor_in r))
-    (row_at-put table row lei ∙ ap (λ b. cond b (Some row) (row_at table lei)) is) in
+    → successors_of (put table (Item.Record row)) lei ≡ option_map_or successors_in (cond own (Some row) (row_at table lei)) [] =
+    λ lei own is. ap (λ r. option_map_or successors_in r []) (row_at-put table row lei ∙ ap (λ b. cond b (Some row) (row_at table lei)) is) in
     record {
-      here = at (lei_in row) true (bytes_itself (lei_in row)) ∙ ap option_to_list names;
+      here = at (lei_in row) true (bytes_itself (lei_in row));
       elsewhere = λ lei differ. at lei false (false_from_ne_true _ (λ same. differ (bytes_same lei (lei_in row) same)));
     }
 
-none_of : (lei : List ℕ) → Contains [] lei → ⊥
-none_of lei at = search rules
+-- where each names one at most, the lists are what the first ones make
+named_alike : (found : Option Row) → ((row : Row) → found ≡ Some row → length (successors_in row) ≤ 1)
+    → option_map_or successors_in found [] ≡ option_to_list (option_and_then successor_in found)
+named_alike None fits = refl
+named_alike (Some row) fits = one_or_none (successors_in row) (fits row refl)
 
-all_end : (rules : Rules) (table : Table) (row : Row) (successor : Option (List ℕ)) → SuccessorChainsEnd table → successor_in row ≡ successor → Pass rules table row successor
-    → AllEnd (successors_of (put table (Item.Record row)))
-all_end rules table row None chains names passes =
-    keeps_ends (successors_of table) (successors_of (put table (Item.Record row))) (lei_in row) [] 0 chains.ends (turned table row None names)
+one_of : (table : Table) → NameOne table → (lei : List ℕ) → successors_of table lei ≡ option_to_list (successor_of table lei)
+one_of table fits lei = named_alike (row_at table lei) (fits lei)
+
+ends_alike : (n : ℕ) (nexts others : Nexts) (lei : List ℕ) → ((own : List ℕ) → nexts own ≡ others own) → EndsIn n nexts lei → EndsIn n others lei
+ends_alike zero nexts others lei alike ends = ends
+ends_alike (suc n) nexts others lei alike ends = λ next at.
+    ends_alike n nexts others next alike (ends next (subst (λ leis. Contains leis next) (sym (alike lei)) at))
+
+one_ends : (table : Table) (row : Row) (successor : Option (List ℕ)) → NameOne table → RowFits Rules.First row → SuccessorChainsEnd table
+    → successor_in row ≡ successor → first_failing (first_checks table row successor) ≡ None → AllEnd (successors_of (put table (Item.Record row)))
+one_ends table row None fits one chains names passes =
+    let none : successors_in row ≡ [] = one_or_none (successors_in row) one ∙ ap option_to_list names in
+    keeps_ends (successors_of table) (successors_of (put table (Item.Record row))) (lei_in row) [] 0 chains.ends
+    (subst (IsTurned (successors_of table) (successors_of (put table (Item.Record row))) (lei_in row)) none (turned table row))
     (λ lei at. absurd (none_of lei at))
-all_end rules table row (Some successor) chains names passes =
-    ended_walk_keeps_ends (successor_of table) (successors_of (put table (Item.Record row))) (lei_in row) successor chains.ends
-    (turned table row (Some successor) names) (passed rules table row successor passes).1
+one_ends table row (Some successor) fits one chains names passes =
+    let before : Nexts = λ lei. option_to_list (successor_of table lei) in
+    let by_table = turned table row in
+    ended_walk_keeps_ends (successor_of table) (successors_of (put table (Item.Record row))) (lei_in row) successor
+    (λ lei. let ends = chains.ends lei in (ends.0, ends_alike ends.0 (successors_of table) before lei (one_of table fits) ends.1))
+    (record {
+      here = by_table.here ∙ (one_or_none (successors_in row) one ∙ ap option_to_list names);
+      elsewhere = λ lei differ. by_table.elsewhere lei differ ∙ one_of table fits lei;
+    }) (one_passed table row successor passes).1
+
+levels_end : (table : Table) (row : Row) (successors : List (List ℕ)) → SuccessorChainsEnd table → successors_in row ≡ successors
+    → first_failing (level_checks table row successors) ≡ None → AllEnd (successors_of (put table (Item.Record row)))
+levels_end table row [] chains names passes =
+    keeps_ends (successors_of table) (successors_of (put table (Item.Record row))) (lei_in row) [] 0 chains.ends
+    (subst (IsTurned (successors_of table) (successors_of (put table (Item.Record row))) (lei_in row)) names (turned table row))
+    (λ lei at. absurd (none_of lei at))
+levels_end table row (successor ∷ successors) chains names passes = absurd (some_apart _ passes)
+
+all_end : (rules : Rules) (table : Table) (row : Row) → TableFits rules table → RowFits rules row → SuccessorChainsEnd table → Pass rules table row
+    → AllEnd (successors_of (put table (Item.Record row)))
+all_end Rules.First table row fits one chains passes = one_ends table row (successor_in row) fits one chains refl passes
+all_end Rules.Second table row fits one chains passes = levels_end table row (successors_in row) chains refl passes
 
 -- ---- a record, and items
 
-pub chains-put : (rules : Rules) (table : Table) (row : Row) → SuccessorChainsEnd table → Pass rules table row (successor_in row) → SuccessorChainsEnd (put table (Item.Record row))
-chains-put rules table row chains passes = record {
-  held = all_held rules table row chains passes;
-  ends = all_end rules table row (successor_in row) chains refl passes;
+pub chains-put : (rules : Rules) (table : Table) (row : Row) → TableFits rules table → RowFits rules row → SuccessorChainsEnd table → Pass rules table row
+    → SuccessorChainsEnd (put table (Item.Record row))
+chains-put rules table row fits one chains passes = record {
+  held = all_held rules table row one chains passes;
+  ends = all_end rules table row fits one chains passes;
 }
 
+-- a record that names one leaves records that name one
+name_one-put : (table : Table) (row : Row) → NameOne table → length (successors_in row) ≤ 1 → NameOne (put table (Item.Record row))
+name_one-put table row fits one lei other at =
+    let known : cond (bytes_eq lei (lei_in row)) (Some row) (row_at table lei) ≡ Some other = sym (row_at-put table row lei) ∙ at in
+    elim (bytes_eq lei (lei_in row)) as (λ b. cond b (Some row) (row_at table lei) ≡ Some other → length (successors_in other) ≤ 1) [
+      | true ↦ λ is. let same : row ≡ other = cc in subst (λ r. length (successors_in r) ≤ 1) same one
+      | false ↦ λ is. fits lei other is
+    ] known
+
+fits-put : (rules : Rules) (table : Table) (item : Item) → TableFits rules table → ItemFits rules (Readied.Good item) → TableFits rules (put table item)
+fits-put Rules.First table (Item.Record row) fits one = name_one-put table row fits one
+fits-put Rules.First table (Item.Relation row) fits one = fits
+fits-put Rules.First table (Item.Exception item) fits one = fits
+fits-put Rules.Second table item fits one = tt
+
 -- an accepted item leaves each successor held and each chain ending: a relationship and an exception leave the records
-accepted_chains : (table : Table) (sitting : Sitting) (item : Item) → SuccessorChainsEnd table
-    → first_failing (item_checks table sitting item) ≡ None → SuccessorChainsEnd (put table item)
-accepted_chains table sitting (Item.Record row) chains passes = chains-put sitting.rules table row chains (successors_pass table sitting row passes)
-accepted_chains table sitting (Item.Relation row) chains passes = record { held = chains.held; ends = chains.ends }
-accepted_chains table sitting (Item.Exception item) chains passes = record { held = chains.held; ends = chains.ends }
+accepted_chains : (table : Table) (sitting : Sitting) (item : Item) → TableFits sitting.rules table → ItemFits sitting.rules (Readied.Good item)
+    → SuccessorChainsEnd table → first_failing (item_checks table sitting item) ≡ None → SuccessorChainsEnd (put table item)
+accepted_chains table sitting (Item.Record row) fits one chains passes =
+    chains-put sitting.rules table row fits one chains (successors_pass table sitting row passes)
+accepted_chains table sitting (Item.Relation row) fits one chains passes = record { held = chains.held; ends = chains.ends }
+accepted_chains table sitting (Item.Exception item) fits one chains passes = record { held = chains.held; ends = chains.ends }
 
-item_chains : (table : Table) (sitting : Sitting) (item : Item) (failed : Option FailedCheck) → SuccessorChainsEnd table
-    → first_failing (item_checks table sitting item) ≡ failed
+item_chains : (table : Table) (sitting : Sitting) (item : Item) (failed : Option FailedCheck) → TableFits sitting.rules table
+    → ItemFits sitting.rules (Readied.Good item) → SuccessorChainsEnd table → first_failing (item_checks table sitting item) ≡ failed
     → SuccessorChainsEnd (put_all (writes_of (verdict_of failed) (Readied.Good item)) table)
-item_chains table sitting item None chains is = put-written SuccessorChainsEnd table item (accepted_chains table sitting item chains is)
-item_chains table sitting item (Some check) chains is = chains
+item_chains table sitting item None fits one chains is = put-written SuccessorChainsEnd table item (accepted_chains table sitting item fits one chains is)
+item_chains table sitting item (Some check) fits one chains is = chains
 
-pub take-chains : (table : Table) (sitting : Sitting) (items : List Readied) → SuccessorChainsEnd table
-    → SuccessorChainsEnd (take table sitting items).table
-take-chains table sitting [] chains = chains
-take-chains table sitting (Readied.Bad check ∷ items) chains = take-chains table sitting items chains
-take-chains table sitting (Readied.Good item ∷ items) chains =
+item_fits : (rules : Rules) (table : Table) (item : Item) (given : Verdict) → TableFits rules table → ItemFits rules (Readied.Good item)
+    → TableFits rules (put_all (writes_of given (Readied.Good item)) table)
+item_fits rules table item Verdict.Accepted fits one = put-written (TableFits rules) table item (fits-put rules table item fits one)
+item_fits rules table item (Verdict.Rejected check) fits one = fits
+
+pub take-fits_rules : (table : Table) (sitting : Sitting) (items : List Readied) → TableFits sitting.rules table → ItemsFit sitting.rules items
+    → TableFits sitting.rules (take table sitting items).table
+take-fits_rules table sitting [] fits ones = fits
+take-fits_rules table sitting (Readied.Bad check ∷ items) fits ones = take-fits_rules table sitting items fits ones.1
+take-fits_rules table sitting (Readied.Good item ∷ items) fits ones =
     let given = verdict table sitting (Readied.Good item) in
-    take-chains (put_all (writes_of given (Readied.Good item)) table) sitting items
-    (item_chains table sitting item (first_failing (item_checks table sitting item)) chains refl)
+    take-fits_rules (put_all (writes_of given (Readied.Good item)) table) sitting items (item_fits sitting.rules table item given fits ones.0) ones.1
+
+pub take-chains : (table : Table) (sitting : Sitting) (items : List Readied) → TableFits sitting.rules table → ItemsFit sitting.rules items
+    → SuccessorChainsEnd table → SuccessorChainsEnd (take table sitting items).table
+take-chains table sitting [] fits ones chains = chains
+take-chains table sitting (Readied.Bad check ∷ items) fits ones chains = take-chains table sitting items fits ones.1 chains
+take-chains table sitting (Readied.Good item ∷ items) fits ones chains =
+    let given = verdict table sitting (Readied.Good item) in
+    take-chains (put_all (writes_of given (Readied.Good item)) table) sitting items (item_fits sitting.rules table item given fits ones.0) ones.1
+    (item_chains table sitting item (first_failing (item_checks table sitting item)) fits ones.0 chains refl)

@@ -8,7 +8,7 @@ use Rattle.std.proofs.lemmas.List.{length-map}
 use Rattle.std.proofs.lemmas.List.Elements.{Contains-append_left, Contains-append_right}
 use Rattle.lei_shapes.specs.declared.lists.ExceptionCategory.{ExceptionCategory}
 use Rattle.lei_code.specs.Texts.{Text}
-use Rattle.lei_records.specs.Cells.{Cells, akey, is_live, lei_in, successor_in}
+use Rattle.lei_records.specs.Cells.{Cells, akey, is_live, lei_in, successor_in, successors_in}
 use Rattle.lei_records.specs.Checks.{FailedCheck, first_failing}
 use Rattle.lei_records.specs.Exceptions.{exception_category_in, subject_in}
 use Rattle.lei_records.specs.Parents.{is_direct, parent_category, parent_type}
@@ -26,12 +26,13 @@ use Rattle.relation_rules.specs.declared.checked.Checked.{Checked}
 use Rattle.relation_rules.specs.Checking.{check_action, check_active, check_category, check_exception, check_managed, check_other_end, check_parents, check_relation, check_start, check_walked, checked_of, on_seen, unless_failed, walk_parents}
 use Rattle.relation_rules.specs.Checks.{is_direct_parent}
 use Rattle.relation_rules.specs.Needs.{exception_keys, exception_names, relation_names}
-use Rattle.cell_reads.specs.Needs.{key_names, needs, parent_key, parent_walk, parents_in, record_names, successor_names, successor_walk, successors_in}
+use Rattle.cell_reads.proofs.NoteLemmas.{first_named as first_successor}
+use Rattle.cell_reads.specs.Needs.{key_names, needs, parent_key, parent_walk, parents_in, record_names, record_walk, successor_names, successor_walk, next_successor}
 use Rattle.register_judge.specs.declared.judge.ItemOutcome.{ItemOutcome}
-use Rattle.register_judge.specs.declared.sitting.Rules.{Rules}
+use Rattle.lei_records.specs.declared.rules.Rules.{Rules}
 use Rattle.register_judge.specs.declared.sitting.Sitting.{Sitting}
 use Rattle.register_judge.specs.Checks.{c19, own_checks}
-use Rattle.register_judge.specs.Judging.{check_key, check_named, check_record, check_successor, judge_item, judge_record, judge_room, key_cell, outcome_by, value_seen}
+use Rattle.register_judge.specs.Judging.{check_key, check_named, check_record, check_first, check_levels, check_successors, judge_item, judge_record, judge_room, key_cell, outcome_by, value_seen}
 use Rattle.register_judge.proofs.MonotonyLemmas.{Less, LessAt, LessChecked, checked-same, less-check_walked, less-on_seen, less-own, less-successor, less-unless_failed, less-walk_over}
 
 -- a member's key is among the keys of the members
@@ -156,54 +157,68 @@ less_room None Seen.Empty b own f g full less then =
 less_room None Seen.Missing b own f g full less then = tt
 
 module _ (a b : Cells) (item : Row) (named : (key : CellKey) → Contains (record_names item) key → LessAt a b key)
-    (walks : (key : CellKey) → Contains (successor_walk a (successor_in item)) key → LessAt a b key) where
-  others_named : (key : CellKey) → Contains (key_names (akey item) ++ successor_names (successor_in item)) key → LessAt a b key
-  others_named key at =
-      named key (Contains-append_right (CellKey.Rec (lei_in item) ∷ []) (key_names (akey item) ++ successor_names (successor_in item)) key at)
+  where
+    others_named : (key : CellKey) → Contains (key_names (akey item) ++ successor_names (successors_in item)) key → LessAt a b key
+    others_named key at =
+        named key (Contains-append_right (CellKey.Rec (lei_in item) ∷ []) (key_names (akey item) ++ successor_names (successors_in item)) key at)
 
-  less_holder : (authority_key : Option (Text × Text)) → akey item ≡ authority_key → Less (seen_holder a authority_key) (seen_holder b authority_key)
-  less_holder None is = refl
-  less_holder (Some key) is =
-      let own = CellKey.Key key.0 key.1 in
-      others_named own (Contains-append_left (key_names (akey item)) (successor_names (successor_in item)) own
-      (subst (λ k. Contains (key_names k) own) (sym is) (0, omega arith, refl)))
+    less_holder : (authority_key : Option (Text × Text)) → akey item ≡ authority_key → Less (seen_holder a authority_key) (seen_holder b authority_key)
+    less_holder None is = refl
+    less_holder (Some key) is =
+        let own = CellKey.Key key.0 key.1 in
+        others_named own (Contains-append_left (key_names (akey item)) (successor_names (successors_in item)) own
+        (subst (λ k. Contains (key_names k) own) (sym is) (0, omega arith, refl)))
 
-  abbrev key_check : Option (List ℕ) → Checked
-  key_check other = checked_of (first_failing (c19 other item ∷ []))
+    abbrev key_check : Option (List ℕ) → Checked
+    key_check other = checked_of (first_failing (c19 other item ∷ []))
 
-  less_key : LessChecked (check_key a item) (check_key b item)
-  less_key =
-      elim (is_live item) as (λ t. LessChecked
-      (cond t (on_seen (taken a item) (key_cell (akey item)) key_check) Checked.Passes) (cond t (on_seen (taken b item) (key_cell (akey item)) key_check) Checked.Passes)) [
-        | true ↦ less-on_seen (taken a item) (taken b item) _ _ _ (less-own (lei_in item) _ _ (less_holder (akey item) refl)) (λ other. checked-same _)
-        | false ↦ refl
-      ]
+    less_key : LessChecked (check_key a item) (check_key b item)
+    less_key =
+        elim (is_live item) as (λ t. LessChecked
+        (cond t (on_seen (taken a item) (key_cell (akey item)) key_check) Checked.Passes) (cond t (on_seen (taken b item) (key_cell (akey item)) key_check) Checked.Passes)) [
+          | true ↦ less-on_seen (taken a item) (taken b item) _ _ _ (less-own (lei_in item) _ _ (less_holder (akey item) refl)) (λ other. checked-same _)
+          | false ↦ refl
+        ]
 
-  less_named : (successor : List ℕ) → successor_in item ≡ Some successor → (found : Option RecCell)
-      → LessChecked (check_named a item successor found) (check_named b item successor found)
-  less_named successor is found =
-      less-unless_failed _ _ _ (less-check_walked 17 18 _ _ _ _
-      (less-walk_over (successors_in a) (successors_in b) CellKey.Rec (lei_in item) successor (λ member at.
-      less-successor (a.record_cell member) (b.record_cell member)
-      (walks (CellKey.Rec member) (subst (λ s. Contains (successor_walk a s) (CellKey.Rec member)) (sym is)
-      (Contains-map CellKey.Rec (members 200 (known (successors_in a)) successor) member at))))) less_key)
+    -- by the first rules
+    less_named : ((key : CellKey) → Contains (successor_walk a (successor_in item)) key → LessAt a b key)
+        → (successor : List ℕ) → successor_in item ≡ Some successor → (found : Option RecCell)
+        → LessChecked (check_named a item successor found) (check_named b item successor found)
+    less_named walks successor is found =
+        less-unless_failed _ _ _ (less-check_walked 17 18 _ _ _ _
+        (less-walk_over (next_successor a) (next_successor b) CellKey.Rec (lei_in item) successor (λ member at.
+        less-successor (a.record_cell member) (b.record_cell member)
+        (walks (CellKey.Rec member) (subst (λ s. Contains (successor_walk a s) (CellKey.Rec member)) (sym is)
+        (Contains-map CellKey.Rec (members 200 (known (next_successor a)) successor) member at))))) less_key)
 
-  less_successor_checks : (rules : Rules) (successor : Option (List ℕ)) → successor_in item ≡ successor
-      → LessChecked (check_successor rules a item successor) (check_successor rules b item successor)
-  less_successor_checks rules None is = less_key
-  less_successor_checks Rules.First (Some successor) is =
-      let own = CellKey.Rec successor in
-      less-on_seen (a.record_cell successor) (b.record_cell successor) own _ _
-      (others_named own (Contains-append_right (key_names (akey item)) (successor_names (successor_in item)) own
-      (subst (λ s. Contains (successor_names s) own) (sym is) (0, omega arith, refl)))) (less_named successor is)
+    less_first : ((key : CellKey) → Contains (successor_walk a (successor_in item)) key → LessAt a b key)
+        → (successor : Option (List ℕ)) → successor_in item ≡ successor
+        → LessChecked (check_first a item successor) (check_first b item successor)
+    less_first walks None is = less_key
+    less_first walks (Some successor) is =
+        let own = CellKey.Rec successor in
+        less-on_seen (a.record_cell successor) (b.record_cell successor) own _ _
+        (others_named own (Contains-append_right (key_names (akey item)) (successor_names (successors_in item)) own
+        (first_successor (successors_in item) successor is))) (less_named walks successor is)
 
-  less-record : (full : Bool) (sitting : Sitting) → LessJudged (judge_record a full sitting item) (judge_record b full sitting item)
-  unfolding check_record
-  less-record full sitting =
-      let own = CellKey.Rec (lei_in item) in
-      less_room (first_failing (own_checks sitting item)) (a.record_cell (lei_in item)) (b.record_cell (lei_in item)) own _ _ full
-      (named own (Contains-append_left (own ∷ []) (key_names (akey item) ++ successor_names (successor_in item)) own (0, omega arith, refl)))
-      (λ held. less-unless_failed _ _ _ (less_successor_checks sitting.rules (successor_in item) refl))
+    -- by the second rules
+    less_levels : (successors : List (List ℕ)) → LessChecked (check_levels a item successors) (check_levels b item successors)
+    less_levels [] = less_key
+    less_levels (successor ∷ successors) = refl
+
+    less_successors : (rules : Rules) → ((key : CellKey) → Contains (record_walk rules a item) key → LessAt a b key)
+        → LessChecked (check_successors rules a item) (check_successors rules b item)
+    less_successors Rules.First walks = less_first walks (successor_in item) refl
+    less_successors Rules.Second walks = less_levels (successors_in item)
+
+    less-record : (full : Bool) (sitting : Sitting) → ((key : CellKey) → Contains (record_walk sitting.rules a item) key → LessAt a b key)
+        → LessJudged (judge_record a full sitting item) (judge_record b full sitting item)
+    unfolding check_record
+    less-record full sitting walks =
+        let own = CellKey.Rec (lei_in item) in
+        less_room (first_failing (own_checks sitting item)) (a.record_cell (lei_in item)) (b.record_cell (lei_in item)) own _ _ full
+        (named own (Contains-append_left (own ∷ []) (key_names (akey item) ++ successor_names (successors_in item)) own (0, omega arith, refl)))
+        (λ held. less-unless_failed _ _ _ (less_successors sitting.rules walks))
 
 -- ---- an item
 
@@ -214,12 +229,13 @@ walks_of_parent a b item less direct member at =
     less (parent_key member) (subst (λ t. Contains (cond t (parent_walk a (end_in item)) []) (parent_key member)) (sym direct)
     (Contains-map parent_key (members 200 (known (parents_in a)) (end_in item)) member at))
 
-pub less-item : (a b : Cells) (full : Bool) (sitting : Sitting) (item : Readied) → ((key : CellKey) → Contains (needs a item) key → LessAt a b key)
+pub less-item : (a b : Cells) (full : Bool) (sitting : Sitting) (item : Readied) → ((key : CellKey) → Contains (needs sitting.rules a item) key → LessAt a b key)
     → LessJudged (judge_item a full sitting item) (judge_item b full sitting item)
 less-item a b full sitting (Readied.Bad check) less = refl
 less-item a b full sitting (Readied.Good (Item.Record item)) less =
-    less-record a b item (λ key at. less key (Contains-append_left (record_names item) (successor_walk a (successor_in item)) key at))
-    (λ key at. less key (Contains-append_right (record_names item) (successor_walk a (successor_in item)) key at)) full sitting
+    let walk = record_walk sitting.rules a item in
+    less-record a b item (λ key at. less key (Contains-append_left (record_names item) walk key at)) full sitting
+    (λ key at. less key (Contains-append_right (record_names item) walk key at))
 less-item a b full sitting (Readied.Good (Item.Relation item)) less =
     let walk = cond (is_direct_parent item) (parent_walk a (end_in item)) [] in
     less_outcome _ _ _ (less-relation a b item (λ key at. less key (Contains-append_left (relation_names item) walk key at))

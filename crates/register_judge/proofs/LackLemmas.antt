@@ -1,5 +1,5 @@
 -- A cell for want of which items stop is one that the view lacks and that one of the items needs.
-use Rattle.std.specs.Prelude.{◌≡◌, ℕ, List, [], ◌∷◌, ◌++◌, Bool, true, false, ◌&&◌, not, cond, Option, Some, None, Result, Ok, Err, IsTrue}
+use Rattle.std.specs.Prelude.{◌≡◌, ℕ, List, [], ◌∷◌, ◌++◌, Bool, true, false, ◌&&◌, not, cond, slice_get, Option, Some, None, Result, Ok, Err, IsTrue}
 use Rattle.std.specs.List.{Contains}
 use Rattle.std.specs.Str.{bytes_eq}
 use mathlib.Core.Logic.{inl, inr}
@@ -8,7 +8,7 @@ use Rattle.std.proofs.lemmas.List.Elements.{Contains-append_left, Contains-appen
 use Rattle.lei_shapes.specs.declared.lists.ExceptionCategory.{ExceptionCategory}
 use Rattle.lei_code.specs.Texts.{Text}
 use Rattle.lei_records.proofs.FindLemmas.{find-member, find-passes}
-use Rattle.lei_records.specs.Cells.{Cells, akey, holds, is_live, lei_in, rec_cell, successor_in}
+use Rattle.lei_records.specs.Cells.{Cells, akey, holds, is_live, lei_in, rec_cell, successor_in, successors_in}
 use Rattle.lei_records.specs.Checks.{FailedCheck, first_failing}
 use Rattle.lei_records.specs.Exceptions.{exception_category_in, is_same_category, subject_in}
 use Rattle.lei_records.specs.Relations.{end_in, is_active, rel_cell}
@@ -23,20 +23,21 @@ use Rattle.lei_records.specs.declared.view.RowKey.{RowKey}
 use Rattle.lei_records.specs.declared.view.Seen.{Seen}
 use Rattle.authority_rules.specs.Taken.{seen_holder, taken, unless_own}
 use Rattle.successor_rules.specs.declared.walks.Walked.{Walked}
-use Rattle.successor_rules.specs.Successors.{successor_seen, walk}
+use Rattle.successor_rules.specs.Successors.{named, successor_seen, walk}
 use Rattle.successor_rules.specs.Walks.{is_missing, known, lacking, unless_lacking}
 use Rattle.relation_rules.proofs.NeedLemmas.{exception_told, relation_told}
 use Rattle.relation_rules.specs.declared.checked.Checked.{Checked}
 use Rattle.relation_rules.specs.Checking.{check_walked, checked_of, on_seen, unless_failed}
 use Rattle.relation_rules.specs.Checks.{is_direct_parent, is_from}
 use Rattle.relation_rules.specs.Needs.{IsNeeded, exception_names, is_lacking, lacks, relation_names}
-use Rattle.cell_reads.specs.Needs.{key_names, needs, parent_key, parent_walk, parents_in, record_names, successor_names, successor_walk, successors_in}
+use Rattle.cell_reads.proofs.NoteLemmas.{first_named}
+use Rattle.cell_reads.specs.Needs.{key_names, needs, parent_key, parent_walk, parents_in, record_names, record_walk, successor_names, successor_walk, next_successor}
 use Rattle.register_judge.specs.declared.judge.ItemOutcome.{ItemOutcome}
-use Rattle.register_judge.specs.declared.sitting.Rules.{Rules}
+use Rattle.lei_records.specs.declared.rules.Rules.{Rules}
 use Rattle.register_judge.specs.declared.sitting.Sitting.{Sitting}
 use Rattle.register_judge.specs.Agreement.{IsNeededIn}
 use Rattle.register_judge.specs.Checks.{c19}
-use Rattle.register_judge.specs.Judging.{Judgement, before, cells_after, check_key, check_named, check_record, check_successor, check_with_held, count_after, item_in_front, judge_item, judge_items, key_cell, outcome_by, put_writes}
+use Rattle.register_judge.specs.Judging.{Judgement, before, cells_after, check_key, check_named, check_record, check_first, check_levels, check_successors, check_with_held, count_after, item_in_front, judge_item, judge_items, key_cell, outcome_by, put_writes}
 use Rattle.register_judge.specs.Overlays.{is_between, put_cells, put_exception, put_record, put_relation}
 use Rattle.register_judge.specs.Sittings.{is_at_limit}
 use Rattle.register_judge.specs.Taking.{writes_of}
@@ -140,20 +141,20 @@ lacked own false None false key is = cc
 lacked own false (Some lei) long key is = (lei, refl, cc)
 
 -- a record that names a successor or none isn't missing
-named_known : (successor : Option (List ℕ)) (cell : RecCell) → cell.successor ≡ successor → is_missing (successor_seen (Seen.Held cell)) ≡ false
-named_known None cell is = ap (λ s. is_missing (successor_seen (Seen.Held (record cell { successor = s })))) is
-named_known (Some lei) cell is = ap (λ s. is_missing (successor_seen (Seen.Held (record cell { successor = s })))) is
+named_known : (successor : Option (List ℕ)) → is_missing (named successor) ≡ false
+named_known None = refl
+named_known (Some lei) = refl
 
 successor_lacking : (seen : Seen RecCell) → is_missing (successor_seen seen) ≡ is_lacking seen
-successor_lacking (Seen.Held cell) = named_known cell.successor cell refl
+successor_lacking (Seen.Held cell) = named_known (slice_get cell.successors 0)
 successor_lacking Seen.Empty = refl
 successor_lacking Seen.Missing = refl
 
 -- ---- a record
 
-module _ (cells : Cells) (item : Row) (key : CellKey) where
+module _ (rules : Rules) (cells : Cells) (item : Row) (key : CellKey) where
   abbrev record_needs : List CellKey
-  record_needs = record_names item ++ successor_walk cells (successor_in item)
+  record_needs = record_names item ++ record_walk rules cells item
 
   -- the view lacks the cell, and the record needs it
   abbrev Told : Type 0
@@ -163,10 +164,10 @@ module _ (cells : Cells) (item : Row) (key : CellKey) where
   needed_told own at lacking same = (ap (lacks cells) (sym same) ∙ lacking, subst (Contains record_needs) same at)
 
   named_told : (own : CellKey) → Contains (record_names item) own → lacks cells own ≡ true → own ≡ key → Told
-  named_told own at = needed_told own (Contains-append_left (record_names item) (successor_walk cells (successor_in item)) own at)
+  named_told own at = needed_told own (Contains-append_left (record_names item) (record_walk rules cells item) own at)
 
-  others_at : (own : CellKey) → Contains (key_names (akey item) ++ successor_names (successor_in item)) own → Contains (record_names item) own
-  others_at own at = Contains-append_right (CellKey.Rec (lei_in item) ∷ []) (key_names (akey item) ++ successor_names (successor_in item)) own at
+  others_at : (own : CellKey) → Contains (key_names (akey item) ++ successor_names (successors_in item)) own → Contains (record_names item) own
+  others_at own at = Contains-append_right (CellKey.Rec (lei_in item) ∷ []) (key_names (akey item) ++ successor_names (successors_in item)) own at
 
   holder_told : (authority_key : Option (Text × Text)) → akey item ≡ authority_key
       → on_seen (unless_own (lei_in item) (seen_holder cells authority_key)) (key_cell authority_key) (λ other. checked_of (first_failing (c19 other item ∷ []))) ≡ Checked.Missing key
@@ -176,7 +177,7 @@ module _ (cells : Cells) (item : Row) (key : CellKey) where
       let own = CellKey.Key pair.0 pair.1 in
       let seen = cells.holder pair.0 pair.1 in
       seen_told (unless_own (lei_in item) seen) own _ key Told told
-      (λ lacking same. named_told own (others_at own (Contains-append_left (key_names (akey item)) (successor_names (successor_in item)) own
+      (λ lacking same. named_told own (others_at own (Contains-append_left (key_names (akey item)) (successor_names (successors_in item)) own
       (subst (λ k. Contains (key_names k) own) (sym is) (0, omega arith, refl)))) (sym (own_lacking (lei_in item) seen) ∙ lacking) same)
       (λ other never. absurd (never_told _ key never))
 
@@ -188,37 +189,52 @@ module _ (cells : Cells) (item : Row) (key : CellKey) where
         | false ↦ λ told. cc
       ] is
 
-  of_walk_told : (successor : List ℕ) → successor_in item ≡ Some successor → walk cells (lei_in item) successor ≡ Walked.Missing key → Told
+-- by the first rules
+module _ (cells : Cells) (item : Row) (key : CellKey) where
+  of_walk_told : (successor : List ℕ) → successor_in item ≡ Some successor → walk cells (lei_in item) successor ≡ Walked.Missing key → Told Rules.First cells item key
   of_walk_told successor names is =
-      let answers = successors_in cells in
+      let answers = next_successor cells in
       let found = lacked CellKey.Rec (is_met (known answers) (lei_in item) successor) (lacking answers successor) (is_long (known answers) successor) key is in
       let test : List ℕ → Bool = λ lei. is_missing (answers lei) in
       let all = members 200 (known answers) successor in
       let own = CellKey.Rec found.0 in
       let of_walk : Contains (successor_walk cells (successor_in item)) own =
       subst (λ s. Contains (successor_walk cells s) own) (sym names) (Contains-map CellKey.Rec all found.0 (find-member test all found.0 found.1)) in
-      needed_told own (Contains-append_right (record_names item) (successor_walk cells (successor_in item)) own of_walk)
+      needed_told Rules.First cells item key own (Contains-append_right (record_names item) (successor_walk cells (successor_in item)) own of_walk)
       (sym (successor_lacking (cells.record_cell found.0)) ∙ find-passes test all found.0 found.1) found.2
 
-  successor_told : (rules : Rules) (successor : Option (List ℕ)) → successor_in item ≡ successor → check_successor rules cells item successor ≡ Checked.Missing key → Told
-  successor_told rules None names is = key_told is
-  successor_told Rules.First (Some successor) names is =
+  first_told : (successor : Option (List ℕ)) → successor_in item ≡ successor → check_first cells item successor ≡ Checked.Missing key → Told Rules.First cells item key
+  first_told None names is = key_told Rules.First cells item key is
+  first_told (Some successor) names is =
       let own = CellKey.Rec successor in
-      seen_told (cells.record_cell successor) own (check_named cells item successor) key Told is
-      (named_told own (others_at own (Contains-append_right (key_names (akey item)) (successor_names (successor_in item)) own
-      (subst (λ s. Contains (successor_names s) own) (sym names) (0, omega arith, refl)))))
-      (λ found rest. walk_told (walk cells (lei_in item) successor) (check_key cells item) key Told
+      let G = Told Rules.First cells item key in
+      seen_told (cells.record_cell successor) own (check_named cells item successor) key G is
+      (named_told Rules.First cells item key own (others_at Rules.First cells item key own (Contains-append_right (key_names (akey item)) (successor_names (successors_in item)) own
+      (first_named (successors_in item) successor names))))
+      (λ found rest. walk_told (walk cells (lei_in item) successor) (check_key cells item) key G
       (unless_told _ (check_walked 17 18 (walk cells (lei_in item) successor) (check_key cells item)) key rest)
-      (of_walk_told successor names) key_told)
+      (of_walk_told successor names) (key_told Rules.First cells item key))
 
-  record_told : (sitting : Sitting) → check_record cells sitting item ≡ Checked.Missing key → Told
+-- by the second rules
+module _ (cells : Cells) (item : Row) (key : CellKey) where
+  levels_told : (successors : List (List ℕ)) → check_levels cells item successors ≡ Checked.Missing key → Told Rules.Second cells item key
+  levels_told [] is = key_told Rules.Second cells item key is
+  levels_told (successor ∷ successors) is = cc
+
+module _ (cells : Cells) (item : Row) (key : CellKey) where
+  successors_told : (rules : Rules) → check_successors rules cells item ≡ Checked.Missing key → Told rules cells item key
+  successors_told Rules.First is = first_told cells item key (successor_in item) refl is
+  successors_told Rules.Second is = levels_told cells item key (successors_in item) is
+
+  record_told : (sitting : Sitting) → check_record cells sitting item ≡ Checked.Missing key → Told sitting.rules cells item key
   unfolding check_record
   record_told sitting is =
       let own = CellKey.Rec (lei_in item) in
-      seen_told (cells.record_cell (lei_in item)) own (check_with_held cells sitting item) key Told
+      let G = Told sitting.rules cells item key in
+      seen_told (cells.record_cell (lei_in item)) own (check_with_held cells sitting item) key G
       (unless_told _ (on_seen (cells.record_cell (lei_in item)) own (check_with_held cells sitting item)) key is)
-      (named_told own (Contains-append_left (own ∷ []) (key_names (akey item) ++ successor_names (successor_in item)) own (0, omega arith, refl)))
-      (λ held rest. successor_told sitting.rules (successor_in item) refl (unless_told _ (check_successor sitting.rules cells item (successor_in item)) key rest))
+      (named_told sitting.rules cells item key own (Contains-append_left (own ∷ []) (key_names (akey item) ++ successor_names (successors_in item)) own (0, omega arith, refl)))
+      (λ held rest. successors_told sitting.rules (unless_told _ (check_successors sitting.rules cells item) key rest))
 
 -- ---- an item
 
@@ -228,22 +244,22 @@ outcome_told (Checked.Fails check) passed key is = cc
 outcome_told (Checked.Missing own) passed key is = let same : own ≡ key = cc in ap Checked.Missing same
 
 -- what a relationship needs is named by it or of its walk
-relation_needs : (cells : Cells) (item : Row) (key : CellKey) → IsNeeded cells item key → Contains (needs cells (Readied.Good (Item.Relation item))) key
-relation_needs cells item key (inl named) =
+relation_needs : (rules : Rules) (cells : Cells) (item : Row) (key : CellKey) → IsNeeded cells item key → Contains (needs rules cells (Readied.Good (Item.Relation item))) key
+relation_needs rules cells item key (inl named) =
     Contains-append_left (relation_names item) (cond (is_direct_parent item) (parent_walk cells (end_in item)) []) key named
-relation_needs cells item key (inr of_walk) =
+relation_needs rules cells item key (inr of_walk) =
     let walk : Contains (parent_walk cells (end_in item)) (parent_key of_walk.member) =
     Contains-map parent_key (members 200 (known (parents_in cells)) (end_in item)) of_walk.member of_walk.stands in
     Contains-append_right (relation_names item) (cond (is_direct_parent item) (parent_walk cells (end_in item)) []) key
     (subst (λ t. Contains (cond t (parent_walk cells (end_in item)) []) key) (sym of_walk.direct) (subst (Contains (parent_walk cells (end_in item))) (sym of_walk.is) walk))
 
 item_told : (cells : Cells) (full : Bool) (sitting : Sitting) (item : Readied) (key : CellKey) → judge_item cells full sitting item ≡ Err key
-    → IsTrue (lacks cells key) × Contains (needs cells item) key
+    → IsTrue (lacks cells key) × Contains (needs sitting.rules cells item) key
 item_told cells full sitting (Readied.Bad check) key is = cc
 item_told cells full sitting (Readied.Good (Item.Record item)) key is = record_told cells item key sitting (outcome_told _ _ key is)
 item_told cells full sitting (Readied.Good (Item.Relation item)) key is =
     let told = relation_told cells item key sitting.issuer (outcome_told _ _ key is) in
-    (told.0, relation_needs cells item key told.1)
+    (told.0, relation_needs sitting.rules cells item key told.1)
 item_told cells full sitting (Readied.Good (Item.Exception item)) key is =
     let told = exception_told cells item.0 key sitting.issuer item.1 (outcome_told _ _ key is) in
     (told.0, Contains-append_left (exception_names item.0) [] key told.1)
@@ -259,7 +275,7 @@ no_judgement = record { verdicts = []; writes = []; new_records = 0 }
 
 -- the first item needs it
 wants_first : (cells : Cells) (count : ℕ) (sitting : Sitting) (item : Readied) (items : List Readied) (key : CellKey)
-    → IsTrue (lacks cells key) × Contains (needs cells item) key → Wants cells count sitting (item ∷ items) key
+    → IsTrue (lacks cells key) × Contains (needs sitting.rules cells item) key → Wants cells count sitting (item ∷ items) key
 unfolding judge_items no_judgement
 wants_first cells count sitting item items key told = (
   told.0,
@@ -293,7 +309,7 @@ wants_later cells count sitting item items key judged is wants =
         are = ap (λ xs. item ∷ xs) of_rest.are;
         judged = item_in_front judged item of_rest.judged;
         comes_to = ap rest is ∙ ap (before (Ok judged) item) of_rest.comes_to;
-        needed = subst (λ c. Contains (needs c of_rest.item) key) (sym (put_writes-append writes of_rest.judged.writes cells)) of_rest.needed;
+        needed = subst (λ c. Contains (needs sitting.rules c of_rest.item) key) (sym (put_writes-append writes of_rest.judged.writes cells)) of_rest.needed;
       },
     )
 

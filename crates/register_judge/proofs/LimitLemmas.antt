@@ -12,7 +12,7 @@ use Rattle.lei_records.specs.declared.item.Readied.{Readied}
 use Rattle.lei_records.specs.declared.view.RecCell.{RecCell}
 use Rattle.register_judge.specs.declared.outcome.Outcome.{Outcome}
 use Rattle.register_judge.specs.declared.outcome.Verdict.{Verdict}
-use Rattle.register_judge.specs.declared.sitting.Rules.{Rules}
+use Rattle.lei_records.specs.declared.rules.Rules.{Rules}
 use Rattle.register_judge.specs.declared.sitting.Sitting.{Sitting}
 use Rattle.cell_reads.specs.Reads.{Agrees}
 use Rattle.register_judge.specs.Agreement.{IsAgreed}
@@ -95,11 +95,11 @@ below_more count limit most less = omega arith
 pub plan-taken : (outcome : Outcome) (limit : ℕ) (today : ℤ) (issuer : List ℕ) (items : List Readied) (table : Table)
     → IsAgreed outcome 4294967295 today issuer items → IsSound table → Agrees outcome.reads table
     → record_count table + outcome.new_records ≤ limit → limit ≤ 4294967295
-    → (let taken = take table (sitting_by Rules.First limit today issuer) items in Shows outcome taken.verdicts taken.writes taken.new_records)
+    → (let taken = take table (sitting_by Rules.Second limit today issuer) items in Shows outcome taken.verdicts taken.writes taken.new_records)
 plan-taken outcome limit today issuer items table agreed sound agrees fits less =
     let big = record_count table + 4294967295 in
     let shows = agreed table sound agrees in
     let P : Taken → Type 0 = λ taken. Shows outcome taken.verdicts taken.writes taken.new_records in
-    let few : record_count table + (take table (sitting_by Rules.First big today issuer) items).new_records ≤ limit =
+    let few : record_count table + (take table (sitting_by Rules.Second big today issuer) items).new_records ≤ limit =
     subst (λ n. record_count table + n ≤ limit) shows.new_are fits in
-    subst P (sym (take-fits Rules.First today issuer table limit big items (cells-tell table sound) (below_more (record_count table) limit 4294967295 less) few)) shows
+    subst P (sym (take-fits Rules.Second today issuer table limit big items (cells-tell table sound) (below_more (record_count table) limit 4294967295 less) few)) shows

@@ -1,6 +1,6 @@
 -- What is known more: if a view answers as another one wherever that one isn't missing the cell, checks that come to an
 -- end over the one come to the same end over the other.
-use Rattle.std.specs.Prelude.{◌≡◌, ℕ, zero, suc, List, ◌∷◌, [], true, false, Option, Some, None, ⊤}
+use Rattle.std.specs.Prelude.{◌≡◌, ℕ, zero, suc, List, ◌∷◌, [], true, false, Option, Some, None, slice_get, ⊤}
 use Rattle.std.specs.List.{Contains}
 use Rattle.std.specs.Option.{option_map_or}
 use Rattle.std.specs.Str.{bytes_eq}
@@ -50,8 +50,8 @@ less-own own Seen.Missing b less = tt
 
 pub less-successor : (a b : Seen RecCell) → Less a b → Less (successor_seen a) (successor_seen b)
 less-successor (Seen.Held cell) b less =
-    let P : Seen RecCell → Type 0 = λ seen. Less (named cell.successor) (successor_seen seen) in
-    subst P (sym less) (less-same (named cell.successor))
+    let P : Seen RecCell → Type 0 = λ seen. Less (named (slice_get cell.successors 0)) (successor_seen seen) in
+    subst P (sym less) (less-same (named (slice_get cell.successors 0)))
 less-successor Seen.Empty b less = ap successor_seen less
 less-successor Seen.Missing b less = tt
 

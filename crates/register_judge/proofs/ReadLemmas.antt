@@ -26,7 +26,7 @@ use Rattle.register_judge.specs.declared.judge.ItemOutcome.{ItemOutcome}
 use Rattle.register_judge.specs.declared.outcome.JudgeStop.{JudgeStop}
 use Rattle.register_judge.specs.declared.outcome.Outcome.{Outcome}
 use Rattle.register_judge.specs.declared.outcome.Verdict.{Verdict}
-use Rattle.register_judge.specs.declared.sitting.Rules.{Rules}
+use Rattle.lei_records.specs.declared.rules.Rules.{Rules}
 use Rattle.register_judge.specs.declared.sitting.Sitting.{Sitting}
 use Rattle.register_judge.specs.Agreement.{IsAgreed, IsByReads, NotesMore}
 use Rattle.register_judge.specs.Judging.{Judgement, judge_item, judge_items, put_writes, records_added}
@@ -123,7 +123,7 @@ less_covered reads a b key in_a in_b (inr listed) = alike_at a b key listed.0 (i
 
 -- an item whose needs are covered comes to the same over each view that answers the reads
 item_by_reads : (reads : Listed) (view cells : Cells) (writes : List (RowKey × Option Item)) (full : Bool) (sitting : Sitting) (item : Readied) (judged : ItemOutcome)
-    → ((key : CellKey) → Contains (needs (put_writes writes view) item) key → IsCovered reads view key)
+    → ((key : CellKey) → Contains (needs sitting.rules (put_writes writes view) item) key → IsCovered reads view key)
     → AnswersReads reads view → AnswersReads reads cells → judge_item (put_writes writes view) full sitting item ≡ Ok judged
     → judge_item (put_writes writes cells) full sitting item ≡ Ok judged
 item_by_reads reads view cells writes full sitting item judged covers in_view in_cells is =
@@ -179,7 +179,7 @@ admits_before (Some old) None view cells keys notes admitted = absurd notes
 admits_before (Some old) (Some new) view cells keys notes admitted = λ key found at. admitted key found (notes.grows key found at)
 
 item_alike : (old new : Option Listed) (view cells : Cells) (writes : List (RowKey × Option Item)) (full : Bool) (sitting : Sitting) (item : Readied) (judged : ItemOutcome)
-    → NotesMore old new view (needs (put_writes writes view) item) → Admits new view view → Admits new view cells
+    → NotesMore old new view (needs sitting.rules (put_writes writes view) item) → Admits new view view → Admits new view cells
     → judge_item (put_writes writes view) full sitting item ≡ Ok judged → judge_item (put_writes writes cells) full sitting item ≡ Ok judged
 item_alike None None view cells writes full sitting item judged notes of_view of_cells is =
     ap (λ c. judge_item (put_writes writes c) full sitting item) of_cells ∙ is
@@ -191,7 +191,7 @@ item_alike (Some old) (Some new) view cells writes full sitting item judged note
 pub so_far-step : (old new : Option Listed) (view : Cells) (sitting : Sitting) (count more : ℕ) (verdicts verdicts' : List Verdict) (writes writes' : List (RowKey × Option Item)) (n n' : ℕ)
     (judged : ItemOutcome) (item : Readied) (rest left_items items : List Readied)
     → left_items ≡ item ∷ rest
-    → NotesMore old new view (needs (put_writes writes view) item)
+    → NotesMore old new view (needs sitting.rules (put_writes writes view) item)
     → Admits old view view
     → judge_item (put_writes writes view) (is_at_limit sitting count) sitting item ≡ Ok judged
     → more ≡ count + records_added judged.verdict judged.new
@@ -201,7 +201,7 @@ pub so_far-step : (old new : Option Listed) (view : Cells) (sitting : Sitting) (
     → IsSoFar old view sitting count verdicts writes n left_items items
     → IsSoFar new view sitting more verdicts' writes' n' rest items
 so_far-step old new view sitting count more verdicts verdicts' writes writes' n n' judged item rest left_items items cut notes of_view is more_is verdicts_are writes_are n_is so_far cells of_cells =
-    let keys = needs (put_writes writes view) item in
+    let keys = needs sitting.rules (put_writes writes view) item in
     with_front-step (put_writes writes cells) (put_writes writes' cells) count more sitting verdicts verdicts' writes writes' n n' judged item rest left_items _ cut
     (item_alike old new view cells writes (is_at_limit sitting count) sitting item judged notes (admits-more old new view keys notes of_view) of_cells is)
     (ap (λ w. put_writes w cells) writes_are ∙ put_writes-append writes (writes_of judged.verdict item) cells)
@@ -234,11 +234,11 @@ read-by (Err stop) view sitting items by_reads = tt
 
 -- an outcome by its reads is that of each sound table that agrees with them
 pub agreed-by : (result : Result Outcome JudgeStop) (view : Cells) (room : ℕ) (today : ℤ) (issuer : List ℕ) (items : List Readied)
-    → IfOk result (λ outcome. IsByReads outcome view (sitting_by Rules.First room today issuer) items)
+    → IfOk result (λ outcome. IsByReads outcome view (sitting_by Rules.Second room today issuer) items)
     → IfOk result (λ outcome. IsAgreed outcome room today issuer items)
 agreed-by (Ok outcome) view room today issuer items by_reads = λ table sound agrees.
-    judges-takes (Ok outcome) _ (take table (sitting_by Rules.First (record_count table + room) today issuer) items)
-    (judged-taken table (sitting_by Rules.First room today issuer) items sound) (by_reads.alike (cells_of table) agrees)
+    judges-takes (Ok outcome) _ (take table (sitting_by Rules.Second (record_count table + room) today issuer) items)
+    (judged-taken table (sitting_by Rules.Second room today issuer) items sound) (by_reads.alike (cells_of table) agrees)
 agreed-by (Err stop) view room today issuer items by_reads = tt
 
 -- the cell for want of which it stopped is the one that items lack

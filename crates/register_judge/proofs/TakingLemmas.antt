@@ -14,7 +14,7 @@ use Rattle.lei_records.specs.declared.view.CellKey.{CellKey}
 use Rattle.lei_records.specs.declared.view.RecCell.{RecCell}
 use Rattle.lei_records.specs.declared.view.RowKey.{RowKey}
 use Rattle.lei_records.specs.declared.view.Seen.{Seen}
-use Rattle.lei_records.specs.Cells.{lei_in, successor_in, rec_cell, is_live, akey, holds}
+use Rattle.lei_records.specs.Cells.{lei_in, successor_in, successors_in, rec_cell, is_live, akey, holds}
 use Rattle.lei_records.specs.Checks.{Finding, code_detail, fails_if, first_failing}
 use Rattle.lei_records.specs.Rows.{Row}
 use Rattle.lei_records.specs.Tables.{Table, record_key, put, put_write, put_all, row_at, record_of, record_count, holder_of, other_holder, seen, cells_of, row_key, IsKeyed, AuthorityKeysAreUnique, AreRelationsKeyed, HasActives, IsSound}
@@ -38,13 +38,13 @@ use Rattle.register_judge.specs.declared.judge.ItemOutcome.{ItemOutcome}
 use Rattle.register_judge.specs.declared.outcome.JudgeStop.{JudgeStop}
 use Rattle.register_judge.specs.declared.outcome.Outcome.{Outcome}
 use Rattle.register_judge.specs.declared.outcome.Verdict.{Verdict}
-use Rattle.register_judge.specs.declared.sitting.Rules.{Rules}
+use Rattle.lei_records.specs.declared.rules.Rules.{Rules}
 use Rattle.register_judge.specs.declared.sitting.Sitting.{Sitting}
-use Rattle.register_judge.specs.Checks.{own_checks, held_checks, c16, c19, successor_checks, earlier_checks, limit_check, record_checks}
-use Rattle.register_judge.specs.Judging.{acceptance, check_with_held, check_key, check_named, check_record, check_successor, value_seen, key_cell, judge_room, judge_record, outcome_by, judge_item, put_writes, cells_after, count_after, records_added, Judgement, before, judge_items}
+use Rattle.register_judge.specs.Checks.{own_checks, held_checks, c16, c19, first_checks, level_checks, successor_checks, earlier_checks, limit_check, record_checks}
+use Rattle.register_judge.specs.Judging.{acceptance, check_with_held, check_key, check_named, check_record, check_first, check_levels, check_successors, value_seen, key_cell, judge_room, judge_record, outcome_by, judge_item, put_writes, cells_after, count_after, records_added, Judgement, before, judge_items}
 use Rattle.register_judge.specs.Outcomes.{Judges, Takes}
 use Rattle.register_judge.specs.Overlays.{put_record}
-use Rattle.register_judge.specs.Sittings.{is_at_limit}
+use Rattle.register_judge.specs.Sittings.{is_at_limit, over_table}
 use Rattle.register_judge.specs.Taking.{verdict_of, item_checks, verdict, written, writes_of, is_new_record, Taken, take, HasRow, HaveRows}
 use Rattle.register_judge.proofs.RelationLemmas.{cells-put_exception, cells-put_relation}
 
@@ -73,17 +73,29 @@ in_turn (Some cell) true long behind = refl
 in_turn (Some cell) false true behind = refl
 in_turn (Some cell) false false behind = refl
 
-successor_by_table : (rules : Rules) (table : Table) (item : Row) (successor : Option (List ℕ)) → IsKeyed table → AuthorityKeysAreUnique table
-    → check_successor rules (cells_of table) item successor
-    ≡ checked_of (first_failing (successor_checks rules table item successor ++ c19 (other_holder table item) item ∷ []))
-successor_by_table rules table item None keyed holders = key_by_table table item keyed holders
-successor_by_table Rules.First table item (Some successor) keyed holders =
+first_by_table : (table : Table) (item : Row) (successor : Option (List ℕ)) → IsKeyed table → AuthorityKeysAreUnique table
+    → check_first (cells_of table) item successor
+    ≡ checked_of (first_failing (first_checks table item successor ++ c19 (other_holder table item) item ∷ []))
+first_by_table table item None keyed holders = key_by_table table item keyed holders
+first_by_table table item (Some successor) keyed holders =
     let found = record_of table successor in
     let walks = walk-over_table table (lei_in item) successor in
     let behind = key_by_table table item keyed holders in
     on_held found (CellKey.Rec successor) (check_named (cells_of table) item successor)
     ∙ ((λ i. unless_failed (first_failing (c16 found ∷ [])) (check_walked 17 18 (walks i) (behind i)))
     ∙ in_turn found (is_met (successor_of table) (lei_in item) successor) (is_long (successor_of table) successor) (c19 (other_holder table item) item ∷ []))
+
+levels_by_table : (table : Table) (item : Row) (successors : List (List ℕ)) → IsKeyed table → AuthorityKeysAreUnique table
+    → check_levels (cells_of table) item successors
+    ≡ checked_of (first_failing (level_checks table item successors ++ c19 (other_holder table item) item ∷ []))
+levels_by_table table item [] keyed holders = key_by_table table item keyed holders
+levels_by_table table item (successor ∷ successors) keyed holders = refl
+
+successors_by_table : (rules : Rules) (table : Table) (item : Row) → IsKeyed table → AuthorityKeysAreUnique table
+    → check_successors rules (cells_of table) item
+    ≡ checked_of (first_failing (successor_checks rules table item ++ c19 (other_holder table item) item ∷ []))
+successors_by_table Rules.First table item = first_by_table table item (successor_in item)
+successors_by_table Rules.Second table item = levels_by_table table item (successors_in item)
 
 -- the cells of a table come to the first check before C20 that fails on it
 record_by_cells : (table : Table) (sitting : Sitting) (item : Row) → IsKeyed table → AuthorityKeysAreUnique table
@@ -93,19 +105,15 @@ record_by_cells table sitting item keyed holders =
     let held = record_of table (lei_in item) in
     let own = own_checks sitting item in
     let of_held = held_checks held sitting item in
-    let behind = successor_checks sitting.rules table item (successor_in item) ++ c19 (other_holder table item) item ∷ [] in
+    let behind = successor_checks sitting.rules table item ++ c19 (other_holder table item) item ∷ [] in
     ap (unless_failed (first_failing own))
     (on_held held (CellKey.Rec (lei_in item)) (check_with_held (cells_of table) sitting item)
-    ∙ (ap (unless_failed (first_failing of_held)) (successor_by_table sitting.rules table item (successor_in item) keyed holders) ∙ chained of_held behind))
+    ∙ (ap (unless_failed (first_failing of_held)) (successors_by_table sitting.rules table item keyed holders) ∙ chained of_held behind))
     ∙ chained own (of_held ++ behind)
 
 -- What comes of an item on a table, in a sitting.
 abbrev pub outcome_on : Table → Sitting → Readied → ItemOutcome
 outcome_on table sitting item = record { verdict = verdict table sitting item; new = is_new_record table sitting item }
-
--- The sitting over a table: its limit counts all of the table's records.
-abbrev over_table : Sitting → ℕ → Sitting
-over_table sitting limit = record sitting { limit = limit }
 
 -- The limit of a sitting over a view counts the records that are added, and so many were added. The limit over the table
 -- counts those that were there before, too.
@@ -204,10 +212,10 @@ passed table sitting item passes =
 
 -- the checks of the successor pass, and C19
 before_c20 : (table : Table) (sitting : Sitting) (item : Row) → Passes table sitting item
-    → (first_failing (successor_checks sitting.rules table item (successor_in item)) ≡ None) × (first_failing (c19 (other_holder table item) item ∷ []) ≡ None)
+    → (first_failing (successor_checks sitting.rules table item) ≡ None) × (first_failing (c19 (other_holder table item) item ∷ []) ≡ None)
 before_c20 table sitting item passes =
     let front = own_checks sitting item ++ held_checks (record_of table (lei_in item)) sitting item in
-    let of_successor = successor_checks sitting.rules table item (successor_in item) in
+    let of_successor = successor_checks sitting.rules table item in
     let parts = or_none _ _ (sym (first_failing-append (front ++ of_successor) (c19 (other_holder table item) item ∷ [])) ∙ (passed table sitting item passes).0) in
     ((or_none _ _ (sym (first_failing-append front of_successor) ∙ parts.0)).1, parts.1)
 
@@ -216,7 +224,7 @@ free_if_passes table sitting item passes =
     none_where (is_live item) (other_holder table item) (all_pass (c19 (other_holder table item) item ∷ []) (before_c20 table sitting item passes).1).first
 
 pub successors_pass : (table : Table) (sitting : Sitting) (item : Row) → Passes table sitting item
-    → first_failing (successor_checks sitting.rules table item (successor_in item)) ≡ None
+    → first_failing (successor_checks sitting.rules table item) ≡ None
 successors_pass table sitting item passes = (before_c20 table sitting item passes).0
 
 -- ---- the table and the number of its records after an item

@@ -1,5 +1,5 @@
 -- The checks of a record that is brought to a table, C05 to C20. This project's profile.
-use Rattle.std.specs.Prelude.{ℤ, List, [], ◌∷◌, ◌++◌, Bool, false, not, ◌&&◌, ◌||◌, int_lt, Option, Some, None, is_some, is_none}
+use Rattle.std.specs.Prelude.{ℤ, List, [], ◌∷◌, ◌++◌, Bool, true, false, not, ◌&&◌, ◌||◌, int_lt, Option, Some, None, is_some, is_none}
 use Rattle.std.specs.Option.{option_map_or}
 use Rattle.std.specs.Ordering.{int_eq}
 use Rattle.std.specs.Str.{bytes_eq}
@@ -8,7 +8,7 @@ use Rattle.lei_shapes.specs.declared.lists.RecordStatus.{RecordStatus}
 use Rattle.lei_shapes.specs.Moment.{day_of}
 use Rattle.lei_records.specs.declared.check.Detail.{Detail}
 use Rattle.lei_records.specs.declared.view.RecCell.{RecCell}
-use Rattle.lei_records.specs.Cells.{lei_in, status_in, entity_status_in, initial_in, updated_in, renewal_in, created_in, manager_in, successor_in, is_live}
+use Rattle.lei_records.specs.Cells.{lei_in, status_in, entity_status_in, initial_in, updated_in, renewal_in, created_in, manager_in, successor_in, successors_in, is_live}
 use Rattle.lei_records.specs.Checks.{Finding, fails_if, code_detail}
 use Rattle.lei_records.specs.Rows.{Row}
 use Rattle.lei_records.specs.Tables.{Table, record_of, record_count, other_holder}
@@ -16,7 +16,7 @@ use Rattle.lei_records.specs.Walks.{Next, is_long, is_met, successor_of}
 use Rattle.status_rules.specs.declared.transitions.Party.{Party}
 use Rattle.status_rules.specs.Statuses.{entity_fits, renewal_fits, is_issued, is_retired, is_duplicate}
 use Rattle.status_rules.specs.Transitions.{party}
-use Rattle.register_judge.specs.declared.sitting.Rules.{Rules}
+use Rattle.lei_records.specs.declared.rules.Rules.{Rules}
 use Rattle.register_judge.specs.declared.sitting.Sitting.{Sitting}
 use Rattle.register_judge.specs.Sittings.{is_at_limit}
 
@@ -134,19 +134,29 @@ held_checks held sitting item =
     c10 held item ∷ c11 held item ∷ c12 held sitting.issuer item ∷ c13 held item ∷ c14 held item
     ∷ c15 sitting.today item ∷ []
 
--- The checks of the item's successor by the rules, C16 to C18: none where it has no successor. The walk goes by the
--- records of the table.
-abbrev pub successor_checks : Rules → Table → Row → Option Lei → List Finding
-successor_checks rules table item None = []
-successor_checks Rules.First table item (Some successor) =
+-- The checks of the item's one successor by the first rules, C16 to C18: none where it has no successor. The walk goes
+-- by the records of the table.
+abbrev pub first_checks : Table → Row → Option Lei → List Finding
+first_checks table item None = []
+first_checks table item (Some successor) =
     c16 (record_of table successor) ∷ c17 (successor_of table) item successor
     ∷ c18 (successor_of table) successor ∷ []
+
+-- The checks of the item's successors by the second rules.
+abbrev pub level_checks : Table → Row → List Lei → List Finding
+level_checks table item [] = []
+level_checks table item (successor ∷ successors) = fails_if true 16 Detail.None ∷ []
+
+-- The checks of the item's successors by the rules, C16 to C18.
+abbrev pub successor_checks : Rules → Table → Row → List Finding
+successor_checks Rules.First table item = first_checks table item (successor_in item)
+successor_checks Rules.Second table item = level_checks table item (successors_in item)
 
 -- All checks before C20 of a record on a table, in a sitting.
 abbrev pub earlier_checks : Table → Sitting → Row → List Finding
 earlier_checks table sitting item =
     own_checks sitting item ++ held_checks (record_of table (lei_in item)) sitting item
-    ++ successor_checks sitting.rules table item (successor_in item)
+    ++ successor_checks sitting.rules table item
     ++ c19 (other_holder table item) item ∷ []
 
 -- C20 of a record on a table.

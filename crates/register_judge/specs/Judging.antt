@@ -1,14 +1,15 @@
 -- Judging over any view: what a view's cells make of items, or the first cell that they need and the view lacks.
 use Rattle.std.specs.Prelude.{ℕ, ◌+◌, List, [], ◌∷◌, ◌++◌, Bool, true, false, if◌then◌else◌, Option, Some, None, is_none, Result, Ok, Err}
 use Rattle.lei_code.specs.Texts.{Lei, Text}
+use Rattle.lei_records.specs.declared.check.Detail.{Detail}
 use Rattle.lei_records.specs.declared.item.Item.{Item}
 use Rattle.lei_records.specs.declared.item.Readied.{Readied}
 use Rattle.lei_records.specs.declared.view.CellKey.{CellKey}
 use Rattle.lei_records.specs.declared.view.RecCell.{RecCell}
 use Rattle.lei_records.specs.declared.view.RowKey.{RowKey}
 use Rattle.lei_records.specs.declared.view.Seen.{Seen}
-use Rattle.lei_records.specs.Cells.{Cells, lei_in, successor_in, is_live, akey}
-use Rattle.lei_records.specs.Checks.{FailedCheck, first_failing}
+use Rattle.lei_records.specs.Cells.{Cells, lei_in, successor_in, successors_in, is_live, akey}
+use Rattle.lei_records.specs.Checks.{FailedCheck, fails_if, first_failing}
 use Rattle.lei_records.specs.Rows.{Row}
 use Rattle.authority_rules.specs.Taken.{taken}
 use Rattle.successor_rules.specs.Successors.{walk}
@@ -16,7 +17,7 @@ use Rattle.relation_rules.specs.declared.checked.Checked.{Checked}
 use Rattle.relation_rules.specs.Checking.{check_exception, check_relation, check_walked, checked_of, on_seen, unless_failed}
 use Rattle.register_judge.specs.declared.judge.ItemOutcome.{ItemOutcome}
 use Rattle.register_judge.specs.declared.outcome.Verdict.{Verdict}
-use Rattle.register_judge.specs.declared.sitting.Rules.{Rules}
+use Rattle.lei_records.specs.declared.rules.Rules.{Rules}
 use Rattle.register_judge.specs.declared.sitting.Sitting.{Sitting}
 use Rattle.register_judge.specs.Checks.{own_checks, held_checks, c16, c19, c20}
 use Rattle.register_judge.specs.Overlays.{put_cells}
@@ -44,17 +45,27 @@ check_named cells item successor found =
     unless_failed (first_failing (c16 found ∷ []))
     (check_walked 17 18 (walk cells (lei_in item) successor) (check_key cells item))
 
--- The same by the rules and the successor: an item without one has nothing to ask of it.
-abbrev pub check_successor : Rules → Cells → Row → Option Lei → Checked
-check_successor rules cells item None = check_key cells item
-check_successor Rules.First cells item (Some successor) =
+-- The same by the first rules and the one successor: an item without one has nothing to ask of it.
+abbrev pub check_first : Cells → Row → Option Lei → Checked
+check_first cells item None = check_key cells item
+check_first cells item (Some successor) =
     on_seen (cells.record_cell successor) (CellKey.Rec successor) (check_named cells item successor)
+
+-- The same by the second rules and all successors.
+abbrev pub check_levels : Cells → Row → List Lei → Checked
+check_levels cells item [] = check_key cells item
+check_levels cells item (successor ∷ successors) = checked_of (first_failing (fails_if true 16 Detail.None ∷ []))
+
+-- The same by the rules.
+abbrev pub check_successors : Rules → Cells → Row → Checked
+check_successors Rules.First cells item = check_first cells item (successor_in item)
+check_successors Rules.Second cells item = check_levels cells item (successors_in item)
 
 -- C10 to C19, with the record that is held under the item's LEI.
 abbrev pub check_with_held : Cells → Sitting → Row → Option RecCell → Checked
 check_with_held cells sitting item held =
     unless_failed (first_failing (held_checks held sitting item))
-    (check_successor sitting.rules cells item (successor_in item))
+    (check_successors sitting.rules cells item)
 
 -- What the checks C05 to C19 of a record come to over a view, in a sitting.
 unfoldable pub check_record : Cells → Sitting → Row → Checked

@@ -5,3 +5,4 @@ pub mod Outcomes
 pub mod Overlays
 pub mod Sittings
 pub mod Taking
+pub mod Fitting

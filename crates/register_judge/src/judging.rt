@@ -7,11 +7,11 @@ ghost use Rattle.cell_reads.specs.Needs.{needs};
 ghost use Rattle.cell_reads.specs.Reads.{AnswersReads};
 ghost use Rattle.register_judge.specs.Agreement.{IsAgreed, IsByReads, IsNeededIn, NotesMore};
 ghost use Rattle.register_judge.specs.declared.outcome.JudgeStop.{JudgeStop as Stop};
-ghost use Rattle.register_judge.specs.declared.sitting.Rules.{Rules};
+ghost use Rattle.lei_records.specs.declared.rules.Rules.{Rules};
 ghost use Rattle.register_judge.specs.Judging;
 ghost use Rattle.register_judge.specs.Outcomes.{Judges, Shows, Takes};
 ghost use Rattle.register_judge.specs.Overlays.{cells_in};
-ghost use Rattle.register_judge.specs.Sittings.{sitting_by};
+ghost use Rattle.register_judge.specs.Sittings.{over_table, sitting_by};
 ghost use Rattle.register_judge.specs.Taking;
 ghost use Rattle.register_judge.specs.Taking.{take, writes_of, written};
 
@@ -19,11 +19,11 @@ use crate::judge::{ItemOutcome, judge_item};
 use crate::keys::row_key;
 use crate::outcome::{JudgeStop, Outcome, Verdict};
 use crate::overlay::Overlay;
-use crate::sitting::{Rules, Sitting};
+use crate::sitting::Sitting;
 use cell_reads::{Noted, note_needs};
 use lei_code::Lei;
 use lei_outside::{List, NoMemory};
-use lei_records::{Item, Readied, RowKey, View};
+use lei_records::{Item, Readied, RowKey, Rules, View};
 use std::alloc::Global;
 
 // What was judged so far.
@@ -38,7 +38,7 @@ struct Progress {
     noted: Option<Noted>,
 }
 
-/// Judges the items of an upload by rules 1 from left to right, each on what the view answers with the accepted items
+/// Judges the items of an upload by the newest rules from left to right, each on what the view answers with the accepted items
 /// before it put. `room` is the number of further records that fit, `issuer` uploads them, and `today` is the day,
 /// counted from 1970-01-01. The outcome lists the cells that the items needed, as the view has them: on a table that
 /// agrees with them the items come to the same.
@@ -53,11 +53,11 @@ pub fn judge_all<V: View>(
     requires { length items.now ≤ 5000 }
     // The records of the view aren't known, and so the limit is that of the ones that are added.
     ensures answers { Judges result
-        (Judging.judge_items (V.cells view.now) 0 (sitting_by Rules.First room today issuer.now) items.now) }
+        (Judging.judge_items (V.cells view.now) 0 (sitting_by Rules.Second room today issuer.now) items.now) }
 
     // Over the cells of a sound table, which has room for so many records more.
     ensures over_tables { (table : Table) → IsSound table → V.cells view.now ≡ cells_of table → Takes result
-        (take table (sitting_by Rules.First (record_count table + room) today issuer.now) items.now) }
+        (take table (sitting_by Rules.Second (record_count table + room) today issuer.now) items.now) }
 
     // The view has what is listed as read.
     ensures read { IfOk result (λ outcome. AnswersReads outcome.reads (V.cells view.now)) }
@@ -67,10 +67,10 @@ pub fn judge_all<V: View>(
 
     // The cell for want of which it stopped is one that the view lacks and an item needs.
     ensures wanting { (key : Key) → result ≡ Err (Stop.NeedCell key) → IsTrue (lacks (V.cells view.now) key)
-        × IsNeededIn (V.cells view.now) 0 (sitting_by Rules.First room today issuer.now) items.now key }
+        × IsNeededIn (V.cells view.now) 0 (sitting_by Rules.Second room today issuer.now) items.now key }
 {
     let sitting = Sitting {
-        rules: Rules::First,
+        rules: Rules::Second,
         limit: room,
         today,
         issuer: *issuer,
@@ -78,28 +78,20 @@ pub fn judge_all<V: View>(
     judge_each(alloc, view, Some(Noted::new(alloc)), &sitting, items)
 }
 
-/// The same without a list of the cells that were read, which an upload that is judged in its turn doesn't need.
-pub fn judge_on<V: View>(
+/// The same by the rules of a sitting, whose limit is the number of further records that fit. It lists no cells as read,
+/// which an upload that is judged in its turn doesn't need.
+pub fn judge_by<V: View>(
     alloc: Global,
     view: &V,
-    room: u32,
-    issuer: &Lei,
-    today: i32,
+    sitting: &Sitting,
     items: &[Readied],
 ) -> Result<Outcome, JudgeStop>
     requires { length items.now ≤ 5000 }
-    ensures answers { Judges result
-        (Judging.judge_items (V.cells view.now) 0 (sitting_by Rules.First room today issuer.now) items.now) }
+    ensures answers { Judges result (Judging.judge_items (V.cells view.now) 0 sitting.now items.now) }
     ensures over_tables { (table : Table) → IsSound table → V.cells view.now ≡ cells_of table → Takes result
-        (take table (sitting_by Rules.First (record_count table + room) today issuer.now) items.now) }
+        (take table (over_table sitting.now (record_count table + sitting.now.limit)) items.now) }
 {
-    let sitting = Sitting {
-        rules: Rules::First,
-        limit: room,
-        today,
-        issuer: *issuer,
-    };
-    judge_each(alloc, view, None, &sitting, items)
+    judge_each(alloc, view, None, sitting, items)
 }
 
 // In a sitting whose limit is that of the records that are added. The cells that are read are listed if there is a list
@@ -126,7 +118,14 @@ fn judge_each<V: View>(
         noted,
     };
     for item in items {
-        note_item(alloc, view, &overlay, &mut progress.noted, item)?;
+        note_item(
+            alloc,
+            sitting.rules,
+            view,
+            &overlay,
+            &mut progress.noted,
+            item,
+        )?;
         let full = sitting.limit <= progress.added;
         let judged = match judge_item(alloc, &overlay, full, sitting, item) {
             Ok(judged) => judged,
@@ -147,16 +146,17 @@ fn judge_each<V: View>(
 // Notes the cells that an item needs over the accepted ones, as the view has them, if they are listed.
 fn note_item<'a, V: View>(
     alloc: Global,
+    rules: Rules,
     view: &V,
     overlay: &Overlay<'a, V>,
     noted: &mut Option<Noted>,
     item: &Readied,
 ) -> Result<(), NoMemory>
     ensures { OnOk result (NotesMore noted.old noted.new (V.cells view.now)
-        (needs (cells_in V.cells overlay.now) item.now)) }
+        (needs rules (cells_in V.cells overlay.now) item.now)) }
 {
     match noted {
-        Some(noted) => note_needs(alloc, view, overlay, noted, item),
+        Some(noted) => note_needs(alloc, rules, view, overlay, noted, item),
         None => Ok(()),
     }
 }

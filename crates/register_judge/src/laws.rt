@@ -3,20 +3,20 @@ ghost use Rattle.std.specs.Prelude.{◌≡◌, ◌≤◌, ◌+◌, ℕ, ℤ, Lis
 ghost use Rattle.lei_code.specs.Texts.{Lei};
 ghost use Rattle.lei_records.specs.declared.item.Item.{Item};
 ghost use Rattle.lei_records.specs.declared.item.Readied.{Readied};
-ghost use Rattle.lei_records.specs.Cells.{successor_in};
 ghost use Rattle.lei_records.specs.Checks.{first_failing};
 ghost use Rattle.lei_records.specs.Rows.{Row};
 ghost use Rattle.lei_records.specs.Tables.{Table, IsSound, put, put_all, record_count};
 ghost use Rattle.relation_rules.specs.Parents.{AreApart, ParentChainsEnd};
 ghost use Rattle.cell_reads.specs.Reads.{Agrees};
 ghost use Rattle.register_judge.specs.declared.outcome.Outcome.{Outcome};
-ghost use Rattle.register_judge.specs.declared.sitting.Rules.{Rules};
+ghost use Rattle.lei_records.specs.declared.rules.Rules.{Rules};
 ghost use Rattle.register_judge.specs.declared.sitting.Sitting.{Sitting};
 ghost use Rattle.register_judge.specs.Agreement.{IsAgreed};
 ghost use Rattle.register_judge.specs.Checks.{successor_checks};
 ghost use Rattle.register_judge.specs.Outcomes.{Takes};
 ghost use Rattle.register_judge.specs.Sittings.{sitting_by};
 ghost use Rattle.register_judge.specs.Taking.{take, HaveRows};
+ghost use Rattle.register_judge.specs.Fitting.{ItemsFit, RowFits, TableFits};
 ghost use Rattle.successor_rules.specs.Successors.{SuccessorChainsEnd};
 
 /// Items leave a sound table sound.
@@ -32,17 +32,25 @@ pub fn writes_make_the_table()
 {}
 
 /// Where each successor that a table's records name is held and each chain ends, this still holds after a record was
-/// put that passes the checks of its successor.
+/// put that passes the checks of its successors. By the first rules the records name one successor at most.
 pub fn accepted_successors_keep_chains()
-    ensures { (rules : Rules) (table : Table) (row : Row) → SuccessorChainsEnd table
-        → first_failing (successor_checks rules table row (successor_in row)) ≡ None
+    ensures { (rules : Rules) (table : Table) (row : Row) → TableFits rules table → RowFits rules row
+        → SuccessorChainsEnd table → first_failing (successor_checks rules table row) ≡ None
         → SuccessorChainsEnd (put table (Item.Record row)) }
 {}
 
-/// It still holds behind items, whatever they are.
+/// It still holds after items, whatever they are. By the first rules the records and the items name one successor at
+/// most.
 pub fn items_keep_chains()
-    ensures { (table : Table) (sitting : Sitting) (items : List Readied)
-        → SuccessorChainsEnd table → SuccessorChainsEnd (take table sitting items).table }
+    ensures { (table : Table) (sitting : Sitting) (items : List Readied) → TableFits sitting.rules table
+        → ItemsFit sitting.rules items → SuccessorChainsEnd table
+        → SuccessorChainsEnd (take table sitting items).table }
+{}
+
+/// Items of the first rules leave records of which each names one successor at most.
+pub fn items_keep_to_their_rules()
+    ensures { (table : Table) (sitting : Sitting) (items : List Readied) → TableFits sitting.rules table
+        → ItemsFit sitting.rules items → TableFits sitting.rules (take table sitting items).table }
 {}
 
 /// Items leave each chain of direct parents of a sound table with an end.
@@ -70,5 +78,5 @@ pub fn limits_that_suffice_are_alike()
     ensures agreed { (outcome : Outcome) (limit : ℕ) (today : ℤ) (issuer : Lei) (items : List Readied)
         (table : Table) → IsAgreed outcome 4294967295 today issuer items → IsSound table
         → Agrees outcome.reads table → record_count table + outcome.new_records ≤ limit → limit ≤ 4294967295
-        → Takes (Ok outcome) (take table (sitting_by Rules.First limit today issuer) items) }
+        → Takes (Ok outcome) (take table (sitting_by Rules.Second limit today issuer) items) }
 {}

@@ -14,10 +14,11 @@ mod records;
 mod sitting;
 
 pub use cell_reads::keys_of;
-pub use judging::{judge_all, judge_on};
+pub use judging::{judge_all, judge_by};
 pub use laws::{
     accepted_successors_keep_chains, items_keep_apart, items_keep_chains, items_keep_parents,
-    items_keep_tables_sound, limits_that_suffice_are_alike, writes_make_the_table,
+    items_keep_tables_sound, items_keep_to_their_rules, limits_that_suffice_are_alike,
+    writes_make_the_table,
 };
 pub use outcome::{JudgeStop, Outcome, Plan, Verdict};
-pub use sitting::{Rules, Sitting};
+pub use sitting::Sitting;

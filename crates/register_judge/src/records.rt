@@ -1,20 +1,19 @@
 //! The checks of a record from C10 to C19, over any view.
 ghost use Rattle.std.specs.Prelude.{◌≡◌, Some, IfOk};
-ghost use Rattle.lei_records.specs.Cells.{akey, lei_in};
+ghost use Rattle.lei_records.specs.Cells.{akey, lei_in, successor_in, successors_in};
 ghost use Rattle.register_judge.specs.Judging;
-ghost use Rattle.register_judge.specs.declared.sitting.Rules.{Rules};
 ghost use Rattle.relation_rules.specs.Checking;
 ghost use Rattle.successor_rules.specs.Successors;
 
 use crate::checks::held_check;
-use crate::sitting::{Rules, Sitting};
+use crate::sitting::Sitting;
 use authority_rules::{is_live, key_of, taken};
 use lei_code::Lei;
 use lei_outside::{NoMemory, Text};
 use lei_records::numbers::{
     AUTHORITY_KEY_TAKEN, SUCCESSOR_CHAIN_LONG, SUCCESSOR_CYCLE, SUCCESSOR_UNKNOWN,
 };
-use lei_records::{CellKey, RecCell, Record, Seen, View};
+use lei_records::{CellKey, RecCell, Record, Rules, Seen, View};
 use relation_rules::{Checked, failed, telling};
 use std::alloc::Global;
 use successor_rules::{Walked, walk};
@@ -33,13 +32,35 @@ pub fn check_with_held<V: View>(
     if let Some(check) = held_check(held, sitting, item) {
         return Ok(Checked::Fails(check));
     }
-    match (sitting.rules, item.successor()) {
-        (Rules::First, Some(successor)) => check_successor(alloc, view, item, &successor),
-        (_, None) => check_key(alloc, view, item),
+    match sitting.rules {
+        Rules::First => check_first(alloc, view, item),
+        Rules::Second => check_levels(alloc, view, item),
     }
 }
 
-// From C16 on by rules 1, of an item with this successor.
+// From C16 on by the first rules.
+fn check_first<V: View>(alloc: Global, view: &V, item: &Record) -> Result<Checked, NoMemory>
+    ensures { IfOk result (λ checked. checked
+        ≡ Judging.check_first (V.cells view.now) item.now (successor_in item.now)) }
+{
+    match item.successor() {
+        Some(successor) => check_successor(alloc, view, item, &successor),
+        None => check_key(alloc, view, item),
+    }
+}
+
+// From C16 on by the second rules.
+fn check_levels<V: View>(alloc: Global, view: &V, item: &Record) -> Result<Checked, NoMemory>
+    ensures { IfOk result (λ checked. checked
+        ≡ Judging.check_levels (V.cells view.now) item.now (successors_in item.now)) }
+{
+    if item.successors().is_empty() {
+        return check_key(alloc, view, item);
+    }
+    Ok(failed(SUCCESSOR_UNKNOWN))
+}
+
+// From C16 on, of an item with this successor.
 fn check_successor<V: View>(
     alloc: Global,
     view: &V,
@@ -47,7 +68,7 @@ fn check_successor<V: View>(
     successor: &Lei,
 ) -> Result<Checked, NoMemory>
     ensures { IfOk result (λ checked. checked
-        ≡ Judging.check_successor Rules.First (V.cells view.now) item.now (Some successor.now)) }
+        ≡ Judging.check_first (V.cells view.now) item.now (Some successor.now)) }
 {
     match view.record_cell(successor) {
         Seen::Held(_) => check_walk(alloc, view, item, successor),

@@ -1,12 +1,6 @@
 //! The terms under which items are judged.
 use lei_code::Lei;
-
-/// By which rules items are judged. Each entry of the register names its rules by their number.
-#[derive(Debug, Clone, Copy, PartialEq, Eq)]
-pub enum Rules {
-    /// Number 1. There are no others yet.
-    First,
-}
+use lei_records::Rules;
 
 /// The terms under which the items of one upload are judged: the same for each of them.
 #[derive(Debug, Clone, Copy, PartialEq, Eq)]

@@ -16,7 +16,7 @@ use Rattle.register_judge.specs.Sittings.{sitting_by}
 use Rattle.register_judge.specs.Taking.{take}
 use Rattle.register_judge.specs.declared.outcome.Outcome as judged
 use Rattle.register_judge.specs.declared.outcome.Plan.{Plan}
-use Rattle.register_judge.specs.declared.sitting.Rules.{Rules}
+use Rattle.lei_records.specs.declared.rules.Rules.{Rules}
 use Rattle.register_judge.specs.declared.sitting.Sitting.{Sitting}
 use Rattle.register_judge.proofs.LimitLemmas.{plan-taken}
 use Rattle.register_history.proofs.Registers.{upload-within}

@@ -11,7 +11,7 @@ use Rattle.register_judge.specs.Sittings.{sitting_by}
 use Rattle.register_judge.specs.Taking.{take}
 use Rattle.register_judge.specs.declared.outcome.Outcome.{Outcome}
 use Rattle.register_judge.specs.declared.outcome.Plan.{Plan}
-use Rattle.register_judge.specs.declared.sitting.Rules.{Rules}
+use Rattle.lei_records.specs.declared.rules.Rules.{Rules}
 use Rattle.register_state.specs.Judging.{ShowsTaken}
 use Rattle.register_words.specs.declared.request.Call.{Call}
 use Rattle.upload_format.specs.Bodies.{upload}

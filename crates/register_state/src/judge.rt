@@ -4,7 +4,7 @@ ghost use Rattle.cell_reads.specs.Reads.{Agrees};
 ghost use Rattle.lei_shapes.specs.Moment.{IsMoment, day_of};
 ghost use Rattle.lei_records.specs.Items.{ready as ready_of};
 ghost use Rattle.lei_records.specs.Tables.{record_count};
-ghost use Rattle.register_judge.specs.declared.sitting.Rules.{Rules};
+ghost use Rattle.lei_records.specs.declared.rules.Rules.{Rules};
 ghost use Rattle.register_judge.specs.Sittings.{sitting_by};
 ghost use Rattle.register_judge.specs.Taking.{take};
 ghost use Rattle.register_table.specs.Held.{rows};

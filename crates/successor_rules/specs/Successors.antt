@@ -1,10 +1,11 @@
 -- Successors over a view, and what holds of a register's successors.
-use Rattle.std.specs.Prelude.{◌≡◌, Option, Some, None, IsSome}
+use Rattle.std.specs.Prelude.{◌≡◌, Option, Some, None, IsSome, slice_get}
+use Rattle.std.specs.List.{Contains}
 use Rattle.lei_code.specs.Texts.{Lei}
 use Rattle.lei_records.specs.declared.view.CellKey.{CellKey}
 use Rattle.lei_records.specs.declared.view.RecCell.{RecCell}
 use Rattle.lei_records.specs.declared.view.Seen.{Seen}
-use Rattle.lei_records.specs.Cells.{Cells, successor_in}
+use Rattle.lei_records.specs.Cells.{Cells, successors_in}
 use Rattle.lei_records.specs.Rows.{Row}
 use Rattle.lei_records.specs.Tables.{Table, row_at}
 use Rattle.lei_records.specs.Walks.{successors_of}
@@ -19,7 +20,7 @@ named None = Seen.Empty
 
 -- The same where it is asked for the record: none is named where no record is held.
 abbrev pub successor_seen : Seen RecCell → Seen Lei
-successor_seen (Seen.Held cell) = named cell.successor
+successor_seen (Seen.Held cell) = named (slice_get cell.successors 0)
 successor_seen Seen.Empty = Seen.Empty
 successor_seen Seen.Missing = Seen.Missing
 
@@ -29,8 +30,8 @@ walk cells start first = walk_over (λ lei. successor_seen (cells.record_cell le
 
 -- ---- what holds of a register's successors
 
--- Each successor that a record names has a record itself, and each chain of successors ends.
+-- Each successor that a record names has a record itself, and each way along successors ends.
 pub record SuccessorChainsEnd (table : Table) : Type 0 where
   pub held : (lei : Lei) (row : Row) (next : Lei) → row_at table lei ≡ Some row
-      → successor_in row ≡ Some next → IsSome (row_at table next)
+      → Contains (successors_in row) next → IsSome (row_at table next)
   pub ends : AllEnd (successors_of table)

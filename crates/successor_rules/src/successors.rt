@@ -34,7 +34,7 @@ fn successor_seen(seen: Seen<RecCell>) -> Seen<Lei>
     ensures { result ≡ Successors.successor_seen seen }
 {
     match seen {
-        Seen::Held(cell) => named(cell.successor),
+        Seen::Held(cell) => named(cell.successors.first()),
         Seen::Empty => Seen::Empty,
         Seen::Missing => Seen::Missing,
     }

@@ -11,5 +11,5 @@ returns g c =
     let item = c.args.item.now in
     let are : c.push_names.new.keys.items ≡ names item = search rules in
     on_ok_weaker c.note_walk_of.result
-    (notes-then cells c.args.noted.now c.note_all.new.noted c.note_walk_of.new.noted (names item) (walk_cells (g.W.View.cells c.args.over.now) item)
+    (notes-then cells c.args.noted.now c.note_all.new.noted c.note_walk_of.new.noted (names item) (walk_cells c.args.rules (g.W.View.cells c.args.over.now) item)
     (subst (NotesCells cells c.args.noted.now c.note_all.new.noted) are c.in_ok-note_all.ensures)) c.note_walk_of.ensures

@@ -35,11 +35,11 @@ loop-item-preserved g c =
     let judged = c.in-Ok.judged in
     let put = put_writes made.writes.items view in
     let over = c.loop-item.invariant.over in
-    let keys = needs put item in
+    let keys = needs sitting.rules put item in
     let writes_are = ap (λ w. w.items) c.add.ensures.writes ∙ c.in_ok-write_item.ensures.writes in
     let notes : NotesMore made.noted more.noted view keys =
     subst (λ now. NotesMore made.noted now view keys) (sym c.add.ensures.noted)
-    (subst (λ cells. NotesMore made.noted noted view (needs cells item)) over c.in_ok-note_item.ensures) in
+    (subst (λ cells. NotesMore made.noted noted view (needs sitting.rules cells item)) over c.in_ok-note_item.ensures) in
     record {
       so_far = so_far-step made.noted more.noted view sitting made.added more.added made.verdicts.items more.verdicts.items made.writes.items more.writes.items
           made.new_records more.new_records judged item (drop (index + 1) items) (drop index items) items

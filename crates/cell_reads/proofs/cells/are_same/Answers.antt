@@ -1,0 +1,6 @@
+use Rattle.std.specs.Str.{bytes_eq}
+use Rattle.std.proofs.lemmas.Slice.Eq.{bytes_eq-Decides, slice_eq-Decides}
+use Rattle.cell_reads.proofs.cells.are_same.Goals as goal
+
+pub returns : goal.returns
+returns c = slice_eq-Decides bytes_eq-Decides c.args.leis.now c.args.others.now c.eq.result c.eq.ensures
