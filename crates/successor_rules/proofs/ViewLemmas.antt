@@ -1,0 +1,37 @@
+-- Levels over a table, in which no cell is missing.
+use Rattle.std.specs.Prelude.{◌≡◌, ℕ, Bool, false, cond, List, [], ◌∷◌, find, Option, Some, None}
+use Rattle.std.specs.Option.{option_map_or}
+use Rattle.std.proofs.Common.{refl, ap, ◌∙◌}
+use Rattle.lei_records.specs.declared.view.CellKey.{CellKey}
+use Rattle.lei_records.specs.declared.view.RecCell.{RecCell}
+use Rattle.lei_records.specs.Tables.{Table, cells_of, record_of, seen}
+use Rattle.successor_rules.specs.declared.walks.Walked.{Walked}
+use Rattle.successor_rules.specs.Levels.{SeenNexts, first_lacking, held_nexts, is_back, is_wide, known_nexts, lacks_nexts, others, spread_out, spread_over}
+use Rattle.successor_rules.specs.Successors.{cell_successors, named_by, spread, successors_seen}
+use Rattle.successor_rules.specs.Walks.{unless_lacking}
+
+none_found : (p : List ℕ → Bool) (xs : List (List ℕ)) → ((x : List ℕ) → p x ≡ false) → find p xs ≡ None
+none_found p [] never = refl
+none_found p (x ∷ xs) never = ap (λ b. cond b (Some x) (find p xs)) (never x) ∙ none_found p xs never
+
+-- a view that lacks nothing reports what becomes of the walk
+pub spread-whole : (answers : SeenNexts) (key : List ℕ → CellKey) (own : List ℕ) (first : List (List ℕ))
+    → ((lei : List ℕ) → lacks_nexts (answers lei) ≡ false) → spread_over answers key own first ≡ spread_out (known_nexts answers) own first
+spread-whole answers key own first never =
+    let lacks : first_lacking answers own first ≡ None =
+    none_found (λ lei. lacks_nexts (answers lei)) (others 201 (known_nexts answers) own first) never in
+    ap (λ o. cond (is_wide (known_nexts answers) own first) Walked.Long (unless_lacking key o
+    (cond (is_back (known_nexts answers) own first) Walked.Meets Walked.Ends))) lacks
+
+-- what a table answers of the successors of each LEI
+cell_is_known : (o : Option RecCell)
+    → (held_nexts (successors_seen (seen o)) ≡ option_map_or cell_successors o []) × (lacks_nexts (successors_seen (seen o)) ≡ false)
+cell_is_known None = (refl, refl)
+cell_is_known (Some cell) = (refl, refl)
+
+pub spread-over_table : (table : Table) (own : List ℕ) (first : List (List ℕ)) → spread (cells_of table) own first ≡ spread_out (named_by table) own first
+spread-over_table table own first =
+    let answers : SeenNexts = λ lei. successors_seen ((cells_of table).record_cell lei) in
+    let same : known_nexts answers ≡ named_by table = λ i lei. (cell_is_known (record_of table lei)).0 i in
+    spread-whole answers CellKey.Rec own first (λ lei. (cell_is_known (record_of table lei)).1)
+    ∙ ap (λ nexts. spread_out nexts own first) same
