@@ -1,2 +1,9 @@
+pub mod AgreeLemmas
 pub mod ChainLemmas
+pub mod ClearLemmas
+pub mod FoundLemmas
+pub mod LevelLemmas
+pub mod RiseLemmas
+pub mod StageLemmas
+pub mod ViewLemmas
 pub mod WalkLemmas

@@ -16,7 +16,7 @@ use Rattle.lei_records.specs.Walks.{Next, members, successor_of}
 use Rattle.successor_rules.specs.declared.walks.Walked.{Walked}
 use Rattle.successor_rules.specs.Chains.{AllEnd, EndsClear, IsTurned, Nexts}
 use Rattle.successor_rules.specs.Successors.{named, successor_seen, walk}
-use Rattle.successor_rules.specs.Walks.{SeenNext, held, is_missing, known, unless_lacking, walk_over, walked}
+use Rattle.successor_rules.specs.Walks.{SeenNext, held, is_missing, known, unless_lacking, walked}
 use Rattle.successor_rules.proofs.ChainLemmas.{keeps_ends}
 
 -- ---- the same for any number of members

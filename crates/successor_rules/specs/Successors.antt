@@ -1,5 +1,5 @@
 -- Successors over a view, and what holds of a register's successors.
-use Rattle.std.specs.Prelude.{◌≡◌, Option, Some, None, IsSome, slice_get}
+use Rattle.std.specs.Prelude.{◌≡◌, List, Option, Some, None, IsSome, slice_get}
 use Rattle.std.specs.List.{Contains}
 use Rattle.lei_code.specs.Texts.{Lei}
 use Rattle.lei_records.specs.declared.view.CellKey.{CellKey}
@@ -11,6 +11,7 @@ use Rattle.lei_records.specs.Tables.{Table, row_at}
 use Rattle.lei_records.specs.Walks.{successors_of}
 use Rattle.successor_rules.specs.declared.walks.Walked.{Walked}
 use Rattle.successor_rules.specs.Chains.{AllEnd}
+use Rattle.successor_rules.specs.Levels.{spread_over}
 use Rattle.successor_rules.specs.Walks.{walk_over}
 
 -- What a view answers of the successor that a record names.
@@ -27,6 +28,18 @@ successor_seen Seen.Missing = Seen.Missing
 -- What becomes of the walk of successors from the LEI `first`, for a record whose own LEI is `start`.
 abbrev pub walk : Cells → Lei → Lei → Walked
 walk cells start first = walk_over (λ lei. successor_seen (cells.record_cell lei)) CellKey.Rec start first
+
+-- ---- if a record names several
+
+-- What a view answers of the successors that a record names.
+abbrev pub successors_seen : Seen RecCell → Seen (List Lei)
+successors_seen (Seen.Held cell) = Seen.Held cell.successors
+successors_seen Seen.Empty = Seen.Empty
+successors_seen Seen.Missing = Seen.Missing
+
+-- What becomes of the walk by levels from the successors that a record names, whose own LEI is this.
+abbrev pub spread : Cells → Lei → List Lei → Walked
+spread cells own first = spread_over (λ lei. successors_seen (cells.record_cell lei)) CellKey.Rec own first
 
 -- ---- what holds of a register's successors
 

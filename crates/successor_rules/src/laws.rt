@@ -1,11 +1,15 @@
 //! Laws of chains, each as the contract of an empty function.
-ghost use Rattle.std.specs.Prelude.{◌≡◌, ◌∷◌, [], ℕ, suc, List};
+ghost use Rattle.std.specs.Prelude.{◌≡◌, ◌∷◌, [], ◌&&◌, ◌⊎◌, not, Bool, IsTrue, true, false, ℕ, suc, List};
 ghost use Rattle.lei_code.specs.Texts.{Lei};
 ghost use Rattle.std.specs.Option.{option_to_list};
-ghost use Rattle.std.specs.List.{Contains};
+ghost use Rattle.std.specs.List.{Contains, IsDistinct};
+ghost use Rattle.std.specs.Set.{is_member};
+ghost use Rattle.std.specs.Str.{bytes_eq};
+ghost use Rattle.lei_records.specs.declared.view.CellKey.{CellKey};
 ghost use Rattle.lei_records.specs.Walks.{Next};
 ghost use Rattle.successor_rules.specs.declared.walks.Walked.{Walked};
 ghost use Rattle.successor_rules.specs.Chains.{AllEnd, EndsClear, IsTurned, Leads, Nexts};
+ghost use Rattle.successor_rules.specs.Levels.{Agree, HeldEnd, SeenNexts, known_nexts, lacks_nexts, levels, others, spread_out, spread_over};
 ghost use Rattle.successor_rules.specs.Walks.{walked};
 
 /// Where each way ends, none comes back to where it began.
@@ -26,4 +30,44 @@ pub fn ending_walks_keep_ends()
     ensures { (next : Next) (after : Nexts) (start first : Lei) → AllEnd (λ lei. option_to_list (next lei))
         → IsTurned (λ lei. option_to_list (next lei)) after start (first ∷ [])
         → walked next start first ≡ Walked.Ends → AllEnd after }
+{}
+
+/// The LEIs that are counted in levels are those that stand there, without the entity's own, and each is counted once.
+pub fn others_are_counted_once()
+    ensures distinct { (n : ℕ) (nexts : Nexts) (own : Lei) (first : List Lei)
+        → IsDistinct bytes_eq (others n nexts own first) }
+    ensures members { (n : ℕ) (nexts : Nexts) (own : Lei) (first : List Lei) (lei : Lei)
+        → is_member bytes_eq (others n nexts own first) lei
+        ≡ (is_member bytes_eq (levels n nexts own first) lei && not (bytes_eq lei own)) }
+{}
+
+/// Where each way ends, each way still ends after an entity names other next ones, if the walk by levels from these had
+/// come to its end: it reached at most 200 LEIs, and the entity was none of them.
+pub fn clear_levels_keep_ends()
+    ensures { (before after : Nexts) (own : Lei) (targets : List Lei) → AllEnd before
+        → IsTurned before after own targets → spread_out before own targets ≡ Walked.Ends → AllEnd after }
+{}
+
+/// The same with what is held: if all that LEIs name is held, this stays true after an entity names other next ones
+/// that are held, if the walk by levels from these had come to its end.
+pub fn clear_levels_keep_held_ends()
+    ensures { (before after : Nexts) (was_held is_held : Lei → Bool) (own : Lei) (targets : List Lei)
+        → HeldEnd was_held before → ((lei : Lei) → IsTrue (was_held lei) → IsTrue (is_held lei))
+        → IsTurned before after own targets
+        → ((lei : Lei) → Contains targets lei → IsTrue (was_held lei))
+        → spread_out before own targets ≡ Walked.Ends → HeldEnd is_held after }
+{}
+
+/// A view that agrees with what LEIs name reports what becomes of the walk by levels, or the key of a cell that it
+/// lacks, of an LEI in the levels that it knows. One that lacks nothing reports what becomes of the walk by its answers.
+pub fn agreeing_views_tell_the_levels()
+    ensures agreeing { (answers : SeenNexts) (nexts : Nexts) (key : Lei → CellKey) (own : Lei) (first : List Lei)
+        → Agree answers nexts
+        → (spread_over answers key own first ≡ spread_out nexts own first)
+        ⊎ ((lei : Lei) × (lacks_nexts (answers lei) ≡ true)
+        × (is_member bytes_eq (levels 201 (known_nexts answers) own first) lei ≡ true)
+        × (spread_over answers key own first ≡ Walked.Missing (key lei))) }
+    ensures whole { (answers : SeenNexts) (key : Lei → CellKey) (own : Lei) (first : List Lei)
+        → ((lei : Lei) → lacks_nexts (answers lei) ≡ false)
+        → spread_over answers key own first ≡ spread_out (known_nexts answers) own first }
 {}

@@ -1,4 +1,4 @@
-use Rattle.std.proofs.Common.{◌≡◌, ap, ◌∙◌}
+use Rattle.std.proofs.Common.{ap, ◌∙◌}
 use Rattle.successor_rules.specs.Successors as Successors
 use Rattle.successor_rules.proofs.WalkLemmas.{walk-over_table}
 use Rattle.successor_rules.proofs.successors.walk.Goals as goal

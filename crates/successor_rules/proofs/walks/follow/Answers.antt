@@ -1,4 +1,4 @@
-use Rattle.std.proofs.Common.{arith, rules, ◌≡◌, ◌<◌, ◌≤◌, ◌+◌, true, false, sym, ◌∙◌}
+use Rattle.std.proofs.Common.{arith, rules, ◌≡◌, ◌<◌, true, false, ◌∙◌}
 use Rattle.std.specs.Str.{bytes_eq}
 use Rattle.successor_rules.specs.declared.walks.Walked.{Walked}
 use Rattle.lei_records.specs.declared.view.Seen.{Seen}

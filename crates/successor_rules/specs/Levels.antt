@@ -1,0 +1,96 @@
+-- Levels: what is reached from an entity, step by step, if each LEI may name several next ones. This project's profile.
+use Rattle.std.specs.Prelude.{◌≡◌, ℕ, zero, suc, Bool, true, false, if◌then◌else◌, List, [], ◌∷◌, ◌++◌, length, nat_lt, find, flat_map, Option, IsTrue}
+use Rattle.std.specs.List.{Contains}
+use Rattle.std.specs.Set.{is_member}
+use Rattle.std.specs.Str.{bytes_eq}
+use Rattle.lei_code.specs.Texts.{Lei}
+use Rattle.lei_records.specs.declared.view.CellKey.{CellKey}
+use Rattle.lei_records.specs.declared.view.Seen.{Seen}
+use Rattle.successor_rules.specs.declared.walks.Walked.{Walked}
+use Rattle.successor_rules.specs.Chains.{AllEnd, Nexts}
+use Rattle.successor_rules.specs.Walks.{unless_lacking}
+
+-- ---- levels
+
+-- The LEIs to which the walk of an entity goes on from one that it reached: those that this one names, but none from
+-- the entity's own LEI.
+abbrev pub onward : Nexts → Lei → Lei → List Lei
+onward nexts own lei = if bytes_eq lei own then [] else nexts lei
+
+-- The level after one: all LEIs to which the walk goes on from its members.
+abbrev pub next_level : Nexts → Lei → List Lei → List Lei
+next_level nexts own level = flat_map (onward nexts own) level
+
+-- So many levels, one after the other, from the first one on, which is what the entity itself names.
+unfoldable pub levels : ℕ → Nexts → Lei → List Lei → List Lei
+levels zero nexts own level = []
+levels (suc n) nexts own level = level ++ levels n nexts own (next_level nexts own level)
+
+-- The LEIs of a list that weren't seen before it, each once, in the order in which they first stand there.
+abbrev pub each_once : List Lei → List Lei → List Lei
+each_once seen [] = []
+each_once seen (lei ∷ leis) =
+    if is_member bytes_eq seen lei then each_once seen leis else lei ∷ each_once (seen ++ lei ∷ []) leis
+
+-- The different LEIs of so many levels other than the entity's own, in the order in which the levels reach them.
+abbrev pub others : ℕ → Nexts → Lei → List Lei → List Lei
+others n nexts own first = each_once (own ∷ []) (levels n nexts own first)
+
+-- Levels 1 to 201 have more than 200 different LEIs other than the entity's own.
+abbrev pub is_wide : Nexts → Lei → List Lei → Bool
+is_wide nexts own first = nat_lt 200 (length (others 201 nexts own first))
+
+-- The entity's own LEI is among levels 1 to 201.
+abbrev pub is_back : Nexts → Lei → List Lei → Bool
+is_back nexts own first = is_member bytes_eq (levels 201 nexts own first) own
+
+-- What becomes of the walk by levels from what an entity names: it reaches too many LEIs, or it comes back to the
+-- entity, or it ends.
+abbrev pub spread_out : Nexts → Lei → List Lei → Walked
+spread_out nexts own first =
+    if is_wide nexts own first then Walked.Long else if is_back nexts own first then Walked.Meets else Walked.Ends
+
+-- ---- by what a view answers
+
+-- What a view answers of the next ones of an LEI.
+abbrev pub SeenNexts : Type 0
+SeenNexts = Lei → Seen (List Lei)
+
+-- The next ones that are held, if any are.
+abbrev pub held_nexts : Seen (List Lei) → List Lei
+held_nexts (Seen.Held leis) = leis
+held_nexts Seen.Empty = []
+held_nexts Seen.Missing = []
+
+-- The view doesn't know the cell in which they are named.
+abbrev pub lacks_nexts : Seen (List Lei) → Bool
+lacks_nexts (Seen.Held leis) = false
+lacks_nexts Seen.Empty = false
+lacks_nexts Seen.Missing = true
+
+-- What an LEI names next as far as the view knows.
+abbrev pub known_nexts : SeenNexts → Nexts
+known_nexts answers lei = held_nexts (answers lei)
+
+-- The first of the LEIs that the walk reaches, as far as the view knows, of which the view doesn't know what it names.
+abbrev pub first_lacking : SeenNexts → Lei → List Lei → Option Lei
+first_lacking answers own first = find (λ lei. lacks_nexts (answers lei)) (others 201 (known_nexts answers) own first)
+
+-- What becomes of the walk by levels over a view: it is too long if the LEIs that are known to be reached are too many;
+-- else the key of the first cell that the view lacks is reported; and if it lacks none, the walk comes back or it ends.
+abbrev pub spread_over : SeenNexts → (Lei → CellKey) → Lei → List Lei → Walked
+spread_over answers key own first =
+    if is_wide (known_nexts answers) own first then Walked.Long
+    else unless_lacking key (first_lacking answers own first)
+    (if is_back (known_nexts answers) own first then Walked.Meets else Walked.Ends)
+
+-- What a view answers agrees with what LEIs name: it tells all of it, or nothing.
+abbrev pub Agree : SeenNexts → Nexts → Type 0
+Agree answers nexts = (lei : Lei) → lacks_nexts (answers lei) ≡ false → nexts lei ≡ known_nexts answers lei
+
+-- ---- what holds of a register's successors
+
+-- All that LEIs name is held, and each way from one to the next ends.
+pub record HeldEnd (is_held : Lei → Bool) (nexts : Nexts) : Type 0 where
+  pub held : (lei next : Lei) → Contains (nexts lei) next → IsTrue (is_held next)
+  pub ends : AllEnd nexts
