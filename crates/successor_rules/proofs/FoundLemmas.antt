@@ -1,7 +1,7 @@
 -- LEIs that are found one after the other.
-use Rattle.std.specs.Prelude.{◌≡◌, ℕ, ◌+◌, ◌<◌, List, [], ◌∷◌, ◌++◌, length, drop, get_or}
+use Rattle.std.specs.Prelude.{◌≡◌, ℕ, ◌+◌, ◌<◌, List, [], ◌∷◌, ◌++◌, ◌≤◌, length, take, drop, get_or}
 use Rattle.std.proofs.Common.{sym, ap, ◌∙◌, arith, append_assoc}
-use Rattle.std.proofs.lemmas.List.{drop_more, length-append}
+use Rattle.std.proofs.lemmas.List.{drop_more, length-append, take-append-le, take_all}
 use Rattle.successor_rules.specs.Levels.{each_once}
 use Rattle.successor_rules.proofs.LevelLemmas.{once-append}
 
@@ -31,3 +31,9 @@ module _ (own : List ℕ) (now total leis : List (List ℕ)) (i : ℕ) (lei : Li
       let count = ap length joins in
       let grows = length-append (joined own now (lei ∷ [])) (each_once (own ∷ joined own now (lei ∷ [])) (drop (i + 1) leis)) in
       omega arith
+
+-- the full array has the first of all
+pub cut_full : (own : List ℕ) (now total leis : List (List ℕ)) (i : ℕ) → joined own now (drop i leis) ≡ total → length now ≡ 200 → now ≡ take 200 total
+cut_full own now total leis i so_far full =
+    sym (ap (take 200) (sym so_far)
+    ∙ (take-append-le 200 now (each_once (own ∷ now) (drop i leis)) (omega (arith, full)) ∙ take_all 200 now (omega (arith, full))))

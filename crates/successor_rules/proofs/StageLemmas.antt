@@ -10,7 +10,7 @@ use Rattle.std.proofs.lemmas.List.Folds.{find-append}
 use Rattle.lei_records.specs.declared.view.CellKey.{CellKey}
 use Rattle.successor_rules.specs.declared.walks.Walked.{Walked}
 use Rattle.successor_rules.specs.Chains.{Nexts}
-use Rattle.successor_rules.specs.Levels.{SeenNexts, each_once, first_lacking, held_nexts, is_back, is_wide, known_nexts, lacks_nexts, levels, next_level, onward, others, spread_over}
+use Rattle.successor_rules.specs.Levels.{SeenNexts, each_once, first_lacking, held_nexts, is_back, is_wide, known_nexts, lacks_nexts, levels, next_level, onward, others, reached, spread_over}
 use Rattle.successor_rules.specs.Walks.{unless_lacking}
 use Rattle.successor_rules.proofs.FoundLemmas.{joined}
 use Rattle.successor_rules.proofs.LevelLemmas.{has, has-append, has-at, next-append, once-append, once-has}
@@ -21,6 +21,15 @@ not_own : (own : List ℕ) (leis : List (List ℕ)) (lei : List ℕ) → has (ea
 not_own own leis lei at =
     let parts = and_parts (has leis lei) (not (has (own ∷ []) lei)) (sym (once-has (own ∷ []) leis lei) ∙ at) in
     sym (or-false (bytes_eq lei own)) ∙ not-true (has (own ∷ []) lei) parts.1
+
+-- with more joined a list has the next place too
+pub joined-longer : (own : List ℕ) (found leis now : List (List ℕ)) (i : ℕ) → now ≡ joined own found leis → i < length found → i + 1 ≤ length now
+joined-longer own found leis now i is less =
+    let count = ap length is ∙ length-append found (each_once (own ∷ found) leis) in omega arith
+
+-- lists of which one begins with the other have the same front
+front_of : (xs ys : List (List ℕ)) → Begins xs ys → 200 ≤ length xs → take 200 xs ≡ take 200 ys
+front_of xs ys begins many = sym (ap (take 200) begins.is ∙ take-append-le 200 xs begins.rest many)
 
 module _ (nexts : Nexts) (own : List ℕ) (first : List (List ℕ)) where
   -- after the first i were asked: all that they and the first level name were found, and nothing else. They are reached
@@ -92,24 +101,38 @@ module _ (nexts : Nexts) (own : List ℕ) (first : List (List ℕ)) where
         taken : take (i + 1) now ≡ take i found ++ lei ∷ []
         taken = ap (take (i + 1)) added ∙ front (each_once (own ∷ found) (nexts lei))
 
+    -- what was found with what this one names is reached in 201 levels
+    joined-begins : length found ≤ 200 → Begins (joined own found (nexts lei)) (others 201 nexts own first)
+    joined-begins few =
+        begins_on (joined own found (nexts lei)) (others (suc (suc i)) nexts own first) (others 201 nexts own first)
+        (subst (λ l. Begins l (others (suc (suc i)) nexts own first)) (sym joined-gathered)
+        (subst (Begins (gathered nexts own first (take i found ++ lei ∷ []))) (sym (others-next nexts own first (suc i)))
+        (gathered-begins nexts own first (take i found ++ lei ∷ []) (others (suc i) nexts own first) front-early)))
+        (others-begin nexts own first (suc (suc i)) 201 (omega arith))
+
     -- too many are found
     pub wide_then : length found ≤ 200 → 200 < length (joined own found (nexts lei)) → is_wide nexts own first ≡ true
     wide_then few many =
-        let reached : Begins (joined own found (nexts lei)) (others (suc (suc i)) nexts own first) =
-        subst (λ l. Begins l (others (suc (suc i)) nexts own first)) (sym joined-gathered)
-        (subst (Begins (gathered nexts own first (take i found ++ lei ∷ []))) (sym (others-next nexts own first (suc i)))
-        (gathered-begins nexts own first (take i found ++ lei ∷ []) (others (suc i) nexts own first) front-early)) in
-        let one = begins_length (joined own found (nexts lei)) (others (suc (suc i)) nexts own first) reached in
-        let two = begins_length (others (suc (suc i)) nexts own first) (others 201 nexts own first)
-        (others-begin nexts own first (suc (suc i)) 201 (omega arith)) in
+        let longer = begins_length (joined own found (nexts lei)) (others 201 nexts own first) (joined-begins few) in
         lt-ltb 200 (length (others 201 nexts own first)) (omega arith)
 
-  pub wide_at_once : 200 < length (joined own [] first) → is_wide nexts own first ≡ true
+    -- the first 200 of them are the first that are reached
+    pub cut_then : length found ≤ 200 → 200 < length (joined own found (nexts lei)) → take 200 (joined own found (nexts lei)) ≡ reached nexts own first
+    cut_then few many = front_of (joined own found (nexts lei)) (others 201 nexts own first) (joined-begins few) (omega arith)
+
+  first-begins : Begins (joined own [] first) (others 201 nexts own first)
   unfolding levels
+  first-begins =
+      subst (λ l. Begins l (others 201 nexts own first)) (ap (each_once (own ∷ [])) (append-nil first))
+      (others-begin nexts own first 1 201 (omega arith))
+
+  pub wide_at_once : 200 < length (joined own [] first) → is_wide nexts own first ≡ true
   wide_at_once many =
-      let one = begins_length (others 1 nexts own first) (others 201 nexts own first) (others-begin nexts own first 1 201 (omega arith)) in
-      let is : length (others 1 nexts own first) ≡ length (joined own [] first) = ap (λ l. length (each_once (own ∷ []) l)) (append-nil first) in
+      let longer = begins_length (joined own [] first) (others 201 nexts own first) first-begins in
       lt-ltb 200 (length (others 201 nexts own first)) (omega arith)
+
+  pub cut_at_once : 200 < length (joined own [] first) → take 200 (joined own [] first) ≡ reached nexts own first
+  cut_at_once many = front_of (joined own [] first) (others 201 nexts own first) first-begins (omega arith)
 
   -- ---- all were asked
 
@@ -131,6 +154,9 @@ module _ (nexts : Nexts) (own : List ℕ) (first : List (List ℕ)) where
         (begins_on found (others i nexts own first) (others n nexts own first)
         (subst (λ l. Begins l (others i nexts own first)) (take_all i found whole) stage.early)
         (others-begin nexts own first i n enough))
+
+    pub reached_all : i ≤ 201 → length found ≤ 200 → found ≡ reached nexts own first
+    reached_all enough few = sym (ap (take 200) (found_all 201 enough) ∙ take_all 200 found few)
 
     pub not_wide : i ≤ 200 → length found ≤ 200 → is_wide nexts own first ≡ false
     not_wide enough few =

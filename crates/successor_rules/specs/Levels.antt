@@ -1,5 +1,5 @@
 -- Levels: what is reached from an entity, step by step, if each LEI may name several next ones. This project's profile.
-use Rattle.std.specs.Prelude.{◌≡◌, ℕ, zero, suc, Bool, true, false, if◌then◌else◌, List, [], ◌∷◌, ◌++◌, length, nat_lt, find, flat_map, Option, IsTrue}
+use Rattle.std.specs.Prelude.{◌≡◌, ℕ, zero, suc, Bool, true, false, if◌then◌else◌, List, [], ◌∷◌, ◌++◌, length, nat_lt, take, find, flat_map, Option, IsTrue}
 use Rattle.std.specs.List.{Contains}
 use Rattle.std.specs.Set.{is_member}
 use Rattle.std.specs.Str.{bytes_eq}
@@ -35,6 +35,11 @@ each_once seen (lei ∷ leis) =
 -- The different LEIs of so many levels other than the entity's own, in the order in which the levels reach them.
 abbrev pub others : ℕ → Nexts → Lei → List Lei → List Lei
 others n nexts own first = each_once (own ∷ []) (levels n nexts own first)
+
+-- The first 200 of the different LEIs of levels 1 to 201 other than the entity's own. What these name decides what becomes
+-- of the walk.
+abbrev pub reached : Nexts → Lei → List Lei → List Lei
+reached nexts own first = take 200 (others 201 nexts own first)
 
 -- Levels 1 to 201 have more than 200 different LEIs other than the entity's own.
 abbrev pub is_wide : Nexts → Lei → List Lei → Bool

@@ -1,5 +1,5 @@
 //! The different LEIs that a walk by levels found, in an array, so that the walk takes no memory.
-ghost use Rattle.std.specs.Prelude.{◌≡◌, ◌<◌, ◌≤◌, ◌++◌, ◌∷◌, [], length, slice_index_or};
+ghost use Rattle.std.specs.Prelude.{◌≡◌, ◌<◌, ◌≤◌, ◌++◌, ◌∷◌, [], length, slice_index_or, take};
 ghost use Rattle.std.specs.Bool.{OnFalse, OnTrue};
 ghost use Rattle.std.specs.Set.{is_member};
 ghost use Rattle.std.specs.Str.{bytes_eq};
@@ -11,9 +11,9 @@ use std::marker::Model;
 // How many LEIs a walk finds at most.
 const MOST_FOUND: usize = 200;
 
-// Up to 200 different LEIs, in the order in which they were found. Contracts see the list of them.
+/// Up to 200 different LEIs, in the order in which a walk by levels found them. Contracts see the list of them.
 #[derive(Drop)]
-pub(crate) struct Found {
+pub struct Found {
     count: u8,
     // Those past the count aren't read.
     leis: [Lei; MOST_FOUND],
@@ -56,7 +56,8 @@ impl Found {
         self.as_slice()[index]
     }
 
-    fn as_slice(&self) -> &[Lei]
+    /// They as a slice.
+    pub fn as_slice(&self) -> &[Lei]
         ensures { result.now ≡ self.now }
     {
         &self.leis[..usize::from(self.count)]
@@ -67,6 +68,8 @@ impl Found {
     pub(crate) fn add_all(&mut self, own: &Lei, leis: &[Lei]) -> bool
         ensures added { OnTrue result (self.new ≡ self.old ++ each_once (own.now ∷ self.old) leis.now) }
         ensures full { OnFalse result (200 < length (self.old ++ each_once (own.now ∷ self.old) leis.now)) }
+        ensures cut { OnFalse result
+            (self.new ≡ take 200 (self.old ++ each_once (own.now ∷ self.old) leis.now)) }
     {
         for lei in leis {
             if !self.add(own, lei) {
@@ -79,6 +82,7 @@ impl Found {
     fn add(&mut self, own: &Lei, lei: &Lei) -> bool
         ensures added { OnTrue result (self.new ≡ self.old ++ each_once (own.now ∷ self.old) (lei.now ∷ [])) }
         ensures full { OnFalse result (200 < length (self.old ++ each_once (own.now ∷ self.old) (lei.now ∷ []))) }
+        ensures stays { OnFalse result ((self.new ≡ self.old) × (length self.old ≡ 200)) }
     {
         if lei == own || self.has(lei) {
             return true;
@@ -96,6 +100,7 @@ impl Found {
     fn push(&mut self, lei: &Lei) -> bool
         ensures added { OnTrue result (self.new ≡ self.old ++ lei.now ∷ []) }
         ensures full { OnFalse result (200 < length (self.old ++ lei.now ∷ [])) }
+        ensures stays { OnFalse result ((self.new ≡ self.old) × (length self.old ≡ 200)) }
     {
         let place = usize::from(self.count);
         if place == MOST_FOUND {

@@ -15,6 +15,7 @@ pub use laws::{
     clear_ways_keep_ends, ending_walks_keep_ends, ending_ways_never_return,
     others_are_counted_once,
 };
-pub use spreading::{Branches, spread_from};
+pub use found::Found;
+pub use spreading::{Branches, reach, spread_from};
 pub use successors::{SuccessorChain, walk};
 pub use walks::{Chain, Walked, follow};

@@ -1,11 +1,11 @@
 //! Walks from LEI to LEI, level by level, if each may name several next ones. No call takes memory.
-ghost use Rattle.std.specs.Prelude.{◌≡◌, ◌++◌, ◌∷◌, ◌<◌, List, ℕ, length, Option, Some, None, if◌then◌else◌};
+ghost use Rattle.std.specs.Prelude.{◌≡◌, ◌++◌, ◌∷◌, ◌<◌, List, ℕ, length, take, Option, Some, None, if◌then◌else◌};
 ghost use Rattle.std.specs.Bool.{OnFalse, OnTrue};
 ghost use Rattle.std.specs.Set.{is_member};
 ghost use Rattle.std.specs.Str.{bytes_eq};
 ghost use Rattle.lei_records.specs.declared.view.CellKey.{CellKey};
 ghost use Rattle.successor_rules.specs.declared.walks.Walked.{Walked};
-ghost use Rattle.successor_rules.specs.Levels.{SeenNexts, each_once, held_nexts, lacks_nexts, spread_over};
+ghost use Rattle.successor_rules.specs.Levels.{SeenNexts, each_once, held_nexts, known_nexts, lacks_nexts, reached, spread_over};
 
 use crate::found::{Found, is_among};
 use crate::walks::Walked;
@@ -59,6 +59,26 @@ pub fn spread_from<B: Branches>(branches: &B, own: &Lei, from: &Successors) -> W
     }
 }
 
+/// The different LEIs other than `own` that a walk by levels reaches, in the order of the levels. Of more than 200 it has
+/// the first 200, which show that there are more.
+pub fn reach<B: Branches>(branches: &B, own: &Lei, from: &Successors) -> Found
+    ensures { result ≡ reached (known_nexts (B.answers branches.now)) own.now from.now }
+{
+    let mut found = Found::none(*own);
+    if !found.add_all(own, from.as_slice()) {
+        return found;
+    }
+    let mut asked = 0;
+    while asked < found.len() {
+        let seen = branches.next(&found.at(asked));
+        if !add_named(&mut found, own, &seen) {
+            return found;
+        }
+        asked += 1;
+    }
+    found
+}
+
 fn ended(is_met: bool) -> Walked
     ensures { result ≡ if is_met then Walked.Meets else Walked.Ends }
 {
@@ -69,6 +89,8 @@ fn ended(is_met: bool) -> Walked
 fn add_named(found: &mut Found, own: &Lei, seen: &Seen<Successors>) -> bool
     ensures added { OnTrue result (found.new ≡ found.old ++ each_once (own.now ∷ found.old) (held_nexts seen.now)) }
     ensures full { OnFalse result (200 < length (found.old ++ each_once (own.now ∷ found.old) (held_nexts seen.now))) }
+    ensures cut { OnFalse result
+        (found.new ≡ take 200 (found.old ++ each_once (own.now ∷ found.old) (held_nexts seen.now))) }
 {
     match seen {
         Seen::Held(named) => found.add_all(own, named.as_slice()),
