@@ -35,7 +35,7 @@ text_laws = record {
 
 module _ (nexts : Nexts) (own : List ℕ) where
   -- what a level names is named by a member
-  named_there : (xs : List (List ℕ)) (y : List ℕ) → has (next_level nexts own xs) y ≡ true
+  pub named_there : (xs : List (List ℕ)) (y : List ℕ) → has (next_level nexts own xs) y ≡ true
       → (x : List ℕ) × (has xs x ≡ true) × (has (onward nexts own x) y ≡ true)
   named_there [] y at = absurd (false≢true at)
   named_there (x ∷ xs) y at =
@@ -122,6 +122,9 @@ module _ (one other : Nexts) (own : List ℕ) where
         ∙ (ap (λ l. each_once (own ∷ []) (first ++ l)) (at_next n (omega arith))
         ∙ (ap (gathered other own first) (others-same n (omega arith)) ∙ sym (others-next other own first n)))
 
+    pub others-same-all : others 201 one own first ≡ others 201 other own first
+    others-same-all = others-same 201 (omega arith)
+
     pub spread-same : spread_out one own first ≡ spread_out other own first
     spread-same =
         let all = others-same 201 (omega arith) in
@@ -136,7 +139,7 @@ module _ (one other : Nexts) (own : List ℕ) where
 
 -- ---- what a search finds
 
-find-some : (p : List ℕ → Bool) (xs : List (List ℕ)) (x : List ℕ) → find p xs ≡ Some x → (has xs x ≡ true) × (p x ≡ true)
+pub find-some : (p : List ℕ → Bool) (xs : List (List ℕ)) (x : List ℕ) → find p xs ≡ Some x → (has xs x ≡ true) × (p x ≡ true)
 find-some p [] x is = absurd cc
 find-some p (y ∷ ys) x is = elim (cases_Bool (p y)) [
   | inl passes ↦
@@ -148,7 +151,7 @@ find-some p (y ∷ ys) x is = elim (cases_Bool (p y)) [
       (or_right (bytes_eq x y) (has ys x) rest.0, rest.1)
 ]
 
-find-none : (p : List ℕ → Bool) (xs : List (List ℕ)) (x : List ℕ) → find p xs ≡ None → has xs x ≡ true → p x ≡ false
+pub find-none : (p : List ℕ → Bool) (xs : List (List ℕ)) (x : List ℕ) → find p xs ≡ None → has xs x ≡ true → p x ≡ false
 find-none p [] x is at = absurd (false≢true at)
 find-none p (y ∷ ys) x is at = elim (cases_Bool (p y)) [
   | inl passes ↦ absurd (none_is (sym (cond-true (p y) (Some y) (find p ys) passes) ∙ is))

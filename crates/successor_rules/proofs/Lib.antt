@@ -5,5 +5,6 @@ pub mod FoundLemmas
 pub mod LevelLemmas
 pub mod RiseLemmas
 pub mod StageLemmas
+pub mod ReachLemmas
 pub mod ViewLemmas
 pub mod WalkLemmas

@@ -74,7 +74,7 @@ module _ (nexts : Nexts) (own : List ℕ) where
               ∙ once-append (own ∷ []) (first ++ names) more);
         }
 
-    others-rise : (n : ℕ) → Begins (others n nexts own first) (others (suc n) nexts own first)
+    pub others-rise : (n : ℕ) → Begins (others n nexts own first) (others (suc n) nexts own first)
     unfolding levels
     others-rise zero = record { rest = others 1 nexts own first; is = refl }
     others-rise (suc n) =

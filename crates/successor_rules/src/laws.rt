@@ -9,7 +9,7 @@ ghost use Rattle.lei_records.specs.declared.view.CellKey.{CellKey};
 ghost use Rattle.lei_records.specs.Walks.{Next};
 ghost use Rattle.successor_rules.specs.declared.walks.Walked.{Walked};
 ghost use Rattle.successor_rules.specs.Chains.{AllEnd, EndsClear, IsTurned, Leads, Nexts};
-ghost use Rattle.successor_rules.specs.Levels.{Agree, HeldEnd, SeenNexts, known_nexts, lacks_nexts, levels, others, spread_out, spread_over};
+ghost use Rattle.successor_rules.specs.Levels.{Agree, HeldEnd, SeenNexts, known_nexts, lacks_nexts, levels, others, reached, spread_out, spread_over};
 ghost use Rattle.successor_rules.specs.Walks.{walked};
 
 /// Where each way ends, none comes back to where it began.
@@ -70,4 +70,16 @@ pub fn agreeing_views_tell_the_levels()
     ensures whole { (answers : SeenNexts) (key : Lei → CellKey) (own : Lei) (first : List Lei)
         → ((lei : Lei) → lacks_nexts (answers lei) ≡ false)
         → spread_over answers key own first ≡ spread_out (known_nexts answers) own first }
+{}
+
+/// Of two views, of which the one answers as the other for the first 200 LEIs that the walk by levels reaches, unless it
+/// lacks the cell, the one reports what the other does, or the key of such a cell that it lacks.
+pub fn levels_go_by_what_is_reached()
+    ensures { (answers more : SeenNexts) (key : Lei → CellKey) (own : Lei) (first : List Lei)
+        → ((lei : Lei) → is_member bytes_eq (reached (known_nexts answers) own first) lei ≡ true
+        → (lacks_nexts (answers lei) ≡ true) ⊎ (answers lei ≡ more lei))
+        → (spread_over answers key own first ≡ spread_over more key own first)
+        ⊎ ((lei : Lei) × (lacks_nexts (answers lei) ≡ true)
+        × (is_member bytes_eq (reached (known_nexts answers) own first) lei ≡ true)
+        × (spread_over answers key own first ≡ Walked.Missing (key lei))) }
 {}

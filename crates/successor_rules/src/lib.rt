@@ -10,12 +10,12 @@ mod successors;
 mod walks;
 
 pub use branches::{SuccessorBranches, spread};
+pub use found::Found;
 pub use laws::{
     agreeing_views_tell_the_levels, clear_levels_keep_ends, clear_levels_keep_held_ends,
     clear_ways_keep_ends, ending_walks_keep_ends, ending_ways_never_return,
-    others_are_counted_once,
+    levels_go_by_what_is_reached, others_are_counted_once,
 };
-pub use found::Found;
 pub use spreading::{Branches, reach, spread_from};
 pub use successors::{SuccessorChain, walk};
 pub use walks::{Chain, Walked, follow};
