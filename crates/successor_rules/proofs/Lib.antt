@@ -3,7 +3,9 @@ pub mod ChainLemmas
 pub mod ClearLemmas
 pub mod FoundLemmas
 pub mod LevelLemmas
+pub mod RegisterLemmas
 pub mod RiseLemmas
+pub mod SingleLemmas
 pub mod StageLemmas
 pub mod ViewLemmas
 pub mod WalkLemmas

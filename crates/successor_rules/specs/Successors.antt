@@ -1,5 +1,5 @@
 -- Successors over a view, and what holds of a register's successors.
-use Rattle.std.specs.Prelude.{◌≡◌, List, [], Option, Some, None, IsSome}
+use Rattle.std.specs.Prelude.{◌≡◌, List, [], Bool, Option, Some, None, IsSome, is_some}
 use Rattle.std.specs.Option.{option_map_or, option_to_list}
 use Rattle.lei_code.specs.Texts.{Lei}
 use Rattle.lei_records.specs.declared.view.CellKey.{CellKey}
@@ -11,7 +11,7 @@ use Rattle.lei_records.specs.Tables.{Table, record_of, row_at}
 use Rattle.lei_records.specs.Walks.{successors_of}
 use Rattle.successor_rules.specs.declared.walks.Walked.{Walked}
 use Rattle.successor_rules.specs.Chains.{AllEnd, Nexts}
-use Rattle.successor_rules.specs.Levels.{spread_over}
+use Rattle.successor_rules.specs.Levels.{HeldEnd, spread_over}
 use Rattle.successor_rules.specs.Walks.{walk_over}
 
 -- What a view answers of the successor that a record names.
@@ -56,3 +56,11 @@ pub record SuccessorChainsEnd (table : Table) : Type 0 where
   pub held : (lei : Lei) (row : Row) (next : Lei) → row_at table lei ≡ Some row
       → successor_in row ≡ Some next → IsSome (row_at table next)
   pub ends : AllEnd (successors_of table)
+
+-- The record of this LEI is held.
+abbrev pub is_recorded : Table → Lei → Bool
+is_recorded table lei = is_some (row_at table lei)
+
+-- The same whatever records name: each LEI that is named has a record itself, and each way of named ones ends.
+abbrev pub SuccessorsEnd : Nexts → Table → Type 0
+SuccessorsEnd nexts table = HeldEnd (is_recorded table) nexts

@@ -1,15 +1,17 @@
 //! Laws of chains, each as the contract of an empty function.
-ghost use Rattle.std.specs.Prelude.{◌≡◌, ◌∷◌, [], ◌&&◌, ◌⊎◌, not, Bool, IsTrue, true, false, ℕ, suc, List};
+ghost use Rattle.std.specs.Prelude.{◌≡◌, ◌↔◌, ◌∷◌, [], ◌&&◌, ◌⊎◌, if◌then◌else◌, not, Bool, IsTrue, true, false, ℕ, suc, List};
 ghost use Rattle.lei_code.specs.Texts.{Lei};
 ghost use Rattle.std.specs.Option.{option_to_list};
 ghost use Rattle.std.specs.List.{Contains, IsDistinct};
 ghost use Rattle.std.specs.Set.{is_member};
 ghost use Rattle.std.specs.Str.{bytes_eq};
 ghost use Rattle.lei_records.specs.declared.view.CellKey.{CellKey};
-ghost use Rattle.lei_records.specs.Walks.{Next};
+ghost use Rattle.lei_records.specs.Walks.{Next, members, successors_of};
+ghost use Rattle.lei_records.specs.Tables.{Table};
 ghost use Rattle.successor_rules.specs.declared.walks.Walked.{Walked};
 ghost use Rattle.successor_rules.specs.Chains.{AllEnd, EndsClear, IsTurned, Leads, Nexts};
 ghost use Rattle.successor_rules.specs.Levels.{Agree, HeldEnd, SeenNexts, known_nexts, lacks_nexts, levels, others, spread_out, spread_over};
+ghost use Rattle.successor_rules.specs.Successors.{SuccessorChainsEnd, SuccessorsEnd};
 ghost use Rattle.successor_rules.specs.Walks.{walked};
 
 /// Where each way ends, none comes back to where it began.
@@ -70,4 +72,17 @@ pub fn agreeing_views_tell_the_levels()
     ensures whole { (answers : SeenNexts) (key : Lei → CellKey) (own : Lei) (first : List Lei)
         → ((lei : Lei) → lacks_nexts (answers lei) ≡ false)
         → spread_over answers key own first ≡ spread_out (known_nexts answers) own first }
+{}
+
+/// If each LEI names at most one next one and each way ends, the walk by levels comes to what the walk of a chain comes to,
+/// except that it is also `Meets` if the 201st member is the entity itself, which is `Long` for a chain.
+pub fn single_levels_are_chains()
+    ensures { (next : Next) (own first : Lei) → AllEnd (λ lei. option_to_list (next lei))
+        → spread_out (λ lei. option_to_list (next lei)) own (first ∷ [])
+        ≡ (if is_member bytes_eq (members 201 next first) own then Walked.Meets else walked next own first) }
+{}
+
+/// Successors of which each record names at most one and whose chains end are successors whose ways end.
+pub fn successor_chains_are_ways()
+    ensures { (table : Table) → SuccessorChainsEnd table ↔ SuccessorsEnd (successors_of table) table }
 {}
