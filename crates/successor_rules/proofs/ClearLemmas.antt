@@ -8,7 +8,7 @@ use Rattle.std.proofs.lemmas.Map.Made.{is_member-Decides}
 use Rattle.std.proofs.lemmas.Slice.Eq.{bytes_eq-Decides}
 use Rattle.successor_rules.specs.declared.walks.Walked.{Walked}
 use Rattle.successor_rules.specs.Chains.{AllEnd, EndsClear, EndsIn, IsTurned, Nexts}
-use Rattle.successor_rules.specs.Levels.{HeldEnd, each_once, is_back, is_wide, next_level, onward, others, spread_out}
+use Rattle.successor_rules.specs.Levels.{each_once, is_back, is_wide, next_level, onward, others, spread_out}
 use Rattle.successor_rules.proofs.ChainLemmas.{keeps_ends}
 use Rattle.successor_rules.proofs.LevelLemmas.{has, has-append, next-has, once-has, same_text}
 use Rattle.successor_rules.proofs.RiseLemmas.{levels-has, others-next, others-stand}
@@ -105,17 +105,3 @@ module _ (nexts : Nexts) (own : List ℕ) (targets : List (List ℕ)) (ended : s
       let bound = ends_together nexts targets all in
       keeps_ends nexts after own targets bound.0 all turned (λ lei at.
       clear bound.0 lei (target_named lei at) (bound.1 lei (has_so targets lei at)))
-
--- the same with what is held
-pub ended-held_end : (is_held was_held : List ℕ → Bool) (before after : Nexts) (own : List ℕ) (targets : List (List ℕ)) → HeldEnd was_held before
-    → ((lei : List ℕ) → IsTrue (was_held lei) → IsTrue (is_held lei)) → IsTurned before after own targets
-    → ((lei : List ℕ) → Contains targets lei → IsTrue (was_held lei)) → spread_out before own targets ≡ Walked.Ends → HeldEnd is_held after
-ended-held_end is_held was_held before after own targets old stays turned held ended = record {
-  held = λ lei next at. stays next (elim (cases_Bool (bytes_eq lei own)) [
-    | inl is ↦ held next (subst (λ l. Contains l next)
-        (subst (λ l. after l ≡ targets) (sym (same_text lei own is)) turned.here) at)
-    | inr other ↦ old.held lei next (subst (λ l. Contains l next)
-        (turned.elsewhere lei (λ same. false≢true (sym other ∙ (bytes_eq-Decides lei own).1 same))) at)
-  ]);
-  ends = levels-keep_ends before own targets ended after old.ends turned;
-}

@@ -4,6 +4,7 @@ pub mod ClearLemmas
 pub mod FoundLemmas
 pub mod LevelLemmas
 pub mod RiseLemmas
+pub mod SingleLemmas
 pub mod StageLemmas
 pub mod ReachLemmas
 pub mod ViewLemmas

@@ -92,10 +92,3 @@ spread_over answers key own first =
 -- What a view answers agrees with what LEIs name: it tells all of it, or nothing.
 abbrev pub Agree : SeenNexts → Nexts → Type 0
 Agree answers nexts = (lei : Lei) → lacks_nexts (answers lei) ≡ false → nexts lei ≡ known_nexts answers lei
-
--- ---- what holds of a register's successors
-
--- All that LEIs name is held, and each way from one to the next ends.
-pub record HeldEnd (is_held : Lei → Bool) (nexts : Nexts) : Type 0 where
-  pub held : (lei next : Lei) → Contains (nexts lei) next → IsTrue (is_held next)
-  pub ends : AllEnd nexts

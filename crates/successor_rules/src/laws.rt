@@ -1,15 +1,15 @@
 //! Laws of chains, each as the contract of an empty function.
-ghost use Rattle.std.specs.Prelude.{◌≡◌, ◌∷◌, [], ◌&&◌, ◌⊎◌, not, Bool, IsTrue, true, false, ℕ, suc, List};
+ghost use Rattle.std.specs.Prelude.{◌≡◌, ◌↔◌, ◌∷◌, [], ◌&&◌, ◌⊎◌, if◌then◌else◌, not, Bool, IsTrue, true, false, ℕ, suc, List};
 ghost use Rattle.lei_code.specs.Texts.{Lei};
 ghost use Rattle.std.specs.Option.{option_to_list};
 ghost use Rattle.std.specs.List.{Contains, IsDistinct};
 ghost use Rattle.std.specs.Set.{is_member};
 ghost use Rattle.std.specs.Str.{bytes_eq};
 ghost use Rattle.lei_records.specs.declared.view.CellKey.{CellKey};
-ghost use Rattle.lei_records.specs.Walks.{Next};
+ghost use Rattle.lei_records.specs.Walks.{Next, members};
 ghost use Rattle.successor_rules.specs.declared.walks.Walked.{Walked};
 ghost use Rattle.successor_rules.specs.Chains.{AllEnd, EndsClear, IsTurned, Leads, Nexts};
-ghost use Rattle.successor_rules.specs.Levels.{Agree, HeldEnd, SeenNexts, known_nexts, lacks_nexts, levels, others, reached, spread_out, spread_over};
+ghost use Rattle.successor_rules.specs.Levels.{Agree, SeenNexts, known_nexts, lacks_nexts, levels, others, reached, spread_out, spread_over};
 ghost use Rattle.successor_rules.specs.Walks.{walked};
 
 /// Where each way ends, none comes back to where it began.
@@ -48,16 +48,6 @@ pub fn clear_levels_keep_ends()
         → IsTurned before after own targets → spread_out before own targets ≡ Walked.Ends → AllEnd after }
 {}
 
-/// The same with what is held: if all that LEIs name is held, this stays true after an entity names other next ones
-/// that are held, if the walk by levels from these had come to its end.
-pub fn clear_levels_keep_held_ends()
-    ensures { (before after : Nexts) (was_held is_held : Lei → Bool) (own : Lei) (targets : List Lei)
-        → HeldEnd was_held before → ((lei : Lei) → IsTrue (was_held lei) → IsTrue (is_held lei))
-        → IsTurned before after own targets
-        → ((lei : Lei) → Contains targets lei → IsTrue (was_held lei))
-        → spread_out before own targets ≡ Walked.Ends → HeldEnd is_held after }
-{}
-
 /// A view that agrees with what LEIs name reports what becomes of the walk by levels, or the key of a cell that it
 /// lacks, of an LEI in the levels that it knows. One that lacks nothing reports what becomes of the walk by its answers.
 pub fn agreeing_views_tell_the_levels()
@@ -70,6 +60,14 @@ pub fn agreeing_views_tell_the_levels()
     ensures whole { (answers : SeenNexts) (key : Lei → CellKey) (own : Lei) (first : List Lei)
         → ((lei : Lei) → lacks_nexts (answers lei) ≡ false)
         → spread_over answers key own first ≡ spread_out (known_nexts answers) own first }
+{}
+
+/// If each LEI names at most one next one and each way ends, the walk by levels comes to what the walk of a chain comes to,
+/// except that it is also `Meets` if the 201st member is the entity itself, which is `Long` for a chain.
+pub fn single_levels_are_chains()
+    ensures { (next : Next) (own first : Lei) → AllEnd (λ lei. option_to_list (next lei))
+        → spread_out (λ lei. option_to_list (next lei)) own (first ∷ [])
+        ≡ (if is_member bytes_eq (members 201 next first) own then Walked.Meets else walked next own first) }
 {}
 
 /// Of two views, of which the one answers as the other for the first 200 LEIs that the walk by levels reaches, unless it

@@ -12,9 +12,9 @@ mod walks;
 pub use branches::{SuccessorBranches, spread};
 pub use found::Found;
 pub use laws::{
-    agreeing_views_tell_the_levels, clear_levels_keep_ends, clear_levels_keep_held_ends,
-    clear_ways_keep_ends, ending_walks_keep_ends, ending_ways_never_return,
-    levels_go_by_what_is_reached, others_are_counted_once,
+    agreeing_views_tell_the_levels, clear_levels_keep_ends, clear_ways_keep_ends,
+    ending_walks_keep_ends, ending_ways_never_return, levels_go_by_what_is_reached,
+    others_are_counted_once, single_levels_are_chains,
 };
 pub use spreading::{Branches, reach, spread_from};
 pub use successors::{SuccessorChain, walk};
