@@ -10,7 +10,8 @@ use Rattle.lei_records.specs.Cells.{Cells, akey, lei_in, successor_in, successor
 use Rattle.lei_records.specs.Relations.{end_in}
 use Rattle.lei_records.specs.Rows.{Row}
 use Rattle.lei_records.specs.Walks.{members}
-use Rattle.successor_rules.specs.Successors.{successor_seen}
+use Rattle.successor_rules.specs.Levels.{SeenNexts, known_nexts, reached}
+use Rattle.successor_rules.specs.Successors.{successor_seen, successors_seen}
 use Rattle.successor_rules.specs.Walks.{SeenNext, known}
 use Rattle.relation_rules.specs.Checks.{is_direct_parent}
 use Rattle.relation_rules.specs.Needs.{exception_names, relation_names}
@@ -60,10 +61,19 @@ successor_walk cells (Some successor) = map CellKey.Rec (members 200 (known (nex
 abbrev pub parent_walk : Cells → Lei → List CellKey
 parent_walk cells first = map parent_key (members 200 (known (parents_in cells)) first)
 
--- The cells of a record's walk by the rules: from its first successor.
+-- What a view answers of all successors that the record of an LEI names.
+abbrev pub next_successors : Cells → SeenNexts
+next_successors cells lei = successors_seen (cells.record_cell lei)
+
+-- The records of the first 200 LEIs that the walk by levels reaches from these successors of an entity, as far as the
+-- view knows it.
+abbrev pub level_walk : Cells → Lei → List Lei → List CellKey
+level_walk cells own successors = map CellKey.Rec (reached (known_nexts (next_successors cells)) own successors)
+
+-- The cells of a record's walk: by the first rules from its one successor, and by the second ones by levels.
 abbrev pub record_walk : Rules → Cells → Row → List CellKey
 record_walk Rules.First cells row = successor_walk cells (successor_in row)
-record_walk Rules.Second cells row = []
+record_walk Rules.Second cells row = level_walk cells (lei_in row) (successors_in row)
 
 -- The cells of an item's walk by the rules: that of a record, and that of an active direct parent from its end.
 abbrev pub walk_cells : Rules → Cells → Readied → List CellKey

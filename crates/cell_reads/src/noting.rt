@@ -1,10 +1,12 @@
 //! The cells that were read, as items are judged.
 ghost use Rattle.std.specs.Prelude.{◌≡◌, ◌++◌, ◌∷◌, [], if◌then◌else◌, map, IsTrue, OnOk};
+ghost use Rattle.lei_records.specs.declared.view.CellKey.{CellKey};
+ghost use Rattle.lei_records.specs.Cells.{lei_in, successor_in, successors_in};
 ghost use Rattle.lei_records.specs.Relations.{end_in};
 ghost use Rattle.lei_records.specs.Walks.{members};
 ghost use Rattle.successor_rules.specs.Walks.{known};
 ghost use Rattle.relation_rules.specs.Checks.{is_direct_parent};
-ghost use Rattle.cell_reads.specs.Needs.{needs, parent_walk, record_walk, walk_cells};
+ghost use Rattle.cell_reads.specs.Needs.{level_walk, needs, parent_walk, record_walk, successor_walk, walk_cells};
 ghost use Rattle.cell_reads.specs.Notes.{IsListed, NotesCells};
 
 use crate::cells::found_in;
@@ -17,7 +19,7 @@ use relation_rules::{ParentChain, is_direct};
 use std::alloc::Global;
 use std::collections::BTreeMap;
 use std::marker::Model;
-use successor_rules::{Chain, SuccessorChain};
+use successor_rules::{Chain, SuccessorBranches, SuccessorChain, reach};
 
 // The members of a walk whose cells are noted.
 const MOST_MEMBERS: u8 = 200;
@@ -193,12 +195,48 @@ fn note_successors<V: View, W: View>(
     ensures { OnOk result (NotesCells (V.cells below.now) noted.old noted.new
         (record_walk rules (W.cells over.now) item.now)) }
 {
-    match (rules, item.successor()) {
-        (Rules::First, Some(first)) => {
-            note_walk(below, &SuccessorChain { view: over }, noted, first)
-        }
-        _ => Ok(()),
+    match rules {
+        Rules::First => note_chain(below, over, noted, item),
+        Rules::Second => note_levels(below, over, noted, item),
     }
+}
+
+fn note_chain<V: View, W: View>(
+    below: &V,
+    over: &W,
+    noted: &mut Noted,
+    item: &Record,
+) -> Result<(), NoMemory>
+    ensures { OnOk result (NotesCells (V.cells below.now) noted.old noted.new
+        (successor_walk (W.cells over.now) (successor_in item.now))) }
+{
+    match item.successor() {
+        Some(first) => note_walk(below, &SuccessorChain { view: over }, noted, first),
+        None => Ok(()),
+    }
+}
+
+fn note_levels<V: View, W: View>(
+    below: &V,
+    over: &W,
+    noted: &mut Noted,
+    item: &Record,
+) -> Result<(), NoMemory>
+    ensures { OnOk result (NotesCells (V.cells below.now) noted.old noted.new
+        (level_walk (W.cells over.now) (lei_in item.now) (successors_in item.now))) }
+{
+    let branches = SuccessorBranches { view: over };
+    let found = reach(&branches, &item.lei(), &item.successors());
+    note_records(below, noted, found.as_slice())
+}
+
+fn note_records<V: View>(view: &V, noted: &mut Noted, leis: &[Lei]) -> Result<(), NoMemory>
+    ensures { OnOk result (NotesCells (V.cells view.now) noted.old noted.new (map CellKey.Rec leis.now)) }
+{
+    for lei in leis {
+        note(view, noted, CellKey::Rec(*lei))?;
+    }
+    Ok(())
 }
 
 fn note_parents<V: View, W: View>(
