@@ -54,7 +54,7 @@ first-numbered-successor table row (Some successor) = (refl, (refl, (refl, tt)))
 
 levels-numbered : (table : Table) (row : Row) (successors : List Lei) → AreNumbered (level_checks table row successors)
 levels-numbered table row [] = tt
-levels-numbered table row (successor ∷ successors) = (refl, tt)
+levels-numbered table row (successor ∷ successors) = (refl, (refl, (refl, tt)))
 
 successors-numbered : (rules : Rules) (table : Table) (row : Row) → AreNumbered (successor_checks rules table row)
 successors-numbered Rules.First table row = first-numbered-successor table row (successor_in row)

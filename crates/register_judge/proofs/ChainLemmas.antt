@@ -1,10 +1,12 @@
 -- A record whose successor passes its checks leaves each successor held and each chain ending.
-use Rattle.std.specs.Prelude.{◌≡◌, ◌≤◌, ℕ, zero, suc, length, slice_get, Bool, true, false, cond, List, [], ◌∷◌, if◌then◌else◌, Option, Some, None, IsSome, option_map, option_and_then}
-use Rattle.std.specs.List.{Contains}
+use Rattle.std.specs.Prelude.{◌≡◌, ◌≤◌, ℕ, zero, suc, length, slice_get, Bool, true, false, not, ◌&&◌, is_none, cond, List, [], ◌∷◌, if◌then◌else◌, Option, Some, None, IsSome, option_map, option_and_then}
+use Rattle.std.specs.List.{Contains, list_any}
 use Rattle.std.specs.Option.{option_map_or, option_to_list}
 use Rattle.std.specs.Str.{bytes_eq}
-use Rattle.std.proofs.Common.{refl, sym, ap, subst, rules, arith, ◌∙◌}
-use Rattle.std.proofs.lemmas.Bool.{false_from_ne_true}
+use Rattle.std.proofs.Common.{refl, sym, ap, subst, rules, arith, ◌∙◌, inl, inr}
+use Rattle.std.proofs.lemmas.Bool.{false_from_ne_true, false≢true, or_parts}
+use Rattle.std.proofs.lemmas.List.Elements.{Contains-append_cases}
+use Rattle.lei_records.proofs.PassLemmas.{all_pass}
 use Rattle.lei_records.specs.Checks.{FailedCheck}
 use Rattle.lei_records.specs.declared.check.Detail.{Detail}
 use Rattle.lei_records.specs.declared.item.Item.{Item}
@@ -21,7 +23,9 @@ use Rattle.successor_rules.specs.Chains.{AllEnd, EndsIn, IsTurned, Nexts}
 use Rattle.lei_records.specs.Walks.{NameOne, successor_of, successors_of}
 use Rattle.successor_rules.specs.Successors.{SuccessorChainsEnd}
 use Rattle.lei_records.specs.Walks.{is_met, is_long}
+use Rattle.successor_rules.specs.Levels.{is_back, is_wide}
 use Rattle.successor_rules.specs.Walks.{walked}
+use Rattle.successor_rules.proofs.ClearLemmas.{levels-keep_ends}
 use Rattle.successor_rules.proofs.ChainLemmas.{keeps_ends}
 use Rattle.successor_rules.proofs.WalkLemmas.{ended_walk_keeps_ends}
 use Rattle.lei_records.specs.declared.rules.Rules.{Rules}
@@ -75,10 +79,26 @@ one_held table row None passes next at = absurd (none_of next at)
 one_held table row (Some successor) passes next at =
     subst (λ lei. IsSome (row_at table lei)) (only_one successor next at) (row_held (row_at table successor) (one_passed table row successor passes).0)
 
+-- where C16 passes each successor is held
+each_held : (table : Table) (successors : List (List ℕ)) → list_any (λ lei. is_none (record_of table lei)) successors ≡ false
+    → (next : List ℕ) → Contains successors next → IsSome (row_at table next)
+each_held table [] none next at = absurd (none_of next at)
+each_held table (successor ∷ successors) none next at =
+    let parts = or_parts (is_none (record_of table successor)) (list_any (λ lei. is_none (record_of table lei)) successors) none in
+    elim (Contains-append_cases (successor ∷ []) successors next at) [
+      | inl here ↦ subst (λ lei. IsSome (row_at table lei)) (only_one successor next here) (row_held (row_at table successor) (not_none (record_of table successor) parts.0))
+      | inr later ↦ each_held table successors parts.1 next later
+    ]
+  where
+    not_none : (found : Option RecCell) → is_none found ≡ false → IsSome found
+    not_none None is = absurd (false≢true (sym is))
+    not_none (Some cell) is = refl
+
 levels_held : (table : Table) (row : Row) (successors : List (List ℕ)) → first_failing (level_checks table row successors) ≡ None
     → (next : List ℕ) → Contains successors next → IsSome (row_at table next)
 levels_held table row [] passes next at = absurd (none_of next at)
-levels_held table row (successor ∷ successors) passes next at = absurd (some_apart _ passes)
+levels_held table row (successor ∷ successors) passes next at =
+    each_held table (successor ∷ successors) (all_pass (level_checks table row (successor ∷ successors)) passes).first next at
 
 named_held : (rules : Rules) (table : Table) (row : Row) → RowFits rules row → Pass rules table row
     → (next : List ℕ) → Contains (successors_in row) next → IsSome (row_at table next)
@@ -152,7 +172,19 @@ levels_end table row [] chains names passes =
     keeps_ends (successors_of table) (successors_of (put table (Item.Record row))) (lei_in row) [] 0 chains.ends
     (subst (IsTurned (successors_of table) (successors_of (put table (Item.Record row))) (lei_in row)) names (turned table row))
     (λ lei at. absurd (none_of lei at))
-levels_end table row (successor ∷ successors) chains names passes = absurd (some_apart _ passes)
+levels_end table row (successor ∷ successors) chains names passes =
+    let all = successor ∷ successors in
+    let own = lei_in row in
+    let nexts = successors_of table in
+    let pass = all_pass (level_checks table row all) passes in
+    levels-keep_ends nexts own all (ended (is_wide nexts own all) (is_back nexts own all) pass.others.first pass.others.others.first)
+    (successors_of (put table (Item.Record row))) chains.ends
+    (subst (IsTurned nexts (successors_of (put table (Item.Record row))) own) names (turned table row))
+  where
+    ended : (wide back : Bool) → not wide && back ≡ false → wide ≡ false → (if wide then Walked.Long else if back then Walked.Meets else Walked.Ends) ≡ Walked.Ends
+    ended true back cycle long = absurd (false≢true (sym long))
+    ended false true cycle long = absurd (false≢true (sym cycle))
+    ended false false cycle long = refl
 
 all_end : (rules : Rules) (table : Table) (row : Row) → TableFits rules table → RowFits rules row → SuccessorChainsEnd table → Pass rules table row
     → AllEnd (successors_of (put table (Item.Record row)))

@@ -1,7 +1,7 @@
 -- What comes of an item over a view that knows more: the same, unless the first view lacks a cell that the item needs.
 use Rattle.std.specs.Prelude.{◌≡◌, ◌<◌, ℕ, List, [], ◌∷◌, ◌++◌, map, Bool, true, false, cond, Option, Some, None, Result, Ok, Err, ⊤}
 use Rattle.std.specs.List.{Contains}
-use Rattle.std.proofs.Common.{refl, sym, ap, subst, ◌∙◌, arith}
+use Rattle.std.proofs.Common.{refl, sym, ap, subst, ◌∙◌, inl, inr, arith}
 use Rattle.std.proofs.Math.ListN.{get_or-map}
 use Rattle.std.proofs.lemmas.Bool.{and_from}
 use Rattle.std.proofs.lemmas.List.{length-map}
@@ -21,19 +21,22 @@ use Rattle.lei_records.specs.declared.view.CellKey.{CellKey}
 use Rattle.lei_records.specs.declared.view.RecCell.{RecCell}
 use Rattle.lei_records.specs.declared.view.Seen.{Seen}
 use Rattle.authority_rules.specs.Taken.{seen_holder, taken, unless_own}
+use Rattle.successor_rules.specs.Levels.{known_nexts, reached}
+use Rattle.successor_rules.specs.Successors.{spread}
 use Rattle.successor_rules.specs.Walks.{known}
+use Rattle.successor_rules.proofs.ReachLemmas.{near-tells}
 use Rattle.relation_rules.specs.declared.checked.Checked.{Checked}
 use Rattle.relation_rules.specs.Checking.{check_action, check_active, check_category, check_exception, check_managed, check_other_end, check_parents, check_relation, check_start, check_walked, checked_of, on_seen, unless_failed, walk_parents}
 use Rattle.relation_rules.specs.Checks.{is_direct_parent}
 use Rattle.relation_rules.specs.Needs.{exception_keys, exception_names, relation_names}
 use Rattle.cell_reads.proofs.NoteLemmas.{first_named as first_successor}
-use Rattle.cell_reads.specs.Needs.{key_names, needs, parent_key, parent_walk, parents_in, record_names, record_walk, successor_names, successor_walk, next_successor}
+use Rattle.cell_reads.specs.Needs.{key_names, needs, parent_key, parent_walk, parents_in, record_names, level_walk, next_successors, record_walk, successor_names, successor_walk, next_successor}
 use Rattle.register_judge.specs.declared.judge.ItemOutcome.{ItemOutcome}
 use Rattle.lei_records.specs.declared.rules.Rules.{Rules}
 use Rattle.register_judge.specs.declared.sitting.Sitting.{Sitting}
-use Rattle.register_judge.specs.Checks.{c19, own_checks}
-use Rattle.register_judge.specs.Judging.{check_key, check_named, check_record, check_first, check_levels, check_successors, judge_item, judge_record, judge_room, key_cell, outcome_by, value_seen}
-use Rattle.register_judge.proofs.MonotonyLemmas.{Less, LessAt, LessChecked, checked-same, less-check_walked, less-on_seen, less-own, less-successor, less-unless_failed, less-walk_over}
+use Rattle.register_judge.specs.Checks.{c16, c19, own_checks}
+use Rattle.register_judge.specs.Judging.{check_key, check_named, check_record, check_each, check_first, check_levels, check_successors, judge_item, judge_record, judge_room, key_cell, outcome_by, value_seen}
+use Rattle.register_judge.proofs.MonotonyLemmas.{Less, LessAt, LessChecked, LessWalked, checked-same, contained, less-check_walked, less-on_seen, less-own, less-successor, less-unless_failed, less-walk_over, less-walked, nearer}
 
 -- a member's key is among the keys of the members
 pub Contains-map : {X Y : Type 0} (f : X → Y) (xs : List X) (x : X) → Contains xs x → Contains (map f xs) (f x)
@@ -202,14 +205,42 @@ module _ (a b : Cells) (item : Row) (named : (key : CellKey) → Contains (recor
         (first_successor (successors_in item) successor is))) (less_named walks successor is)
 
     -- by the second rules
-    less_levels : (successors : List (List ℕ)) → LessChecked (check_levels a item successors) (check_levels b item successors)
-    less_levels [] = less_key
-    less_levels (successor ∷ successors) = refl
+    less_spread : (successors : List (List ℕ)) → ((key : CellKey) → Contains (level_walk a (lei_in item) successors) key → LessAt a b key)
+        → LessWalked (spread a (lei_in item) successors) (spread b (lei_in item) successors)
+    less_spread successors walks =
+        let all = reached (known_nexts (next_successors a)) (lei_in item) successors in
+        elim (near-tells (next_successors a) (next_successors b) CellKey.Rec (lei_in item) successors (λ lei at.
+        nearer (a.record_cell lei) (b.record_cell lei) (walks (CellKey.Rec lei) (Contains-map CellKey.Rec all lei (contained all lei at))))) [
+          | inl same ↦ less-walked (spread a (lei_in item) successors) (spread b (lei_in item) successors) (inl same)
+          | inr lacks ↦ less-walked (spread a (lei_in item) successors) (spread b (lei_in item) successors) (inr (CellKey.Rec lacks.0, lacks.3))
+        ]
+
+    less_each : (successors : List (List ℕ)) (c d : Checked) → ((lei : List ℕ) → Contains successors lei → LessAt a b (CellKey.Rec lei))
+        → LessChecked c d → LessChecked (check_each a successors c) (check_each b successors d)
+    less_each [] c d cells less = less
+    less_each (successor ∷ successors) c d cells less =
+        less-on_seen (a.record_cell successor) (b.record_cell successor) (CellKey.Rec successor) _ _ (cells successor (0, omega arith, refl))
+        (λ found. less-unless_failed (first_failing (c16 found ∷ [])) _ _
+        (less_each successors c d (λ lei at. cells lei (Contains-append_right (successor ∷ []) successors lei at)) less))
+
+    less_levels : (successors : List (List ℕ)) → ((lei : List ℕ) → Contains successors lei → LessAt a b (CellKey.Rec lei))
+        → ((key : CellKey) → Contains (level_walk a (lei_in item) successors) key → LessAt a b key)
+        → LessChecked (check_levels a item successors) (check_levels b item successors)
+    less_levels [] cells walks = less_key
+    less_levels (successor ∷ successors) cells walks =
+        let all = successor ∷ successors in
+        less_each all _ _ cells
+        (less-check_walked 17 18 (spread a (lei_in item) all) (spread b (lei_in item) all) (check_key a item) (check_key b item) (less_spread all walks) less_key)
+
+    successor_less : (lei : List ℕ) → Contains (successors_in item) lei → LessAt a b (CellKey.Rec lei)
+    successor_less lei at =
+        others_named (CellKey.Rec lei) (Contains-append_right (key_names (akey item)) (successor_names (successors_in item)) (CellKey.Rec lei)
+        (Contains-map CellKey.Rec (successors_in item) lei at))
 
     less_successors : (rules : Rules) → ((key : CellKey) → Contains (record_walk rules a item) key → LessAt a b key)
         → LessChecked (check_successors rules a item) (check_successors rules b item)
     less_successors Rules.First walks = less_first walks (successor_in item) refl
-    less_successors Rules.Second walks = less_levels (successors_in item)
+    less_successors Rules.Second walks = less_levels (successors_in item) successor_less walks
 
     less-record : (full : Bool) (sitting : Sitting) → ((key : CellKey) → Contains (record_walk sitting.rules a item) key → LessAt a b key)
         → LessJudged (judge_record a full sitting item) (judge_record b full sitting item)

@@ -23,7 +23,9 @@ use Rattle.lei_records.specs.declared.view.RowKey.{RowKey}
 use Rattle.lei_records.specs.declared.view.Seen.{Seen}
 use Rattle.authority_rules.specs.Taken.{seen_holder, taken, unless_own}
 use Rattle.successor_rules.specs.declared.walks.Walked.{Walked}
-use Rattle.successor_rules.specs.Successors.{named, successor_seen, walk}
+use Rattle.successor_rules.specs.Successors.{named, spread, successor_seen, successors_seen, walk}
+use Rattle.successor_rules.specs.Levels.{known_nexts, lacks_nexts, reached}
+use Rattle.successor_rules.proofs.ReachLemmas.{spread-lacks}
 use Rattle.successor_rules.specs.Walks.{is_missing, known, lacking, unless_lacking}
 use Rattle.relation_rules.proofs.NeedLemmas.{exception_told, relation_told}
 use Rattle.relation_rules.specs.declared.checked.Checked.{Checked}
@@ -31,17 +33,18 @@ use Rattle.relation_rules.specs.Checking.{check_walked, checked_of, on_seen, unl
 use Rattle.relation_rules.specs.Checks.{is_direct_parent, is_from}
 use Rattle.relation_rules.specs.Needs.{IsNeeded, exception_names, is_lacking, lacks, relation_names}
 use Rattle.cell_reads.proofs.NoteLemmas.{first_named}
-use Rattle.cell_reads.specs.Needs.{key_names, needs, parent_key, parent_walk, parents_in, record_names, record_walk, successor_names, successor_walk, next_successor}
+use Rattle.cell_reads.specs.Needs.{key_names, needs, parent_key, parent_walk, parents_in, record_names, level_walk, next_successors, record_walk, successor_names, successor_walk, next_successor}
 use Rattle.register_judge.specs.declared.judge.ItemOutcome.{ItemOutcome}
 use Rattle.lei_records.specs.declared.rules.Rules.{Rules}
 use Rattle.register_judge.specs.declared.sitting.Sitting.{Sitting}
 use Rattle.register_judge.specs.Agreement.{IsNeededIn}
-use Rattle.register_judge.specs.Checks.{c19}
-use Rattle.register_judge.specs.Judging.{Judgement, before, cells_after, check_key, check_named, check_record, check_first, check_levels, check_successors, check_with_held, count_after, item_in_front, judge_item, judge_items, key_cell, outcome_by, put_writes}
+use Rattle.register_judge.specs.Checks.{c16, c19}
+use Rattle.register_judge.specs.Judging.{Judgement, before, cells_after, check_key, check_named, check_record, check_each, check_first, check_levels, check_successors, check_with_held, count_after, item_in_front, judge_item, judge_items, key_cell, outcome_by, put_writes}
 use Rattle.register_judge.specs.Overlays.{is_between, put_cells, put_exception, put_record, put_relation}
 use Rattle.register_judge.specs.Sittings.{is_at_limit}
 use Rattle.register_judge.specs.Taking.{writes_of}
 use Rattle.register_judge.proofs.ItemLemmas.{Contains-map}
+use Rattle.register_judge.proofs.MonotonyLemmas.{contained}
 use Rattle.register_judge.proofs.ReadLemmas.{put_writes-append}
 
 -- ---- what is lacking over accepted items is lacking below them
@@ -150,6 +153,11 @@ successor_lacking (Seen.Held cell) = named_known (slice_get cell.successors 0)
 successor_lacking Seen.Empty = refl
 successor_lacking Seen.Missing = refl
 
+nexts_lacking : (seen : Seen RecCell) → lacks_nexts (successors_seen seen) ≡ is_lacking seen
+nexts_lacking (Seen.Held cell) = refl
+nexts_lacking Seen.Empty = refl
+nexts_lacking Seen.Missing = refl
+
 -- ---- a record
 
 module _ (rules : Rules) (cells : Cells) (item : Row) (key : CellKey) where
@@ -217,14 +225,43 @@ module _ (cells : Cells) (item : Row) (key : CellKey) where
 
 -- by the second rules
 module _ (cells : Cells) (item : Row) (key : CellKey) where
-  levels_told : (successors : List (List ℕ)) → check_levels cells item successors ≡ Checked.Missing key → Told Rules.Second cells item key
-  levels_told [] is = key_told Rules.Second cells item key is
-  levels_told (successor ∷ successors) is = cc
+  abbrev ToldNow : Type 0
+  ToldNow = Told Rules.Second cells item key
+
+  each_told : (successors : List (List ℕ)) (next : Checked) → ((lei : List ℕ) → Contains successors lei → Contains (successors_in item) lei)
+      → check_each cells successors next ≡ Checked.Missing key → (next ≡ Checked.Missing key → ToldNow) → ToldNow
+  each_told [] next named is then = then is
+  each_told (successor ∷ successors) next named is then =
+      let own = CellKey.Rec successor in
+      seen_told (cells.record_cell successor) own _ key ToldNow is
+      (named_told Rules.Second cells item key own (others_at Rules.Second cells item key own
+      (Contains-append_right (key_names (akey item)) (successor_names (successors_in item)) own
+      (Contains-map CellKey.Rec (successors_in item) successor (named successor (0, omega arith, refl))))))
+      (λ found rest. each_told successors next (λ lei at. named lei (Contains-append_right (successor ∷ []) successors lei at))
+      (unless_told (first_failing (c16 found ∷ [])) (check_each cells successors next) key rest) then)
+
+  spread_wants : (successors : List (List ℕ)) → successors_in item ≡ successors → spread cells (lei_in item) successors ≡ Walked.Missing key → ToldNow
+  spread_wants successors are is =
+      let answers = next_successors cells in
+      let found = spread-lacks answers CellKey.Rec (lei_in item) successors key is in
+      let all = reached (known_nexts answers) (lei_in item) successors in
+      let of_walk : Contains (level_walk cells (lei_in item) (successors_in item)) (CellKey.Rec found.0) =
+      subst (λ leis. Contains (level_walk cells (lei_in item) leis) (CellKey.Rec found.0)) (sym are) (Contains-map CellKey.Rec all found.0 (contained all found.0 found.2)) in
+      needed_told Rules.Second cells item key (CellKey.Rec found.0)
+      (Contains-append_right (record_names item) (level_walk cells (lei_in item) (successors_in item)) (CellKey.Rec found.0) of_walk)
+      (sym (nexts_lacking (cells.record_cell found.0)) ∙ found.1) found.3
+
+  levels_told : (successors : List (List ℕ)) → successors_in item ≡ successors → check_levels cells item successors ≡ Checked.Missing key → ToldNow
+  levels_told [] are is = key_told Rules.Second cells item key is
+  levels_told (successor ∷ successors) are is =
+      let all = successor ∷ successors in
+      each_told all (check_walked 17 18 (spread cells (lei_in item) all) (check_key cells item)) (λ lei at. subst (λ leis. Contains leis lei) (sym are) at) is
+      (λ rest. walk_told (spread cells (lei_in item) all) (check_key cells item) key ToldNow rest (spread_wants all are) (key_told Rules.Second cells item key))
 
 module _ (cells : Cells) (item : Row) (key : CellKey) where
   successors_told : (rules : Rules) → check_successors rules cells item ≡ Checked.Missing key → Told rules cells item key
   successors_told Rules.First is = first_told cells item key (successor_in item) refl is
-  successors_told Rules.Second is = levels_told cells item key (successors_in item) is
+  successors_told Rules.Second is = levels_told cells item key (successors_in item) refl is
 
   record_told : (sitting : Sitting) → check_record cells sitting item ≡ Checked.Missing key → Told sitting.rules cells item key
   unfolding check_record

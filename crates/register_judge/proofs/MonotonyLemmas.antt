@@ -4,7 +4,8 @@ use Rattle.std.specs.Prelude.{◌≡◌, ℕ, zero, suc, List, ◌∷◌, [], tr
 use Rattle.std.specs.List.{Contains}
 use Rattle.std.specs.Option.{option_map_or}
 use Rattle.std.specs.Str.{bytes_eq}
-use Rattle.std.proofs.Common.{refl, sym, ap, subst, arith}
+use Rattle.std.proofs.Common.{refl, sym, ap, subst, ◌⊎◌, inl, inr, arith}
+use Rattle.std.proofs.lemmas.Bool.{false≢true, or_cases}
 use Rattle.std.proofs.lemmas.List.Elements.{Contains-append_left, Contains-append_right}
 use Rattle.lei_records.specs.Checks.{FailedCheck}
 use Rattle.lei_records.specs.declared.view.CellKey.{CellKey}
@@ -14,7 +15,9 @@ use Rattle.lei_records.specs.Cells.{Cells}
 use Rattle.lei_records.specs.Walks.{Next, members}
 use Rattle.authority_rules.specs.Taken.{unless_own}
 use Rattle.successor_rules.specs.declared.walks.Walked.{Walked}
-use Rattle.successor_rules.specs.Successors.{named, successor_seen}
+use Rattle.successor_rules.specs.Levels.{lacks_nexts}
+use Rattle.successor_rules.specs.Successors.{named, successor_seen, successors_seen}
+use Rattle.successor_rules.proofs.LevelLemmas.{has, same_text}
 use Rattle.successor_rules.specs.Walks.{SeenNext, held, known, walk_over}
 use Rattle.successor_rules.proofs.WalkLemmas.{walk_in, walk_in-ends, walk_in-lacks, walk_in-meets, walk_in-next, walk_in-zero}
 use Rattle.relation_rules.specs.declared.checked.Checked.{Checked}
@@ -55,6 +58,20 @@ less-successor (Seen.Held cell) b less =
 less-successor Seen.Empty b less = ap successor_seen less
 less-successor Seen.Missing b less = tt
 
+-- one answer is that of the other, or its cell is missing
+pub nearer : (a b : Seen RecCell) → Less a b → (lacks_nexts (successors_seen a) ≡ true) ⊎ (successors_seen a ≡ successors_seen b)
+nearer (Seen.Held cell) b less = inr (ap successors_seen (sym less))
+nearer Seen.Empty b less = inr (ap successors_seen (sym less))
+nearer Seen.Missing b less = inl refl
+
+-- what a list has is contained in it
+pub contained : (leis : List (List ℕ)) (lei : List ℕ) → has leis lei ≡ true → Contains leis lei
+contained [] lei at = absurd (false≢true at)
+contained (own ∷ leis) lei at = elim (or_cases (bytes_eq lei own) (has leis lei) at) [
+  | inl same ↦ (0, omega arith, sym (same_text lei own same))
+  | inr later ↦ Contains-append_right (own ∷ []) leis lei (contained leis lei later)
+]
+
 -- ---- walks
 
 -- the walk over the second view becomes the same, unless the first one lacks a cell
@@ -63,6 +80,17 @@ LessWalked Walked.Meets other = other ≡ Walked.Meets
 LessWalked Walked.Long other = other ≡ Walked.Long
 LessWalked Walked.Ends other = other ≡ Walked.Ends
 LessWalked (Walked.Missing key) other = ⊤
+
+-- two walks become the same, or the first one lacks a cell
+pub less-walked : (a b : Walked) → (a ≡ b) ⊎ ((key : CellKey) × (a ≡ Walked.Missing key)) → LessWalked a b
+less-walked a b (inr lacks) = let P : Walked → Type 0 = λ walked. LessWalked walked b in subst P (sym lacks.1) tt
+less-walked a b (inl same) = let P : Walked → Type 0 = λ walked. LessWalked a walked in subst P same (walked-same a)
+  where
+    walked-same : (walked : Walked) → LessWalked walked walked
+    walked-same Walked.Meets = refl
+    walked-same Walked.Long = refl
+    walked-same Walked.Ends = refl
+    walked-same (Walked.Missing key) = tt
 
 walked-by : (a a' b b' : Walked) → a ≡ a' → b ≡ b' → LessWalked a' b' → LessWalked a b
 walked-by a a' b b' a_is b_is less =

@@ -1,6 +1,7 @@
 -- What a view answers over the cells of a sound table is what the items do to that table.
-use Rattle.std.specs.Prelude.{◌≡◌, ℕ, ◌+◌, List, [], ◌∷◌, ◌++◌, Bool, true, false, ◌&&◌, cond, if◌then◌else◌, nat_le, Option, Some, None, is_some, is_none, option_map, Result, Ok, Err}
+use Rattle.std.specs.Prelude.{◌≡◌, ℕ, ◌+◌, ◌==◌, length, List, [], ◌∷◌, ◌++◌, Bool, true, false, not, ◌&&◌, ◌||◌, cond, if◌then◌else◌, nat_le, Option, Some, None, is_some, is_none, option_map, Result, Ok, Err}
 use Rattle.std.specs.FinMap.{len-insert}
+use Rattle.std.specs.List.{list_any}
 use Rattle.std.specs.Option.{option_or}
 use Rattle.std.specs.Str.{bytes_eq}
 use Rattle.std.proofs.Common.{refl, sym, ap, subst, ◌∙◌, add-zero, arith}
@@ -14,7 +15,7 @@ use Rattle.lei_records.specs.declared.view.CellKey.{CellKey}
 use Rattle.lei_records.specs.declared.view.RecCell.{RecCell}
 use Rattle.lei_records.specs.declared.view.RowKey.{RowKey}
 use Rattle.lei_records.specs.declared.view.Seen.{Seen}
-use Rattle.lei_records.specs.Cells.{lei_in, successor_in, successors_in, rec_cell, is_live, akey, holds}
+use Rattle.lei_records.specs.Cells.{Cells, lei_in, successor_in, successors_in, rec_cell, is_live, akey, holds}
 use Rattle.lei_records.specs.Checks.{Finding, code_detail, fails_if, first_failing}
 use Rattle.lei_records.specs.Rows.{Row}
 use Rattle.lei_records.specs.Tables.{Table, record_key, put, put_write, put_all, row_at, record_of, record_count, holder_of, other_holder, seen, cells_of, row_key, IsKeyed, AuthorityKeysAreUnique, AreRelationsKeyed, HasActives, IsSound}
@@ -25,8 +26,11 @@ use Rattle.authority_rules.proofs.HolderLemmas.{keys_total, some_apart, taken-ce
 use Rattle.authority_rules.proofs.SoundLemmas.{IsSound-put_exception}
 use Rattle.authority_rules.proofs.PutLemmas.{record_of-put, holder_of-put, IsKeyed-put, AuthorityKeysAreUnique-put, IsSound-put, other_than}
 use Rattle.successor_rules.specs.declared.walks.Walked.{Walked}
-use Rattle.lei_records.specs.Walks.{successor_of}
+use Rattle.lei_records.specs.Walks.{successor_of, successors_of}
 use Rattle.lei_records.specs.Walks.{is_met, is_long}
+use Rattle.successor_rules.specs.Levels.{is_back, is_wide}
+use Rattle.successor_rules.specs.Successors.{spread}
+use Rattle.successor_rules.proofs.ViewLemmas.{spread-over_table}
 use Rattle.successor_rules.proofs.WalkLemmas.{walk-over_table}
 use Rattle.relation_rules.specs.declared.checked.Checked.{Checked}
 use Rattle.relation_rules.specs.Checking.{check_walked, checked_of, on_seen, unless_failed}
@@ -40,8 +44,8 @@ use Rattle.register_judge.specs.declared.outcome.Outcome.{Outcome}
 use Rattle.register_judge.specs.declared.outcome.Verdict.{Verdict}
 use Rattle.lei_records.specs.declared.rules.Rules.{Rules}
 use Rattle.register_judge.specs.declared.sitting.Sitting.{Sitting}
-use Rattle.register_judge.specs.Checks.{own_checks, held_checks, c16, c19, first_checks, level_checks, successor_checks, earlier_checks, limit_check, record_checks}
-use Rattle.register_judge.specs.Judging.{acceptance, check_with_held, check_key, check_named, check_record, check_first, check_levels, check_successors, value_seen, key_cell, judge_room, judge_record, outcome_by, judge_item, put_writes, cells_after, count_after, records_added, Judgement, before, judge_items}
+use Rattle.register_judge.specs.Checks.{own_checks, held_checks, c16, c16_each, c19, first_checks, level_checks, successor_checks, earlier_checks, limit_check, record_checks}
+use Rattle.register_judge.specs.Judging.{acceptance, check_with_held, check_key, check_named, check_record, check_each, check_first, check_levels, check_successors, value_seen, key_cell, judge_room, judge_record, outcome_by, judge_item, put_writes, cells_after, count_after, records_added, Judgement, before, judge_items}
 use Rattle.register_judge.specs.Outcomes.{Judges, Takes}
 use Rattle.register_judge.specs.Overlays.{put_record}
 use Rattle.register_judge.specs.Sittings.{is_at_limit, over_table}
@@ -85,11 +89,52 @@ first_by_table table item (Some successor) keyed holders =
     ∙ ((λ i. unless_failed (first_failing (c16 found ∷ [])) (check_walked 17 18 (walks i) (behind i)))
     ∙ in_turn found (is_met (successor_of table) (lei_in item) successor) (is_long (successor_of table) successor) (c19 (other_holder table item) item ∷ []))
 
+-- each successor is looked for, and then comes what follows
+each_by_table : (table : Table) (successors : List (List ℕ)) (next : Checked)
+    → check_each (cells_of table) successors next ≡ unless_failed (first_failing (c16_each table successors ∷ [])) next
+each_by_table table [] next = refl
+each_by_table table (successor ∷ successors) next =
+    let found = record_of table successor in
+    on_held found (CellKey.Rec successor) (λ f. unless_failed (first_failing (c16 f ∷ [])) (check_each (cells_of table) successors next))
+    ∙ (ap (unless_failed (first_failing (c16 found ∷ []))) (each_by_table table successors next)
+    ∙ one_or_more found (list_any (λ lei. is_none (record_of table lei)) successors) next)
+  where
+    one_or_more : (found : Option RecCell) (later : Bool) (next : Checked)
+        → unless_failed (first_failing (c16 found ∷ [])) (unless_failed (first_failing (fails_if later 16 Detail.None ∷ [])) next)
+        ≡ unless_failed (first_failing (fails_if (is_none found || later) 16 Detail.None ∷ [])) next
+    one_or_more None later next = refl
+    one_or_more (Some cell) true next = refl
+    one_or_more (Some cell) false next = refl
+
+-- C16 to C18 by the second rules are asked one after the other, and then those behind
+by_levels_in_turn : (none wide back : Bool) (behind : List Finding)
+    → unless_failed (first_failing (fails_if none 16 Detail.None ∷ []))
+    (check_walked 17 18 (if wide then Walked.Long else if back then Walked.Meets else Walked.Ends) (checked_of (first_failing behind)))
+    ≡ checked_of (first_failing (fails_if none 16 Detail.None ∷ fails_if (not wide && back) 17 Detail.None ∷ fails_if wide 18 Detail.None ∷ behind))
+by_levels_in_turn true wide back behind = refl
+by_levels_in_turn false true back behind = refl
+by_levels_in_turn false false true behind = refl
+by_levels_in_turn false false false behind = refl
+
+-- what the second rules ask of an item with successors
+pub levels_of : (cells : Cells) (item : Row) (successors : List (List ℕ)) → (length successors == 0) ≡ false
+    → check_levels cells item successors ≡ check_each cells successors (check_walked 17 18 (spread cells (lei_in item) successors) (check_key cells item))
+levels_of cells item [] some = cc
+levels_of cells item (successor ∷ successors) some = refl
+
 levels_by_table : (table : Table) (item : Row) (successors : List (List ℕ)) → IsKeyed table → AuthorityKeysAreUnique table
     → check_levels (cells_of table) item successors
     ≡ checked_of (first_failing (level_checks table item successors ++ c19 (other_holder table item) item ∷ []))
 levels_by_table table item [] keyed holders = key_by_table table item keyed holders
-levels_by_table table item (successor ∷ successors) keyed holders = refl
+levels_by_table table item (successor ∷ successors) keyed holders =
+    let all = successor ∷ successors in
+    let own = lei_in item in
+    let behind = c19 (other_holder table item) item ∷ [] in
+    let spreads = spread-over_table table own all in
+    let key = key_by_table table item keyed holders in
+    each_by_table table all (check_walked 17 18 (spread (cells_of table) own all) (check_key (cells_of table) item))
+    ∙ ((λ i. unless_failed (first_failing (c16_each table all ∷ [])) (check_walked 17 18 (spreads i) (key i)))
+    ∙ by_levels_in_turn (list_any (λ lei. is_none (record_of table lei)) all) (is_wide (successors_of table) own all) (is_back (successors_of table) own all) behind)
 
 successors_by_table : (rules : Rules) (table : Table) (item : Row) → IsKeyed table → AuthorityKeysAreUnique table
     → check_successors rules (cells_of table) item

@@ -1,5 +1,6 @@
 -- The checks of a record that is brought to a table, C05 to C20. This project's profile.
-use Rattle.std.specs.Prelude.{ℤ, List, [], ◌∷◌, ◌++◌, Bool, true, false, not, ◌&&◌, ◌||◌, int_lt, Option, Some, None, is_some, is_none}
+use Rattle.std.specs.Prelude.{ℤ, List, [], ◌∷◌, ◌++◌, Bool, false, not, ◌&&◌, ◌||◌, int_lt, Option, Some, None, is_some, is_none}
+use Rattle.std.specs.List.{list_any}
 use Rattle.std.specs.Option.{option_map_or}
 use Rattle.std.specs.Ordering.{int_eq}
 use Rattle.std.specs.Str.{bytes_eq}
@@ -12,7 +13,9 @@ use Rattle.lei_records.specs.Cells.{lei_in, status_in, entity_status_in, initial
 use Rattle.lei_records.specs.Checks.{Finding, fails_if, code_detail}
 use Rattle.lei_records.specs.Rows.{Row}
 use Rattle.lei_records.specs.Tables.{Table, record_of, record_count, other_holder}
-use Rattle.lei_records.specs.Walks.{Next, is_long, is_met, successor_of}
+use Rattle.lei_records.specs.Walks.{Next, is_long, is_met, successor_of, successors_of}
+use Rattle.successor_rules.specs.Chains.{Nexts}
+use Rattle.successor_rules.specs.Levels.{is_back, is_wide}
 use Rattle.status_rules.specs.declared.transitions.Party.{Party}
 use Rattle.status_rules.specs.Statuses.{entity_fits, renewal_fits, is_issued, is_retired, is_duplicate}
 use Rattle.status_rules.specs.Transitions.{party}
@@ -111,6 +114,22 @@ c17 next item successor = fails_if (is_met next (lei_in item) successor) 17 Deta
 abbrev pub c18 : Next → Lei → Finding
 c18 next successor = fails_if (is_long next successor) 18 Detail.None
 
+-- ---- the successors of an item by the second rules
+
+-- C16 fails where no record of one of the successors is held.
+abbrev pub c16_each : Table → List Lei → Finding
+c16_each table successors = fails_if (list_any (λ lei. is_none (record_of table lei)) successors) 16 Detail.None
+
+-- C17 fails where levels 1 to 201 from the successors have at most 200 different LEIs other than the item's own, and its
+-- own is among them.
+abbrev pub c17_levels : Nexts → Row → List Lei → Finding
+c17_levels nexts item successors =
+    fails_if (not (is_wide nexts (lei_in item) successors) && is_back nexts (lei_in item) successors) 17 Detail.None
+
+-- C18 fails where they have more than 200.
+abbrev pub c18_levels : Nexts → Row → List Lei → Finding
+c18_levels nexts item successors = fails_if (is_wide nexts (lei_in item) successors) 18 Detail.None
+
 -- ---- the other records
 
 -- C19 fails where the item is live and another live record has its authority key. That record's LEI is told.
@@ -142,10 +161,13 @@ first_checks table item (Some successor) =
     c16 (record_of table successor) ∷ c17 (successor_of table) item successor
     ∷ c18 (successor_of table) successor ∷ []
 
--- The checks of the item's successors by the second rules.
+-- The checks of the item's successors by the second rules, C16 to C18: none where it has no successor. The levels go by
+-- the records of the table.
 abbrev pub level_checks : Table → Row → List Lei → List Finding
 level_checks table item [] = []
-level_checks table item (successor ∷ successors) = fails_if true 16 Detail.None ∷ []
+level_checks table item (successor ∷ successors) =
+    c16_each table (successor ∷ successors) ∷ c17_levels (successors_of table) item (successor ∷ successors)
+    ∷ c18_levels (successors_of table) item (successor ∷ successors) ∷ []
 
 -- The checks of the item's successors by the rules, C16 to C18.
 abbrev pub successor_checks : Rules → Table → Row → List Finding

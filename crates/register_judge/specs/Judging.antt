@@ -1,7 +1,6 @@
 -- Judging over any view: what a view's cells make of items, or the first cell that they need and the view lacks.
 use Rattle.std.specs.Prelude.{ℕ, ◌+◌, List, [], ◌∷◌, ◌++◌, Bool, true, false, if◌then◌else◌, Option, Some, None, is_none, Result, Ok, Err}
 use Rattle.lei_code.specs.Texts.{Lei, Text}
-use Rattle.lei_records.specs.declared.check.Detail.{Detail}
 use Rattle.lei_records.specs.declared.item.Item.{Item}
 use Rattle.lei_records.specs.declared.item.Readied.{Readied}
 use Rattle.lei_records.specs.declared.view.CellKey.{CellKey}
@@ -9,10 +8,10 @@ use Rattle.lei_records.specs.declared.view.RecCell.{RecCell}
 use Rattle.lei_records.specs.declared.view.RowKey.{RowKey}
 use Rattle.lei_records.specs.declared.view.Seen.{Seen}
 use Rattle.lei_records.specs.Cells.{Cells, lei_in, successor_in, successors_in, is_live, akey}
-use Rattle.lei_records.specs.Checks.{FailedCheck, fails_if, first_failing}
+use Rattle.lei_records.specs.Checks.{FailedCheck, first_failing}
 use Rattle.lei_records.specs.Rows.{Row}
 use Rattle.authority_rules.specs.Taken.{taken}
-use Rattle.successor_rules.specs.Successors.{walk}
+use Rattle.successor_rules.specs.Successors.{spread, walk}
 use Rattle.relation_rules.specs.declared.checked.Checked.{Checked}
 use Rattle.relation_rules.specs.Checking.{check_exception, check_relation, check_walked, checked_of, on_seen, unless_failed}
 use Rattle.register_judge.specs.declared.judge.ItemOutcome.{ItemOutcome}
@@ -51,10 +50,19 @@ check_first cells item None = check_key cells item
 check_first cells item (Some successor) =
     on_seen (cells.record_cell successor) (CellKey.Rec successor) (check_named cells item successor)
 
--- The same by the second rules and all successors.
+-- C16 of successors one after the other, and what comes then where all of them are held.
+abbrev pub check_each : Cells → List Lei → Checked → Checked
+check_each cells [] next = next
+check_each cells (successor ∷ successors) next =
+    on_seen (cells.record_cell successor) (CellKey.Rec successor)
+    (λ found. unless_failed (first_failing (c16 found ∷ [])) (check_each cells successors next))
+
+-- C16 to C19 by the second rules and all successors: an item without one has nothing to ask of it.
 abbrev pub check_levels : Cells → Row → List Lei → Checked
 check_levels cells item [] = check_key cells item
-check_levels cells item (successor ∷ successors) = checked_of (first_failing (fails_if true 16 Detail.None ∷ []))
+check_levels cells item (successor ∷ successors) =
+    check_each cells (successor ∷ successors)
+    (check_walked 17 18 (spread cells (lei_in item) (successor ∷ successors)) (check_key cells item))
 
 -- The same by the rules.
 abbrev pub check_successors : Rules → Cells → Row → Checked

@@ -1,9 +1,10 @@
 //! The checks of a record from C10 to C19, over any view.
-ghost use Rattle.std.specs.Prelude.{◌≡◌, Some, IfOk};
+ghost use Rattle.std.specs.Prelude.{◌≡◌, Some, IfOk, unwrap_or};
 ghost use Rattle.lei_records.specs.Cells.{akey, lei_in, successor_in, successors_in};
 ghost use Rattle.register_judge.specs.Judging;
 ghost use Rattle.relation_rules.specs.Checking;
-ghost use Rattle.successor_rules.specs.Successors;
+ghost use Rattle.relation_rules.specs.declared.checked.Checked.{Checked as Outcome};
+ghost use Rattle.successor_rules.specs.Successors as OverViews;
 
 use crate::checks::held_check;
 use crate::sitting::Sitting;
@@ -13,10 +14,10 @@ use lei_outside::{NoMemory, Text};
 use lei_records::numbers::{
     AUTHORITY_KEY_TAKEN, SUCCESSOR_CHAIN_LONG, SUCCESSOR_CYCLE, SUCCESSOR_UNKNOWN,
 };
-use lei_records::{CellKey, RecCell, Record, Rules, Seen, View};
+use lei_records::{CellKey, RecCell, Record, Rules, Seen, Successors, View};
 use relation_rules::{Checked, failed, telling};
 use std::alloc::Global;
-use successor_rules::{Walked, walk};
+use successor_rules::{Walked, spread, walk};
 
 /// From C10 on, with the record that is held under the item's LEI. The key of a cell that is lacking takes memory.
 pub fn check_with_held<V: View>(
@@ -54,10 +55,60 @@ fn check_levels<V: View>(alloc: Global, view: &V, item: &Record) -> Result<Check
     ensures { IfOk result (λ checked. checked
         ≡ Judging.check_levels (V.cells view.now) item.now (successors_in item.now)) }
 {
-    if item.successors().is_empty() {
+    let successors = item.successors();
+    if successors.is_empty() {
         return check_key(alloc, view, item);
     }
-    Ok(failed(SUCCESSOR_UNKNOWN))
+    match first_unheld(view, successors.as_slice()) {
+        Some(checked) => Ok(checked),
+        None => check_spread(alloc, view, item, &successors),
+    }
+}
+
+// What C16 comes to for the first of these that isn't held, if there is one.
+fn first_unheld<V: View>(view: &V, leis: &[Lei]) -> Option<Checked>
+    ensures { (next : Outcome) → Judging.check_each (V.cells view.now) leis.now next ≡ unwrap_or result next }
+{
+    for lei in leis {
+        match view.record_cell(lei) {
+            Seen::Held(_) => {}
+            Seen::Empty => return Some(failed(SUCCESSOR_UNKNOWN)),
+            Seen::Missing => return Some(Checked::Missing(CellKey::Rec(*lei))),
+        }
+    }
+    None
+}
+
+// From C17 on by the second rules, of an item whose successors are held.
+fn check_spread<V: View>(
+    alloc: Global,
+    view: &V,
+    item: &Record,
+    successors: &Successors,
+) -> Result<Checked, NoMemory>
+    ensures { IfOk result (λ checked. checked ≡ Checking.check_walked 17 18
+        (OverViews.spread (V.cells view.now) (lei_in item.now) successors.now)
+        (Judging.check_key (V.cells view.now) item.now)) }
+{
+    by_walk(alloc, view, item, spread(view, &item.lei(), successors))
+}
+
+// By what becomes of the walk of an item's successors.
+fn by_walk<V: View>(
+    alloc: Global,
+    view: &V,
+    item: &Record,
+    walked: Walked,
+) -> Result<Checked, NoMemory>
+    ensures { IfOk result (λ checked. checked
+        ≡ Checking.check_walked 17 18 walked (Judging.check_key (V.cells view.now) item.now)) }
+{
+    match walked {
+        Walked::Meets => Ok(failed(SUCCESSOR_CYCLE)),
+        Walked::Long => Ok(failed(SUCCESSOR_CHAIN_LONG)),
+        Walked::Ends => check_key(alloc, view, item),
+        Walked::Missing(key) => Ok(Checked::Missing(key)),
+    }
 }
 
 // From C16 on, of an item with this successor.
@@ -85,15 +136,10 @@ fn check_walk<V: View>(
     successor: &Lei,
 ) -> Result<Checked, NoMemory>
     ensures { IfOk result (λ checked. checked ≡ Checking.check_walked 17 18
-        (Successors.walk (V.cells view.now) (lei_in item.now) successor.now)
+        (OverViews.walk (V.cells view.now) (lei_in item.now) successor.now)
         (Judging.check_key (V.cells view.now) item.now)) }
 {
-    match walk(view, successor, &item.lei()) {
-        Walked::Meets => Ok(failed(SUCCESSOR_CYCLE)),
-        Walked::Long => Ok(failed(SUCCESSOR_CHAIN_LONG)),
-        Walked::Ends => check_key(alloc, view, item),
-        Walked::Missing(key) => Ok(Checked::Missing(key)),
-    }
+    by_walk(alloc, view, item, walk(view, successor, &item.lei()))
 }
 
 // C19. A record that isn't live doesn't ask for its key.

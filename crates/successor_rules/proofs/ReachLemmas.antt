@@ -14,6 +14,7 @@ use Rattle.successor_rules.specs.Chains.{Nexts}
 use Rattle.successor_rules.specs.Levels.{SeenNexts, each_once, first_lacking, held_nexts, is_back, is_wide, known_nexts, lacks_nexts, levels, next_level, onward, others, reached, spread_out, spread_over}
 use Rattle.successor_rules.specs.Walks.{unless_lacking}
 use Rattle.successor_rules.proofs.AgreeLemmas.{find-none, find-some, named_there, others-same-all, spread-same, text_laws}
+use Rattle.successor_rules.proofs.ViewLemmas.{spread-whole}
 use Rattle.successor_rules.proofs.LevelLemmas.{Within, has, has-append, has-at, next-has, once-distinct, once-has, own_text, same_text}
 use Rattle.successor_rules.proofs.RiseLemmas.{Begins, begins_length, begins_on, gathered, gathered-begins, others-begin, others-next, others-rise, others-stand}
 
@@ -267,3 +268,44 @@ module _ (answers more : SeenNexts) (key : List ℕ → CellKey) (own : List ℕ
               let here = same x (or_left (bytes_eq x x) (has xs x) (own_text x)) in
               let rest = find-same xs (λ y at. same y (or_right (bytes_eq y x) (has xs y) at)) in
               λ i. cond (here i) (Some x) (rest i)
+
+-- ---- a cell that a view reports as lacking
+
+-- nothing in place of what is lacking
+patch : Seen (List (List ℕ)) → Seen (List (List ℕ))
+patch (Seen.Held leis) = Seen.Held leis
+patch Seen.Empty = Seen.Empty
+patch Seen.Missing = Seen.Empty
+
+patch-near : (s : Seen (List (List ℕ))) → (lacks_nexts s ≡ true) ⊎ (s ≡ patch s)
+unfolding patch
+patch-near (Seen.Held leis) = inr refl
+patch-near Seen.Empty = inr refl
+patch-near Seen.Missing = inl refl
+
+patch-known : (s : Seen (List (List ℕ))) → lacks_nexts (patch s) ≡ false
+unfolding patch
+patch-known (Seen.Held leis) = refl
+patch-known Seen.Empty = refl
+patch-known Seen.Missing = refl
+
+never_missing : (wide back : Bool) (key : CellKey) → cond wide Walked.Long (cond back Walked.Meets Walked.Ends) ≡ Walked.Missing key → ⊥
+never_missing true back key is = cc
+never_missing false true key is = cc
+never_missing false false key is = cc
+
+-- it is that of an LEI that is reached
+pub spread-lacks : (answers : SeenNexts) (key : List ℕ → CellKey) (own : List ℕ) (first : List (List ℕ)) (cell : CellKey)
+    → spread_over answers key own first ≡ Walked.Missing cell
+    → (lei : List ℕ) × (lacks_nexts (answers lei) ≡ true) × (has (reached (known_nexts answers) own first) lei ≡ true) × (key lei ≡ cell)
+spread-lacks answers key own first cell is =
+    let whole : SeenNexts = λ lei. patch (answers lei) in
+    elim (near-tells answers whole key own first (λ lei at. patch-near (answers lei))) [
+      | inl same ↦
+          let ended = spread-whole whole key own first (λ lei. patch-known (answers lei)) in
+          absurd (never_missing (is_wide (known_nexts whole) own first) (is_back (known_nexts whole) own first) cell (sym ended ∙ (sym same ∙ is)))
+      | inr lacks ↦
+          let found : Walked.Missing (key lacks.0) ≡ Walked.Missing cell = sym lacks.3 ∙ is in
+          let same : key lacks.0 ≡ cell = cc in
+          (lacks.0, lacks.1, lacks.2, same)
+    ]
