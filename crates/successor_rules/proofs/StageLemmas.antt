@@ -12,9 +12,12 @@ use Rattle.successor_rules.specs.declared.walks.Walked.{Walked}
 use Rattle.successor_rules.specs.Chains.{Nexts}
 use Rattle.successor_rules.specs.Levels.{SeenNexts, each_once, first_lacking, held_nexts, is_back, is_wide, known_nexts, lacks_nexts, levels, next_level, onward, others, spread_over}
 use Rattle.successor_rules.specs.Walks.{unless_lacking}
-use Rattle.successor_rules.proofs.FoundLemmas.{joined}
 use Rattle.successor_rules.proofs.LevelLemmas.{has, has-append, has-at, next-append, once-append, once-has}
 use Rattle.successor_rules.proofs.RiseLemmas.{Begins, begins_both, begins_length, begins_on, gathered, gathered-begins, levels-has, others-begin, others-next}
+
+-- a list with the LEIs of another that it lacks
+abbrev pub joined : List ℕ → List (List ℕ) → List (List ℕ) → List (List ℕ)
+joined own found leis = found ++ each_once (own ∷ found) leis
 
 -- an LEI that was gathered isn't the own one
 not_own : (own : List ℕ) (leis : List (List ℕ)) (lei : List ℕ) → has (each_once (own ∷ []) leis) lei ≡ true → bytes_eq lei own ≡ false
