@@ -1,2 +1,3 @@
 pub mod Octets
 pub mod OctetsStay
+pub mod Webs

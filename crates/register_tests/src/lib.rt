@@ -20,6 +20,8 @@ mod halls;
 #[cfg(test)]
 mod http;
 #[cfg(test)]
+mod levels;
+#[cfg(test)]
 mod limits;
 #[cfg(test)]
 mod moments;

@@ -1,7 +1,6 @@
 pub mod AgreeLemmas
 pub mod ChainLemmas
 pub mod ClearLemmas
-pub mod FoundLemmas
 pub mod LevelLemmas
 pub mod RiseLemmas
 pub mod SingleLemmas

@@ -12,15 +12,24 @@ use Rattle.successor_rules.specs.declared.walks.Walked.{Walked}
 use Rattle.successor_rules.specs.Chains.{Nexts}
 use Rattle.successor_rules.specs.Levels.{SeenNexts, each_once, first_lacking, held_nexts, is_back, is_wide, known_nexts, lacks_nexts, levels, next_level, onward, others, reached, spread_over}
 use Rattle.successor_rules.specs.Walks.{unless_lacking}
-use Rattle.successor_rules.proofs.FoundLemmas.{joined}
 use Rattle.successor_rules.proofs.LevelLemmas.{has, has-append, has-at, next-append, once-append, once-has}
 use Rattle.successor_rules.proofs.RiseLemmas.{Begins, begins_both, begins_length, begins_on, gathered, gathered-begins, levels-has, others-begin, others-next}
+
+-- a list with the LEIs of another that it lacks
+abbrev pub joined : List ℕ → List (List ℕ) → List (List ℕ) → List (List ℕ)
+joined own found leis = found ++ each_once (own ∷ found) leis
 
 -- an LEI that was gathered isn't the own one
 not_own : (own : List ℕ) (leis : List (List ℕ)) (lei : List ℕ) → has (each_once (own ∷ []) leis) lei ≡ true → bytes_eq lei own ≡ false
 not_own own leis lei at =
     let parts = and_parts (has leis lei) (not (has (own ∷ []) lei)) (sym (once-has (own ∷ []) leis lei) ∙ at) in
     sym (or-false (bytes_eq lei own)) ∙ not-true (has (own ∷ []) lei) parts.1
+
+-- the array that is full has the first of all
+pub cut_full : (own : List ℕ) (now total leis : List (List ℕ)) (i : ℕ) → joined own now (drop i leis) ≡ total → length now ≡ 200 → now ≡ take 200 total
+cut_full own now total leis i so_far full =
+    sym (ap (take 200) (sym so_far)
+    ∙ (take-append-le 200 now (each_once (own ∷ now) (drop i leis)) (omega (arith, full)) ∙ take_all 200 now (omega (arith, full))))
 
 -- with more joined a list has the next place too
 pub joined-longer : (own : List ℕ) (found leis now : List (List ℕ)) (i : ℕ) → now ≡ joined own found leis → i < length found → i + 1 ≤ length now

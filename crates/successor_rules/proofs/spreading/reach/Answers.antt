@@ -1,7 +1,6 @@
 use Rattle.std.proofs.Common.{rules, ◌≡◌, ◌<◌, ◌≤◌, [], length, get_or, arith, take, sym, ◌∙◌}
 use Rattle.successor_rules.specs.Levels.{held_nexts, known_nexts}
-use Rattle.successor_rules.proofs.FoundLemmas.{joined}
-use Rattle.successor_rules.proofs.StageLemmas.{begun, cut_at_once, cut_then, joined-longer, one_asked, reached_all}
+use Rattle.successor_rules.proofs.StageLemmas.{begun, joined, cut_at_once, cut_then, joined-longer, one_asked, reached_all}
 use Rattle.successor_rules.proofs.spreading.reach.Goals as goal
 
 -- the first level has too many

@@ -3,9 +3,8 @@ use Rattle.std.specs.Option.{option_or}
 use Rattle.successor_rules.specs.declared.walks.Walked.{Walked}
 use Rattle.successor_rules.specs.Levels.{held_nexts, lacks_nexts}
 use Rattle.successor_rules.specs.Walks.{unless_lacking}
-use Rattle.successor_rules.proofs.FoundLemmas.{joined}
 use Rattle.successor_rules.proofs.LevelLemmas.{has}
-use Rattle.successor_rules.proofs.StageLemmas.{asked_all, asked_none, asked_one, asked_too_many, first_too_many}
+use Rattle.successor_rules.proofs.StageLemmas.{asked_all, asked_none, asked_one, asked_too_many, first_too_many, joined}
 use Rattle.successor_rules.proofs.spreading.spread_from.Goals as goal
 use Rattle.successor_rules.proofs.spreading.spread_from.Goals.{then-is_met, else-is_met}
 

@@ -1,5 +1,5 @@
 use Rattle.std.proofs.Common.{◌∙◌}
-use Rattle.successor_rules.proofs.FoundLemmas.{cut_full}
+use Rattle.successor_rules.proofs.StageLemmas.{cut_full}
 use Rattle.successor_rules.proofs.found.Found.add_all.Goals as goal
 
 pub returns-then-not-add-clause-cut : goal.returns-then-not-add-clause-cut
