@@ -80,8 +80,8 @@ abbrev pub request_in : KeptEntry → Option Request
 request_in e = if is_accreditation e then accreditation_in e
     else (if is_upload e then upload_in e else (if is_publication e then publication_in e else None))
 
--- The request that a stored entry was taken for, and none where its values are those of no request, its moment isn't one
--- or its rules may not follow those of the entry before it.
+-- The request that a stored entry was taken for. None where its values are those of no request, its moment isn't one, or
+-- its rules may not follow those of the entry before it.
 unfoldable pub asked_by : History → KeptEntry → Option Request
 asked_by before e = if is_moment e.moment && may_follow before e.rules then request_in e else None
 
