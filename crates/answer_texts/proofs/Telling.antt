@@ -93,12 +93,12 @@ last-numbered number (Some name) check numbered is =
     let N : FailedCheck → Type 0 = λ c. IsNumber c.number in
     subst N same numbered
 
-fields-numbered : (kind : Kind) (pairs : List (Text × Text)) (check : FailedCheck) → failed_check kind pairs ≡ Some check → IsNumber check.number
+fields-numbered : (rules : Rules) (kind : Kind) (pairs : List (Text × Text)) (check : FailedCheck) → failed_check rules kind pairs ≡ Some check → IsNumber check.number
 unfolding failed_check
-fields-numbered kind pairs check is =
+fields-numbered rules kind pairs check is =
     field-numbered 1 (unknown_name kind pairs) _ check refl
-    (field-numbered 2 (missing_field kind pairs) _ check refl
-    (field-numbered 3 (misshapen_field kind pairs) _ check refl (last-numbered 4 (miscoded_field kind pairs) check refl))) is
+    (field-numbered 2 (missing_field rules kind pairs) _ check refl
+    (field-numbered 3 (misshapen_field rules kind pairs) _ check refl (last-numbered 4 (miscoded_field kind pairs) check refl))) is
 
 -- ---- verdicts
 
@@ -111,21 +111,21 @@ of_item table sitting item =
     let findings = item_checks table sitting item in
     of_failed (first_failing findings) (λ check is. first-numbered findings check (item-numbered table sitting item) is)
 
-of_readied : (table : Table) (sitting : Sitting) (kind : Kind) (pairs : List (Text × Text)) (failed : Option FailedCheck) → failed_check kind pairs ≡ failed
+of_readied : (rules : Rules) (table : Table) (sitting : Sitting) (kind : Kind) (pairs : List (Text × Text)) (failed : Option FailedCheck) → failed_check rules kind pairs ≡ failed
     → IsTold (verdict table sitting (readied kind pairs failed))
-of_readied table sitting kind pairs None is = of_item table sitting (item_of kind (is_withdrawal pairs) (row_of kind pairs))
-of_readied table sitting kind pairs (Some check) is = fields-numbered kind pairs check is
+of_readied rules table sitting kind pairs None is = of_item table sitting (item_of kind (is_withdrawal pairs) (row_of kind pairs))
+of_readied rules table sitting kind pairs (Some check) is = fields-numbered rules kind pairs check is
 
-of_raw : (table : Table) (sitting : Sitting) (raw : RawItem) → IsTold (verdict table sitting (ready raw))
-of_raw table sitting (RawItem.Record pairs) = of_readied table sitting Kind.Record pairs (failed_check Kind.Record pairs) refl
-of_raw table sitting (RawItem.Relation pairs) = of_readied table sitting Kind.Relation pairs (failed_check Kind.Relation pairs) refl
-of_raw table sitting (RawItem.Exception pairs) = of_readied table sitting Kind.Exception pairs (failed_check Kind.Exception pairs) refl
+of_raw : (rules : Rules) (table : Table) (sitting : Sitting) (raw : RawItem) → IsTold (verdict table sitting (ready rules raw))
+of_raw rules table sitting (RawItem.Record pairs) = of_readied rules table sitting Kind.Record pairs (failed_check rules Kind.Record pairs) refl
+of_raw rules table sitting (RawItem.Relation pairs) = of_readied rules table sitting Kind.Relation pairs (failed_check rules Kind.Relation pairs) refl
+of_raw rules table sitting (RawItem.Exception pairs) = of_readied rules table sitting Kind.Exception pairs (failed_check rules Kind.Exception pairs) refl
 
-pub all_told : (table : Table) (sitting : Sitting) (raws : List RawItem) → All IsTold (take table sitting (map ready raws)).verdicts
-all_told table sitting [] = All-nil IsTold
-all_told table sitting (raw ∷ raws) =
-    let given = verdict table sitting (ready raw) in
-    All-cons IsTold given _ (of_raw table sitting raw) (all_told (put_all (writes_of given (ready raw)) table) sitting raws)
+pub all_told : (rules : Rules) (table : Table) (sitting : Sitting) (raws : List RawItem) → All IsTold (take table sitting (map (ready rules) raws)).verdicts
+all_told rules table sitting [] = All-nil IsTold
+all_told rules table sitting (raw ∷ raws) =
+    let given = verdict table sitting (ready rules raw) in
+    All-cons IsTold given _ (of_raw rules table sitting raw) (all_told rules (put_all (writes_of given (ready rules raw)) table) sitting raws)
 
 -- a text that there is
 pub told_text : (told : Option Text) (text bytes : Text) → told ≡ Some text → IfSome told (λ written. bytes ≡ written) → bytes ≡ unwrap_or told []

@@ -3,12 +3,14 @@ ghost use Rattle.std.specs.Prelude.{List, All, map};
 ghost use Rattle.lei_records.specs.Items.{ready};
 ghost use Rattle.lei_records.specs.Tables.{Table};
 ghost use Rattle.lei_records.specs.declared.item.RawItem.{RawItem};
+ghost use Rattle.lei_records.specs.declared.rules.Rules.{Rules};
 ghost use Rattle.register_judge.specs.declared.sitting.Sitting.{Sitting};
 ghost use Rattle.register_judge.specs.Taking.{take};
 ghost use Rattle.answer_texts.specs.Answers.{IsTold};
 
-/// Each check that is told of an item of an upload has a number that a check has, and so a text.
+/// Each check that is told of an item of an upload, by whichever rules it was read, has a number that a check has, and
+/// so a text.
 pub fn verdicts_are_told()
-    ensures { (table : Table) (sitting : Sitting) (raws : List RawItem) →
-        All IsTold (take table sitting (map ready raws)).verdicts }
+    ensures { (rules : Rules) (table : Table) (sitting : Sitting) (raws : List RawItem) →
+        All IsTold (take table sitting (map (ready rules) raws)).verdicts }
 {}

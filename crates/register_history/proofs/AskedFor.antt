@@ -9,7 +9,7 @@ use Rattle.lei_outside.specs.declared.entry.KeptEntry.{KeptEntry}
 use Rattle.upload_format.specs.Bodies.{upload}
 use Rattle.register_words.specs.declared.malformed.Malformed.{Malformed}
 use Rattle.lei_records.specs.declared.item.RawItem.{RawItem}
-use Rattle.upload_ledger.specs.History.{History, accredited, ahead, fresh, number_taken, Place, place, published, repeat_of, stamp, unknown_issuer}
+use Rattle.upload_ledger.specs.History.{History, accredited, ahead, fresh, number_taken, Place, place, published, repeat_of, unknown_issuer}
 use Rattle.register_words.specs.declared.limits.Limits.{Limits}
 use Rattle.register_history.specs.Damage.{accreditation_in, asked_by, entry_line, is_lei, is_number, outcome_text, publication_in, replayed, request_in, request_text, upload_in}
 use Rattle.register_words.specs.declared.reply.Reply.{Reply}
@@ -18,12 +18,13 @@ use Rattle.register_words.specs.declared.reply.Refusal.TheVariants.{LedgerFull, 
 use Rattle.register_words.specs.declared.request.Call.{Call}
 use Rattle.register_words.specs.declared.request.Request.{Request}
 use Rattle.register_words.specs.declared.request.Request.TheVariants.{Accredit, Publish, Upload}
-use Rattle.register_history.specs.Legal.{IsNext, request_of}
+use Rattle.register_history.specs.Legal.{IsNext, may_follow, request_of}
 use Rattle.register_words.specs.Requests.{IsRequest, IsUploadNumber}
-use Rattle.register_history.specs.Replies.{accredit_outcome, accreditation, adds, body_outcome, is_full, is_too_much, outcome, outcome_at, place_outcome, stays, taken_upload, upload_outcome}
+use Rattle.register_history.specs.Replies.{accredit_outcome, accreditation, adds, body_outcome, is_full, is_too_much, outcome_at, outcome_by, place_outcome, stays, taken_upload, terms_by, upload_outcome}
 use Rattle.register_history.specs.State.{OfficeState, office_of}
 use Rattle.register_words.specs.Refusals.{reply_words}
 use Rattle.register_history.proofs.Histories.{publish_adds}
+use Rattle.register_history.specs.declared.terms.EntryTerms.{EntryTerms}
 
 -- ---- the number of an entry that is added
 
@@ -32,32 +33,32 @@ unless_full true refused a e is = cc
 unless_full false refused a e is = cc
 
 -- an accreditation that is added
-pub accredit_adds : (office : OfficeState) (issuer : List ℕ) (moment : ℤ) (found : Option (List ℕ)) (e : KeptEntry) → accredit_outcome office issuer moment found ≡ adds e
-    → accreditation office.history issuer moment ≡ e
-accredit_adds office issuer moment None e is = unless_full (is_full office) (Words LedgerFull) (accreditation office.history issuer moment) e is
-accredit_adds office issuer moment (Some text) e is = cc
+pub accredit_adds : (office : OfficeState) (issuer : List ℕ) (terms : EntryTerms) (found : Option (List ℕ)) (e : KeptEntry) → accredit_outcome office issuer terms found ≡ adds e
+    → accreditation office.history issuer terms ≡ e
+accredit_adds office issuer terms None e is = unless_full (is_full office) (Words LedgerFull) (accreditation office.history issuer terms) e is
+accredit_adds office issuer terms (Some text) e is = cc
 
-body_adds : (office : OfficeState) (call : Call) (moment : ℤ) (read : Result (List RawItem) Malformed) (e : KeptEntry) → body_outcome office call moment read ≡ adds e → e.seq ≡ length office.history + 1
-body_adds office call moment (Ok raws) e is =
-    let same = unless_full (is_full office || is_too_much office call.body) (Words LedgerFull) (taken_upload office call moment raws) e is in
+body_adds : (office : OfficeState) (call : Call) (terms : EntryTerms) (read : Result (List RawItem) Malformed) (e : KeptEntry) → body_outcome office call terms read ≡ adds e → e.seq ≡ length office.history + 1
+body_adds office call terms (Ok raws) e is =
+    let same = unless_full (is_full office || is_too_much office call.body) (Words LedgerFull) (taken_upload office call terms raws) e is in
     ap (λ a. a.seq) (sym same)
-body_adds office call moment (Err fault) e is = cc
+body_adds office call terms (Err fault) e is = cc
 
-place_adds : (office : OfficeState) (call : Call) (moment : ℤ) (at : Place) (e : KeptEntry) → place_outcome office call moment at ≡ adds e → e.seq ≡ length office.history + 1
-place_adds office call moment unknown_issuer e is = cc
-place_adds office call moment (repeat_of answer) e is = cc
-place_adds office call moment number_taken e is = cc
-place_adds office call moment (ahead next) e is = cc
-place_adds office call moment fresh e is = body_adds office call moment (upload call.body) e is
+place_adds : (office : OfficeState) (call : Call) (terms : EntryTerms) (at : Place) (e : KeptEntry) → place_outcome office call terms at ≡ adds e → e.seq ≡ length office.history + 1
+place_adds office call terms unknown_issuer e is = cc
+place_adds office call terms (repeat_of answer) e is = cc
+place_adds office call terms number_taken e is = cc
+place_adds office call terms (ahead next) e is = cc
+place_adds office call terms fresh e is = body_adds office call terms (upload call.body) e is
 
-short_adds : (long : Bool) (office : OfficeState) (call : Call) (moment : ℤ) (at : Place) (e : KeptEntry) → cond long (stays (Words TooLong)) (place_outcome office call moment at) ≡ adds e
+short_adds : (long : Bool) (office : OfficeState) (call : Call) (terms : EntryTerms) (at : Place) (e : KeptEntry) → cond long (stays (Words TooLong)) (place_outcome office call terms at) ≡ adds e
     → e.seq ≡ length office.history + 1
-short_adds true office call moment at e is = cc
-short_adds false office call moment at e is = place_adds office call moment at e is
+short_adds true office call terms at e is = cc
+short_adds false office call terms at e is = place_adds office call terms at e is
 
-upload_adds : (office : OfficeState) (call : Call) (moment : ℤ) (e : KeptEntry) → upload_outcome office call moment ≡ adds e → e.seq ≡ length office.history + 1
+upload_adds : (office : OfficeState) (call : Call) (terms : EntryTerms) (e : KeptEntry) → upload_outcome office call terms ≡ adds e → e.seq ≡ length office.history + 1
 unfolding upload_outcome
-upload_adds office call moment e is = short_adds (nat_lt office.limits.body (length call.body)) office call moment (place office.history call.office call.number call.body) e is
+upload_adds office call terms e is = short_adds (nat_lt office.limits.body (length call.body)) office call terms (place office.history call.office call.number call.body) e is
 
 -- ---- requests of entries
 
@@ -86,14 +87,14 @@ next-seq limits before e next =
     let office = office_of limits before in
     elim (of_kind e next.0 next.1) [
       | inl a ↦
-          let added : outcome_at office (Accredit e.office) (stamp before e.moment) ≡ adds e = ap (λ r. outcome office r e.moment) (sym a.1) ∙ next.4 in
-          ap (λ x. x.seq) (sym (accredit_adds office e.office (stamp before e.moment) (accredited before e.office) e added))
+          let added : outcome_at office (Accredit e.office) (terms_by e.rules before e.moment) ≡ adds e = ap (λ r. outcome_by e.rules office r e.moment) (sym a.1) ∙ next.5 in
+          ap (λ x. x.seq) (sym (accredit_adds office e.office (terms_by e.rules before e.moment) (accredited before e.office) e added))
       | inr (inl u) ↦
-          let added : outcome_at office (Upload (call_of e)) (stamp before e.moment) ≡ adds e = ap (λ r. outcome office r e.moment) (sym u.2) ∙ next.4 in
-          upload_adds office (call_of e) (stamp before e.moment) e added
+          let added : outcome_at office (Upload (call_of e)) (terms_by e.rules before e.moment) ≡ adds e = ap (λ r. outcome_by e.rules office r e.moment) (sym u.2) ∙ next.5 in
+          upload_adds office (call_of e) (terms_by e.rules before e.moment) e added
       | inr (inr p) ↦
-          let added : outcome_at office (Publish e.number) (stamp before e.moment) ≡ adds e = ap (λ r. outcome office r e.moment) (sym p.3) ∙ next.4 in
-          ap (λ x. x.seq) (sym (publish_adds office e.number (stamp before e.moment) (published before e.number) e added).is)
+          let added : outcome_at office (Publish e.number) (terms_by e.rules before e.moment) ≡ adds e = ap (λ r. outcome_by e.rules office r e.moment) (sym p.3) ∙ next.5 in
+          ap (λ x. x.seq) (sym (publish_adds office e.number (terms_by e.rules before e.moment) (published before e.number) e added).is)
     ]
 
 lei_is : (text : List ℕ) → IsValid text → is_lei text ≡ true
@@ -109,15 +110,15 @@ moment_is : (seconds : ℤ) → IsMoment seconds → is_moment seconds ≡ true
 moment_is seconds is = grind (arith, ints)
 
 -- what is next was taken for the request that is read of it
-pub asked-next : (office : OfficeState) (e : KeptEntry) (next : IsNext office e) → asked_by e ≡ Some next.0
+pub asked-next : (office : OfficeState) (e : KeptEntry) (next : IsNext office e) → asked_by office.history e ≡ Some next.0
 unfolding asked_by
 asked-next office e next =
     let of_moment = moment_is e.moment next.3 in
-    rw of_moment (elim (of_kind e next.0 next.1) [
+    rw (of_moment, next.4) (elim (of_kind e next.0 next.1) [
       | inl a ↦
           let asked : IsValid e.office = subst IsRequest a.1 next.2 in
-          let added : outcome_at office (Accredit e.office) (stamp office.history e.moment) ≡ adds e = ap (λ r. outcome office r e.moment) (sym a.1) ∙ next.4 in
-          let made = accredit_adds office e.office (stamp office.history e.moment) (accredited office.history e.office) e added in
+          let added : outcome_at office (Accredit e.office) (terms_by e.rules office.history e.moment) ≡ adds e = ap (λ r. outcome_by e.rules office r e.moment) (sym a.1) ∙ next.5 in
+          let made = accredit_adds office e.office (terms_by e.rules office.history e.moment) (accredited office.history e.office) e added in
           let none : e.number ≡ 0 = ap (λ x. x.number) (sym made) in
           let empty : e.body ≡ [] = ap (λ x. x.body) (sym made) in
           rw (a.0, lei_is e.office asked, none, empty) (ap Some (sym a.1))
@@ -126,8 +127,8 @@ asked-next office e next =
           rw (u.0, u.1, lei_is e.office asked.0, number_is e.number asked.1) (ap Some (sym u.2))
       | inr (inr p) ↦
           let asked : IsUploadNumber e.number = subst IsRequest p.3 next.2 in
-          let added : outcome_at office (Publish e.number) (stamp office.history e.moment) ≡ adds e = ap (λ r. outcome office r e.moment) (sym p.3) ∙ next.4 in
-          let made = (publish_adds office e.number (stamp office.history e.moment) (published office.history e.number) e added).is in
+          let added : outcome_at office (Publish e.number) (terms_by e.rules office.history e.moment) ≡ adds e = ap (λ r. outcome_by e.rules office r e.moment) (sym p.3) ∙ next.5 in
+          let made = (publish_adds office e.number (terms_by e.rules office.history e.moment) (published office.history e.number) e added).is in
           let none : e.office ≡ [] = ap (λ x. x.office) (sym made) in
           let empty : e.body ≡ [] = ap (λ x. x.body) (sym made) in
           rw (p.0, p.1, p.2, number_is e.number asked, none, empty) (ap Some (sym p.3))
@@ -135,9 +136,9 @@ asked-next office e next =
 
 -- ---- what a replay makes
 
-pub asked-request : (e : KeptEntry) (request : Request) → asked_by e ≡ Some request → request_of e ≡ Some request
+pub asked-request : (before : History) (e : KeptEntry) (request : Request) → asked_by before e ≡ Some request → request_of e ≡ Some request
 unfolding asked_by
-asked-request e request is = by_moment (is_moment e.moment) is
+asked-request before e request is = by_moment (is_moment e.moment && may_follow before e.rules) is
   where
     of_upload : (b : Bool) → cond b (Some (Upload (call_of e))) None ≡ Some request → Some (Upload (call_of e)) ≡ Some request
     of_upload true found = found
@@ -162,38 +163,55 @@ asked-request e request is = by_moment (is_moment e.moment) is
     by_moment true found = by_kind (e.kind == 1) (e.kind == 2) (e.kind == 3) found
     by_moment false found = cc
 
+-- its rules may follow those of the entry before it
+pub asked-follows : (before : History) (e : KeptEntry) (request : Request) → asked_by before e ≡ Some request → may_follow before e.rules ≡ true
+unfolding asked_by
+asked-follows before e request is = by_tests (is_moment e.moment) (may_follow before e.rules) is
+  where
+    by_tests : (at follows : Bool) → cond (at && follows) (request_in e) None ≡ Some request → follows ≡ true
+    by_tests true true found = refl
+    by_tests true false found = cc
+    by_tests false follows found = cc
+
 same_some : {X : Type 0} (x y : X) → Some x ≡ Some y → x ≡ y
 same_some x y is = cc
 
 -- an entry that is none of a request
-pub none-asked : (office : OfficeState) (e : KeptEntry) → asked_by e ≡ None → (IsNext office e → ⊥) × (codes "NOT_AN_ENTRY" ≡ replayed office e)
+pub none-asked : (office : OfficeState) (e : KeptEntry) → asked_by office.history e ≡ None → (IsNext office e → ⊥) × (codes "NOT_AN_ENTRY" ≡ replayed office e)
 none-asked office e none = (
   λ next. let bad : None ≡ Some next.0 = sym none ∙ asked-next office e next in cc,
-  ap (request_text office e.moment) (sym none),
+  ap (request_text office e) (sym none),
 )
 
 -- the request is answered, and adds nothing
-pub stays-differs : (office : OfficeState) (e : KeptEntry) (request : Request) (answered : Reply) → asked_by e ≡ Some request → outcome office request e.moment ≡ stays answered
+pub stays-differs : (office : OfficeState) (e : KeptEntry) (request : Request) (answered : Reply) → asked_by office.history e ≡ Some request → outcome_by e.rules office request e.moment ≡ stays answered
     → (IsNext office e → ⊥) × (reply_words answered ≡ replayed office e)
 stays-differs office e request answered asked is = (
   λ next.
       let same : request ≡ next.0 = same_some request next.0 (sym asked ∙ asked-next office e next) in
-      let bad : stays answered ≡ adds e = sym is ∙ (ap (λ r. outcome office r e.moment) same ∙ next.4) in cc,
-  ap outcome_text (sym is) ∙ ap (request_text office e.moment) (sym asked),
+      let bad : stays answered ≡ adds e = sym is ∙ (ap (λ r. outcome_by e.rules office r e.moment) same ∙ next.5) in cc,
+  ap outcome_text (sym is) ∙ ap (request_text office e) (sym asked),
 )
 
 -- it adds another entry
-pub adds-differs : (office : OfficeState) (e : KeptEntry) (request : Request) (made : KeptEntry) → asked_by e ≡ Some request → outcome office request e.moment ≡ adds made → (made ≡ e → ⊥)
+pub adds-differs : (office : OfficeState) (e : KeptEntry) (request : Request) (made : KeptEntry) → asked_by office.history e ≡ Some request → outcome_by e.rules office request e.moment ≡ adds made → (made ≡ e → ⊥)
     → (IsNext office e → ⊥) × (entry_line made ≡ replayed office e)
 adds-differs office e request made asked is other = (
   λ next.
       let same : request ≡ next.0 = same_some request next.0 (sym asked ∙ asked-next office e next) in
-      let both : adds made ≡ adds e = sym is ∙ (ap (λ r. outcome office r e.moment) same ∙ next.4) in
+      let both : adds made ≡ adds e = sym is ∙ (ap (λ r. outcome_by e.rules office r e.moment) same ∙ next.5) in
       other (let one : made ≡ e = cc in one),
-  ap outcome_text (sym is) ∙ ap (request_text office e.moment) (sym asked),
+  ap outcome_text (sym is) ∙ ap (request_text office e) (sym asked),
 )
 
 -- it adds this entry
-pub adds-next : (office : OfficeState) (e : KeptEntry) (request : Request) (made : KeptEntry) → asked_by e ≡ Some request → outcome office request e.moment ≡ adds made → made ≡ e
+pub adds-next : (office : OfficeState) (e : KeptEntry) (request : Request) (made : KeptEntry) → asked_by office.history e ≡ Some request → outcome_by e.rules office request e.moment ≡ adds made → made ≡ e
     → IsRequest request → IsMoment e.moment → IsNext office e
-adds-next office e request made asked is same of_request of_moment = (request, asked-request e request asked, of_request, of_moment, is ∙ ap adds same)
+adds-next office e request made asked is same of_request of_moment = (
+  request,
+  asked-request office.history e request asked,
+  of_request,
+  of_moment,
+  asked-follows office.history e request asked,
+  is ∙ ap adds same,
+)

@@ -1,5 +1,5 @@
 -- How what is answered to the request of an entry begins: never as the line of an entry does, by a digit.
-use Rattle.std.proofs.Common.{◌≡◌, ℕ, ◌+◌, ◌-◌, ◌<◌, ◌==◌, ◌||◌, ltb, leb, ℤ, Bool, true, false, cond, List, [], ◌∷◌, ◌++◌, length, filter, find, slice_get, bytes_eq, is_some, zero, suc, Option, Some, None, option_map, Result, Ok, Err, refl, sym, subst, append_assoc, append-nil, arith}
+use Rattle.std.proofs.Common.{◌≡◌, ℕ, ◌+◌, ◌-◌, ◌<◌, ◌==◌, ◌||◌, ltb, leb, Bool, true, false, cond, List, [], ◌∷◌, ◌++◌, length, filter, find, slice_get, bytes_eq, is_some, zero, suc, Option, Some, None, option_map, Result, Ok, Err, refl, sym, subst, append_assoc, append-nil, arith}
 use Rattle.std.specs.List.{AllByRecursion}
 use Rattle.lei_code.specs.Texts.{Body, Lei, Text}
 use Rattle.lei_outside.specs.declared.entry.KeptEntry.{KeptEntry}
@@ -7,7 +7,7 @@ use Rattle.upload_format.specs.Bodies.{upload}
 use Rattle.register_words.specs.declared.malformed.Malformed.{Malformed}
 use Rattle.register_words.specs.declared.malformed.Malformed.TheVariants.{NotJson, NotAnUpload, NoItems, TooManyItems}
 use Rattle.lei_records.specs.declared.item.RawItem.{RawItem}
-use Rattle.upload_ledger.specs.History.{History, Place, accredited, ahead, fresh, is_accreditation_of, is_publication, is_upload_of, last, next_number, number_taken, numbered, place, place_of_taken, publications, published, repeat_of, stamp, unknown_issuer, upload_at, uploads}
+use Rattle.upload_ledger.specs.History.{History, Place, accredited, ahead, fresh, is_accreditation_of, is_publication, is_upload_of, last, next_number, number_taken, numbered, place, place_of_taken, publications, published, repeat_of, unknown_issuer, upload_at, uploads}
 use Rattle.answer_texts.specs.Answers.{accreditation_text, publication_text, upload_text}
 use Rattle.register_words.specs.declared.limits.Limits.{Limits}
 use Rattle.register_words.specs.declared.reply.Refusal.{Refusal}
@@ -17,11 +17,12 @@ use Rattle.register_words.specs.declared.request.Call.{Call}
 use Rattle.register_words.specs.declared.request.Request.{Request}
 use Rattle.register_words.specs.declared.request.Request.TheVariants.{Accredit, Publish, Upload}
 use Rattle.register_history.specs.Legal.{IsNext, Legal, LegalAfter, request_of}
-use Rattle.register_history.specs.Replies.{Outcome, accredit_outcome, accreditation, adds, body_outcome, is_full, is_too_much, next_publication, outcome_at, place_outcome, publication_entry, publish_outcome, stays, taken_upload, upload_outcome}
+use Rattle.register_history.specs.Replies.{Outcome, accredit_outcome, accreditation, adds, body_outcome, is_full, is_too_much, next_publication, outcome_at, place_outcome, publication_entry, publish_outcome, stays, taken_upload, upload_outcome, terms_by}
 use Rattle.register_history.specs.State.{OfficeState, office_of}
 use Rattle.register_words.specs.Refusals.{refusal_words, reply_words}
 use Rattle.register_history.proofs.EntryLines.{first}
 use Rattle.register_history.proofs.KeptLemmas.{all-push}
+use Rattle.register_history.specs.declared.terms.EntryTerms.{EntryTerms}
 
 -- the text begins with a byte behind the digits
 abbrev pub IsApart : List ℕ → Type 0
@@ -125,81 +126,81 @@ IsTaken (Publish number) = Unit {0}
 IsTaken request = ⊥
 
 -- an entry that is made for a request
-pub record IsMade (office : OfficeState) (request : Request) (moment : ℤ) (e : KeptEntry) : Type 0 where
+pub record IsMade (office : OfficeState) (request : Request) (terms : EntryTerms) (e : KeptEntry) : Type 0 where
   pub seq : e.seq ≡ length office.history + 1
   pub own : IsFor request e
-  pub at_moment : e.moment ≡ moment
-  pub rules : e.rules < 10
+  pub at_moment : e.moment ≡ terms.moment
+  pub of_rules : e.rules ≡ terms.rules
   pub apart : IsApart e.answer
 
 -- what comes of a request: an entry that is made for it, or a reply
-abbrev pub Comes : OfficeState → Request → ℤ → Outcome → Type 0
-Comes office request moment (stays reply) = IsApart (reply_words reply)
-Comes office request moment (adds e) = IsMade office request moment e
+abbrev pub Comes : OfficeState → Request → EntryTerms → Outcome → Type 0
+Comes office request terms (stays reply) = IsApart (reply_words reply)
+Comes office request terms (adds e) = IsMade office request terms e
 
-accreditation-made : (office : OfficeState) (issuer : Lei) (moment : ℤ) → IsMade office (Accredit issuer) moment (accreditation office.history issuer moment)
+accreditation-made : (office : OfficeState) (issuer : Lei) (terms : EntryTerms) → IsMade office (Accredit issuer) terms (accreditation office.history issuer terms)
 unfolding accreditation_text
-accreditation-made office issuer moment = record { seq = refl; own = (refl, refl, refl, refl); at_moment = refl; rules = omega arith; apart = omega arith }
+accreditation-made office issuer terms = record { seq = refl; own = (refl, refl, refl, refl); at_moment = refl; of_rules = refl; apart = omega arith }
 
-accredit-comes : (office : OfficeState) (issuer : Lei) (moment : ℤ) (found : Option Text) → FoundApart found → Comes office (Accredit issuer) moment (accredit_outcome office issuer moment found)
-accredit-comes office issuer moment None apart =
-    elim (is_full office) as (λ b. Comes office (Accredit issuer) moment (cond b (stays (Words refusals.LedgerFull)) (adds (accreditation office.history issuer moment)))) [
+accredit-comes : (office : OfficeState) (issuer : Lei) (terms : EntryTerms) (found : Option Text) → FoundApart found → Comes office (Accredit issuer) terms (accredit_outcome office issuer terms found)
+accredit-comes office issuer terms None apart =
+    elim (is_full office) as (λ b. Comes office (Accredit issuer) terms (cond b (stays (Words refusals.LedgerFull)) (adds (accreditation office.history issuer terms)))) [
       | true ↦ refusal-apart refusals.LedgerFull
-      | false ↦ accreditation-made office issuer moment
+      | false ↦ accreditation-made office issuer terms
     ]
-accredit-comes office issuer moment (Some text) apart = apart
+accredit-comes office issuer terms (Some text) apart = apart
 
-upload-made : (office : OfficeState) (call : Call) (moment : ℤ) (raws : List RawItem) → IsMade office (Upload call) moment (taken_upload office call moment raws)
+upload-made : (office : OfficeState) (call : Call) (terms : EntryTerms) (raws : List RawItem) → IsMade office (Upload call) terms (taken_upload office call terms raws)
 unfolding upload_text
-upload-made office call moment raws = record { seq = refl; own = (refl, refl, refl, refl); at_moment = refl; rules = omega arith; apart = omega arith }
+upload-made office call terms raws = record { seq = refl; own = (refl, refl, refl, refl); at_moment = refl; of_rules = refl; apart = omega arith }
 
-body-comes : (office : OfficeState) (call : Call) (moment : ℤ) (read : Result (List RawItem) Malformed) → Comes office (Upload call) moment (body_outcome office call moment read)
-body-comes office call moment (Ok raws) =
-    elim (is_full office || is_too_much office call.body) as (λ b. Comes office (Upload call) moment (cond b (stays (Words refusals.LedgerFull)) (adds (taken_upload office call moment raws)))) [
+body-comes : (office : OfficeState) (call : Call) (terms : EntryTerms) (read : Result (List RawItem) Malformed) → Comes office (Upload call) terms (body_outcome office call terms read)
+body-comes office call terms (Ok raws) =
+    elim (is_full office || is_too_much office call.body) as (λ b. Comes office (Upload call) terms (cond b (stays (Words refusals.LedgerFull)) (adds (taken_upload office call terms raws)))) [
       | true ↦ refusal-apart refusals.LedgerFull
-      | false ↦ upload-made office call moment raws
+      | false ↦ upload-made office call terms raws
     ]
-body-comes office call moment (Err fault) = malformed-apart fault
+body-comes office call terms (Err fault) = malformed-apart fault
 
-place-comes : (office : OfficeState) (call : Call) (moment : ℤ) (at : Place) → PlaceApart at → Comes office (Upload call) moment (place_outcome office call moment at)
-place-comes office call moment unknown_issuer apart = refusal-apart refusals.IssuerUnknown
-place-comes office call moment (repeat_of answer) apart = apart
-place-comes office call moment number_taken apart = refusal-apart refusals.NumberTaken
-place-comes office call moment (ahead next) apart = refusal-apart (refusals.NumberAhead next)
-place-comes office call moment fresh apart = body-comes office call moment (upload call.body)
+place-comes : (office : OfficeState) (call : Call) (terms : EntryTerms) (at : Place) → PlaceApart at → Comes office (Upload call) terms (place_outcome office call terms at)
+place-comes office call terms unknown_issuer apart = refusal-apart refusals.IssuerUnknown
+place-comes office call terms (repeat_of answer) apart = apart
+place-comes office call terms number_taken apart = refusal-apart refusals.NumberTaken
+place-comes office call terms (ahead next) apart = refusal-apart (refusals.NumberAhead next)
+place-comes office call terms fresh apart = body-comes office call terms (upload call.body)
 
-upload-comes : (office : OfficeState) (call : Call) (moment : ℤ) → AreApart office.history → Comes office (Upload call) moment (upload_outcome office call moment)
+upload-comes : (office : OfficeState) (call : Call) (terms : EntryTerms) → AreApart office.history → Comes office (Upload call) terms (upload_outcome office call terms)
 unfolding upload_outcome
-upload-comes office call moment apart =
+upload-comes office call terms apart =
     let at = place office.history call.office call.number call.body in
-    elim (ltb office.limits.body (length call.body)) as (λ b. Comes office (Upload call) moment (cond b (stays (Words refusals.TooLong)) (place_outcome office call moment at))) [
+    elim (ltb office.limits.body (length call.body)) as (λ b. Comes office (Upload call) terms (cond b (stays (Words refusals.TooLong)) (place_outcome office call terms at))) [
       | true ↦ refusal-apart refusals.TooLong
-      | false ↦ place-comes office call moment at (place-apart office.history call.office call.number call.body apart)
+      | false ↦ place-comes office call terms at (place-apart office.history call.office call.number call.body apart)
     ]
 
-publication-made : (office : OfficeState) (number : ℕ) (moment : ℤ) → IsMade office (Publish number) moment (publication_entry office number moment)
+publication-made : (office : OfficeState) (number : ℕ) (terms : EntryTerms) → IsMade office (Publish number) terms (publication_entry office number terms)
 unfolding publication_text
-publication-made office number moment = record { seq = refl; own = (refl, refl, refl, refl); at_moment = refl; rules = omega arith; apart = omega arith }
+publication-made office number terms = record { seq = refl; own = (refl, refl, refl, refl); at_moment = refl; of_rules = refl; apart = omega arith }
 
-publish-comes : (office : OfficeState) (number : ℕ) (moment : ℤ) (found : Option Text) → FoundApart found → Comes office (Publish number) moment (publish_outcome office number moment found)
-publish-comes office number moment None apart = by_tests (number == next_publication office.history) (is_full office)
+publish-comes : (office : OfficeState) (number : ℕ) (terms : EntryTerms) (found : Option Text) → FoundApart found → Comes office (Publish number) terms (publish_outcome office number terms found)
+publish-comes office number terms None apart = by_tests (number == next_publication office.history) (is_full office)
   where
-    by_tests : (due full : Bool) → Comes office (Publish number) moment
-        (cond due (cond full (stays (Words refusals.LedgerFull)) (adds (publication_entry office number moment))) (stays (Words (refusals.NumberAhead (next_publication office.history)))))
+    by_tests : (due full : Bool) → Comes office (Publish number) terms
+        (cond due (cond full (stays (Words refusals.LedgerFull)) (adds (publication_entry office number terms))) (stays (Words (refusals.NumberAhead (next_publication office.history)))))
     by_tests true true = refusal-apart refusals.LedgerFull
-    by_tests true false = publication-made office number moment
+    by_tests true false = publication-made office number terms
     by_tests false full = refusal-apart (refusals.NumberAhead (next_publication office.history))
-publish-comes office number moment (Some text) apart = apart
+publish-comes office number terms (Some text) apart = apart
 
-pub request-comes : (office : OfficeState) (request : Request) (moment : ℤ) → AreApart office.history → IsTaken request → Comes office request moment (outcome_at office request moment)
-request-comes office (Accredit issuer) moment apart taken =
-    accredit-comes office issuer moment (accredited office.history issuer) (answer-apart (find (is_accreditation_of issuer) office.history) (found-apart (is_accreditation_of issuer) office.history apart))
-request-comes office (Upload call) moment apart taken = upload-comes office call moment apart
-request-comes office (Publish number) moment apart taken =
+pub request-comes : (office : OfficeState) (request : Request) (terms : EntryTerms) → AreApart office.history → IsTaken request → Comes office request terms (outcome_at office request terms)
+request-comes office (Accredit issuer) terms apart taken =
+    accredit-comes office issuer terms (accredited office.history issuer) (answer-apart (find (is_accreditation_of issuer) office.history) (found-apart (is_accreditation_of issuer) office.history apart))
+request-comes office (Upload call) terms apart taken = upload-comes office call terms apart
+request-comes office (Publish number) terms apart taken =
     let entries = publications office.history in
-    publish-comes office number moment (published office.history number)
+    publish-comes office number terms (published office.history number)
     (answer-apart (numbered entries number) (numbered-apart entries number (filter-apart is_publication office.history apart)))
-request-comes office request moment apart taken = absurd taken
+request-comes office request terms apart taken = absurd taken
 
 -- ---- legal histories
 
@@ -220,8 +221,8 @@ request-taken e request is = by_kind (e.kind == 1) (e.kind == 2) (e.kind == 3) i
 next-apart : (limits : Limits) (before : History) (e : KeptEntry) → AreApart before → IsNext (office_of limits before) e → IsApart e.answer
 next-apart limits before e apart next =
     let office = office_of limits before in
-    let moment = stamp before e.moment in
-    (subst (Comes office next.0 moment) next.4 (request-comes office next.0 moment apart (request-taken e next.0 next.1))).apart
+    let terms = terms_by e.rules before e.moment in
+    (subst (Comes office next.0 terms) next.5 (request-comes office next.0 terms apart (request-taken e next.0 next.1))).apart
 
 legal-after : (limits : Limits) (before rest : History) → LegalAfter limits before rest → AreApart before → AreApart (before ++ rest)
 legal-after limits before [] legal apart = subst AreApart (sym (append-nil before)) apart

@@ -1,6 +1,8 @@
 -- Histories that grow by an entry: the table after them, and that they stay legal.
-use Rattle.std.proofs.Common.{◌≡◌, ℕ, ℤ, List, [], ◌∷◌, ◌++◌, ◌-◌, Bool, true, false, cond, ◌||◌, ◌==◌, is_some, ltb, int_lt, length, Option, Some, None, option_map, Result, Ok, Err, refl, sym, ap, ◌∙◌, subst, append_assoc, append-nil, arith, length-append, inl, inr}
+use Rattle.std.proofs.Common.{◌≡◌, ◌≤◌, ℕ, ℤ, List, [], ◌∷◌, ◌++◌, ◌-◌, Bool, true, false, cond, nat_le, ◌&&◌, ◌||◌, ◌==◌, is_some, ltb, int_lt, length, Option, Some, None, option_map, Result, Ok, Err, refl, sym, ap, ◌∙◌, subst, append_assoc, append-nil, arith, length-append, inl, inr}
 use Rattle.std.proofs.Math.Seq.{get_or-append_seam}
+use Rattle.std.proofs.lemmas.Bool.{leb-true}
+use Rattle.std.proofs.lemmas.Bool.Decides.{nat_tests}
 use Rattle.std.proofs.lemmas.Option.{slice_get-get_or}
 use Rattle.std.proofs.lemmas.List.Sums.{fold-append}
 use Rattle.std.specs.Int.{int_max}
@@ -28,10 +30,11 @@ use Rattle.register_words.specs.declared.reply.Reply.TheVariants.{Words}
 use Rattle.upload_ledger.specs.History.{History, accredited, kept, Place, unknown_issuer, repeat_of, number_taken, ahead, fresh, place, published, last_entry, later, stamp}
 use Rattle.register_history.specs.Publications.{trail}
 use Rattle.register_history.specs.Register.{after, after_entry}
-use Rattle.register_history.specs.Replies.{stays, adds, outcome, outcome_at, changed, copied, show_outcome, accredit_outcome, answer_outcome, is_full, is_too_much, next_publication, publication_entry, publish_outcome, status_outcome, upload_outcome, place_outcome, body_outcome, accreditation, taken_upload, history_after, next, next_of, StepOf}
-use Rattle.register_history.specs.Legal.{request_of, IsNext, LegalAfter, Legal}
+use Rattle.register_history.specs.Replies.{stays, adds, newest_rules, outcome, outcome_at, outcome_by, terms_by, changed, copied, show_outcome, accredit_outcome, answer_outcome, is_full, is_too_much, next_publication, publication_entry, publish_outcome, status_outcome, upload_outcome, place_outcome, body_outcome, accreditation, taken_upload, history_after, next, next_of, StepOf}
+use Rattle.register_history.specs.Legal.{request_of, IsNext, LegalAfter, Legal, last_rules, may_follow}
 use Rattle.register_words.specs.Requests.{IsRequest}
 use Rattle.register_history.specs.State.{OfficeState, office_of, opened}
+use Rattle.register_history.specs.declared.terms.EntryTerms.{EntryTerms}
 
 -- ---- the table
 
@@ -54,42 +57,43 @@ pub Legal-opened : (limits : Limits) → Legal (opened limits)
 unfolding Legal
 Legal-opened limits = tt
 
--- what an outcome adds was taken for its request, at its moment
-pub record IsAdded (request : Request) (moment : ℤ) (e : KeptEntry) : Type 0 where
+-- what an outcome adds was taken for its request, by its rules and at its moment
+pub record IsAdded (request : Request) (terms : EntryTerms) (e : KeptEntry) : Type 0 where
   pub for_request : request_of e ≡ Some request
-  pub at_moment : e.moment ≡ moment
+  pub at_moment : e.moment ≡ terms.moment
+  pub of_rules : e.rules ≡ terms.rules
 
 -- what is added where there is room
 unless_full : (full : Bool) (refused : Reply) (a e : KeptEntry) → cond full (stays refused) (adds a) ≡ adds e → a ≡ e
 unless_full true refused a e is = cc
 unless_full false refused a e is = cc
 
-accredit_adds : (office : OfficeState) (issuer : List ℕ) (moment : ℤ) (found : Option (List ℕ)) (e : KeptEntry) → accredit_outcome office issuer moment found ≡ adds e → IsAdded (Accredit issuer) moment e
-accredit_adds office issuer moment None e is =
-    let same : accreditation office.history issuer moment ≡ e = unless_full (is_full office) (Words LedgerFull) (accreditation office.history issuer moment) e is in
-    record { for_request = ap request_of (sym same); at_moment = ap (λ a. a.moment) (sym same) }
-accredit_adds office issuer moment (Some text) e is = cc
+accredit_adds : (office : OfficeState) (issuer : List ℕ) (terms : EntryTerms) (found : Option (List ℕ)) (e : KeptEntry) → accredit_outcome office issuer terms found ≡ adds e → IsAdded (Accredit issuer) terms e
+accredit_adds office issuer terms None e is =
+    let same : accreditation office.history issuer terms ≡ e = unless_full (is_full office) (Words LedgerFull) (accreditation office.history issuer terms) e is in
+    record { for_request = ap request_of (sym same); at_moment = ap (λ a. a.moment) (sym same); of_rules = ap (λ a. a.rules) (sym same) }
+accredit_adds office issuer terms (Some text) e is = cc
 
-body_adds : (office : OfficeState) (call : Call) (moment : ℤ) (read : Result (List RawItem) Malformed) (e : KeptEntry) → body_outcome office call moment read ≡ adds e → IsAdded (Upload call) moment e
-body_adds office call moment (Ok raws) e is =
-    let same : taken_upload office call moment raws ≡ e = unless_full (is_full office || is_too_much office call.body) (Words LedgerFull) (taken_upload office call moment raws) e is in
-    record { for_request = ap request_of (sym same); at_moment = ap (λ a. a.moment) (sym same) }
-body_adds office call moment (Err fault) e is = cc
+body_adds : (office : OfficeState) (call : Call) (terms : EntryTerms) (read : Result (List RawItem) Malformed) (e : KeptEntry) → body_outcome office call terms read ≡ adds e → IsAdded (Upload call) terms e
+body_adds office call terms (Ok raws) e is =
+    let same : taken_upload office call terms raws ≡ e = unless_full (is_full office || is_too_much office call.body) (Words LedgerFull) (taken_upload office call terms raws) e is in
+    record { for_request = ap request_of (sym same); at_moment = ap (λ a. a.moment) (sym same); of_rules = ap (λ a. a.rules) (sym same) }
+body_adds office call terms (Err fault) e is = cc
 
-place_adds : (office : OfficeState) (call : Call) (moment : ℤ) (at : Place) (e : KeptEntry) → place_outcome office call moment at ≡ adds e → (at ≡ fresh) × IsAdded (Upload call) moment e
-place_adds office call moment unknown_issuer e is = cc
-place_adds office call moment (repeat_of answer) e is = cc
-place_adds office call moment number_taken e is = cc
-place_adds office call moment (ahead next) e is = cc
-place_adds office call moment fresh e is = (refl, body_adds office call moment (upload call.body) e is)
+place_adds : (office : OfficeState) (call : Call) (terms : EntryTerms) (at : Place) (e : KeptEntry) → place_outcome office call terms at ≡ adds e → (at ≡ fresh) × IsAdded (Upload call) terms e
+place_adds office call terms unknown_issuer e is = cc
+place_adds office call terms (repeat_of answer) e is = cc
+place_adds office call terms number_taken e is = cc
+place_adds office call terms (ahead next) e is = cc
+place_adds office call terms fresh e is = (refl, body_adds office call terms (upload call.body) e is)
 
-short_adds : (long : Bool) (office : OfficeState) (call : Call) (moment : ℤ) (at : Place) (e : KeptEntry) → cond long (stays (Words TooLong)) (place_outcome office call moment at) ≡ adds e → (at ≡ fresh) × IsAdded (Upload call) moment e
-short_adds true office call moment at e is = cc
-short_adds false office call moment at e is = place_adds office call moment at e is
+short_adds : (long : Bool) (office : OfficeState) (call : Call) (terms : EntryTerms) (at : Place) (e : KeptEntry) → cond long (stays (Words TooLong)) (place_outcome office call terms at) ≡ adds e → (at ≡ fresh) × IsAdded (Upload call) terms e
+short_adds true office call terms at e is = cc
+short_adds false office call terms at e is = place_adds office call terms at e is
 
-pub upload_adds : (office : OfficeState) (call : Call) (moment : ℤ) (e : KeptEntry) → upload_outcome office call moment ≡ adds e → (place office.history call.office call.number call.body ≡ fresh) × IsAdded (Upload call) moment e
+pub upload_adds : (office : OfficeState) (call : Call) (terms : EntryTerms) (e : KeptEntry) → upload_outcome office call terms ≡ adds e → (place office.history call.office call.number call.body ≡ fresh) × IsAdded (Upload call) terms e
 unfolding upload_outcome
-upload_adds office call moment e is = short_adds (ltb office.limits.body (length call.body)) office call moment (place office.history call.office call.number call.body) e is
+upload_adds office call terms e is = short_adds (ltb office.limits.body (length call.body)) office call terms (place office.history call.office call.number call.body) e is
 
 next_adds : (next full : Bool) (early : Reply) (a e : KeptEntry) → cond next (cond full (stays (Words LedgerFull)) (adds a)) (stays early) ≡ adds e → (next ≡ true) × (full ≡ false) × (a ≡ e)
 next_adds true true early a e is = cc
@@ -97,22 +101,22 @@ next_adds true false early a e is = (refl, refl, (let same : a ≡ e = cc in sam
 next_adds false full early a e is = cc
 
 -- a publication that is added has the next number
-pub record IsPublished (office : OfficeState) (number : ℕ) (moment : ℤ) (found : Option (List ℕ)) (e : KeptEntry) : Type 0 where
+pub record IsPublished (office : OfficeState) (number : ℕ) (terms : EntryTerms) (found : Option (List ℕ)) (e : KeptEntry) : Type 0 where
   pub made_none : found ≡ None
   pub next : (number == next_publication office.history) ≡ true
   pub room : is_full office ≡ false
-  pub is : publication_entry office number moment ≡ e
+  pub is : publication_entry office number terms ≡ e
 
-pub publish_adds : (office : OfficeState) (number : ℕ) (moment : ℤ) (found : Option (List ℕ)) (e : KeptEntry) → publish_outcome office number moment found ≡ adds e → IsPublished office number moment found e
-publish_adds office number moment None e is =
-    let next = next_adds (number == next_publication office.history) (is_full office) (Words (NumberAhead (next_publication office.history))) (publication_entry office number moment) e is in
+pub publish_adds : (office : OfficeState) (number : ℕ) (terms : EntryTerms) (found : Option (List ℕ)) (e : KeptEntry) → publish_outcome office number terms found ≡ adds e → IsPublished office number terms found e
+publish_adds office number terms None e is =
+    let next = next_adds (number == next_publication office.history) (is_full office) (Words (NumberAhead (next_publication office.history))) (publication_entry office number terms) e is in
     record { made_none = refl; next = next.0; room = next.1; is = next.2 }
-publish_adds office number moment (Some text) e is = cc
+publish_adds office number terms (Some text) e is = cc
 
-publication-added : (office : OfficeState) (number : ℕ) (moment : ℤ) (found : Option (List ℕ)) (e : KeptEntry) → publish_outcome office number moment found ≡ adds e → IsAdded (Publish number) moment e
-publication-added office number moment found e is =
-    let same = (publish_adds office number moment found e is).is in
-    record { for_request = ap request_of (sym same); at_moment = ap (λ a. a.moment) (sym same) }
+publication-added : (office : OfficeState) (number : ℕ) (terms : EntryTerms) (found : Option (List ℕ)) (e : KeptEntry) → publish_outcome office number terms found ≡ adds e → IsAdded (Publish number) terms e
+publication-added office number terms found e is =
+    let same = (publish_adds office number terms found e is).is in
+    record { for_request = ap request_of (sym same); at_moment = ap (λ a. a.moment) (sym same); of_rules = ap (λ a. a.rules) (sym same) }
 
 copy_adds_none : (sheet : Sheet) (form : Form) (number : ℕ) (found : Option Publication) (e : KeptEntry) → copied sheet form number found ≡ adds e → ⊥
 copy_adds_none sheet form number None e is = cc
@@ -135,15 +139,33 @@ kept_adds_none true (Some text) e is = cc
 status_adds_none : (history : History) (table : Table) (e : KeptEntry) → status_outcome history table ≡ adds e → ⊥
 status_adds_none history table e is = cc
 
-pub request_adds : (office : OfficeState) (request : Request) (moment : ℤ) (e : KeptEntry) → outcome_at office request moment ≡ adds e → IsAdded request moment e
-request_adds office (Accredit lei) moment e is = accredit_adds office lei moment (accredited office.history lei) e is
-request_adds office (Upload call) moment e is = (upload_adds office call moment e is).1
-request_adds office (Kept lei number) moment e is = absurd (kept_adds_none (is_some (accredited office.history lei)) (kept office.history lei number) e is)
-request_adds office (Publish number) moment e is = publication-added office number moment (published office.history number) e is
-request_adds office (Copy sheet form) moment e is = absurd (copy_adds_none sheet form (length (trail office)) (latest (trail office)) e is)
-request_adds office (Delta base sheet form) moment e is = absurd (delta_adds_none sheet form (trail office) (base_in (moments_of (trail office)) base) (latest (trail office)) e is)
-request_adds office Status moment e is = absurd (status_adds_none office.history (after office.limits office.history) e is)
-request_adds office (Show lei) moment e is = absurd (show_adds_none (row_at (after office.limits office.history) lei) e is)
+pub request_adds : (office : OfficeState) (request : Request) (terms : EntryTerms) (e : KeptEntry) → outcome_at office request terms ≡ adds e → IsAdded request terms e
+request_adds office (Accredit lei) terms e is = accredit_adds office lei terms (accredited office.history lei) e is
+request_adds office (Upload call) terms e is = (upload_adds office call terms e is).1
+request_adds office (Kept lei number) terms e is = absurd (kept_adds_none (is_some (accredited office.history lei)) (kept office.history lei number) e is)
+request_adds office (Publish number) terms e is = publication-added office number terms (published office.history number) e is
+request_adds office (Copy sheet form) terms e is = absurd (copy_adds_none sheet form (length (trail office)) (latest (trail office)) e is)
+request_adds office (Delta base sheet form) terms e is = absurd (delta_adds_none sheet form (trail office) (base_in (moments_of (trail office)) base) (latest (trail office)) e is)
+request_adds office Status terms e is = absurd (status_adds_none office.history (after office.limits office.history) e is)
+request_adds office (Show lei) terms e is = absurd (show_adds_none (row_at (after office.limits office.history) lei) e is)
+
+both_true : (a b : Bool) → a && b ≡ true → (a ≡ true) × (b ≡ true)
+both_true true true is = (refl, refl)
+both_true true false is = cc
+both_true false b is = cc
+
+-- rules that may follow are such, and aren't lower than those of the last entry
+pub record FollowWithin (history : History) (rules : ℕ) : Type 0 where
+  pub least : 1 ≤ rules
+  pub most : rules ≤ 2
+  pub rising : last_rules (last_entry history) ≤ rules
+
+pub follows-within : (history : History) (rules : ℕ) → may_follow history rules ≡ true → FollowWithin history rules
+follows-within history rules is =
+    let last = last_rules (last_entry history) in
+    let all = both_true (nat_le 1 rules && nat_le rules 2) (nat_le last rules) is in
+    let front = both_true (nat_le 1 rules) (nat_le rules 2) all.0 in
+    record { least = leb-true 1 rules front.0; most = leb-true rules 2 front.1; rising = leb-true last rules all.1 }
 
 -- ---- moments
 
@@ -197,30 +219,57 @@ later-again : (o : Option KeptEntry) (moment : ℤ) → later o (later o moment)
 later-again None moment = refl
 later-again (Some e) moment = greater-again e.moment moment (int_lt moment e.moment) refl
 
-outcome-again : (office : OfficeState) (request : Request) (moment : ℤ) → outcome office request (stamp office.history moment) ≡ outcome office request moment
-outcome-again office request moment = ap (outcome_at office request) (later-again (last_entry office.history) moment)
+abbrev terms_of : ℕ → ℤ → EntryTerms
+terms_of rules moment = record { rules = rules; moment = moment }
+
+outcome-again : (rules : ℕ) (office : OfficeState) (request : Request) (moment : ℤ) → outcome_by rules office request (stamp office.history moment) ≡ outcome_by rules office request moment
+outcome-again rules office request moment = ap (λ m. outcome_at office request (terms_of rules m)) (later-again (last_entry office.history) moment)
+
+-- ---- rules
+
+-- the rules of the last entry are the second or lower ones
+last-rules : (limits : Limits) (before rest : History) → LegalAfter limits before rest → last_rules (last_entry before) ≤ 2 → last_rules (last_entry (before ++ rest)) ≤ 2
+last-rules limits before [] legal most = (let P : History → Type 0 = λ h. last_rules (last_entry h) ≤ 2 in subst P (sym (append-nil before)) most)
+last-rules limits before (e ∷ rest) legal most =
+    let P : History → Type 0 = λ h. last_rules (last_entry h) ≤ 2 in
+    let M : Option KeptEntry → Type 0 = λ o. last_rules o ≤ 2 in
+    subst P (append_assoc before (e ∷ []) rest) (last-rules limits (before ++ e ∷ []) rest legal.1 (subst M (sym (last_entry-push before e)) (follows-within before e.rules legal.0.4).most))
+
+-- so the newest rules may follow
+pub newest-follows : (limits : Limits) (history : History) → Legal (office_of limits history) → may_follow history newest_rules ≡ true
+unfolding Legal
+newest-follows limits history legal =
+    let most = last-rules limits [] history legal (omega arith) in
+    let lower : nat_le (last_rules (last_entry history)) 2 ≡ true = grind (arith, nat_tests) in
+    rw lower refl
 
 -- a request leads from a legal history to a legal one
-added-is_next : (limits : Limits) (history : History) (request : Request) (moment : ℤ) (e : KeptEntry) → IsRequest request → IsMoment moment → Legal (office_of limits history)
-    → outcome (office_of limits history) request moment ≡ adds e → IsNext (office_of limits history) e
-added-is_next limits history request moment e asked is legal comes =
+pub added-is_next : (limits : Limits) (history : History) (rules : ℕ) (request : Request) (moment : ℤ) (e : KeptEntry) → IsRequest request → IsMoment moment
+    → may_follow history rules ≡ true → Legal (office_of limits history) → outcome_by rules (office_of limits history) request moment ≡ adds e → IsNext (office_of limits history) e
+added-is_next limits history rules request moment e asked is follows legal comes =
     let office = office_of limits history in
-    let added = request_adds office request (stamp history moment) e comes in
-    let M : ℤ → Type 0 = λ m. IsMoment m in
-    (request, added.for_request, asked, subst M (sym added.at_moment) (stamp-is_moment limits history moment legal is), ap (outcome office request) added.at_moment ∙ (outcome-again office request moment ∙ comes))
+    let added = request_adds office request (terms_by rules history moment) e comes in
+    let M : ℤ → Type 0 = λ m. IsMoment m in (
+      request,
+      added.for_request,
+      asked,
+      subst M (sym added.at_moment) (stamp-is_moment limits history moment legal is),
+      ap (may_follow history) added.of_rules ∙ follows,
+      ap (λ r. outcome_by r office request e.moment) added.of_rules ∙ (ap (outcome_by rules office request) added.at_moment ∙ (outcome-again rules office request moment ∙ comes)),
+    )
 
 pub Legal-next : (limits : Limits) (history : History) (request : Request) (moment : ℤ) → IsRequest request → IsMoment moment → Legal (office_of limits history) → Legal (next (office_of limits history) request moment)
 Legal-next limits history request moment asked is legal =
     elim (outcome (office_of limits history) request moment) as (λ o. outcome (office_of limits history) request moment ≡ o → Legal (office_of limits (history_after history o))) [
       | stays answered ↦ λ _. legal
-      | adds e ↦ λ comes. Legal-push limits history e legal (added-is_next limits history request moment e asked is legal comes)
+      | adds e ↦ λ comes. Legal-push limits history e legal (added-is_next limits history newest_rules request moment e asked is (newest-follows limits history legal) legal comes)
     ] refl
 
 -- a part of an office is given the stamp
 Legal-same : (limits : Limits) (history new : History) → Legal (office_of limits history) → office_of limits new ≡ office_of limits history → Legal (office_of limits new)
 Legal-same limits history new legal same = subst Legal (sym same) legal
 
-pub Legal-step : (limits : Limits) (history : History) (request : Request) (moment at : ℤ) (answered : Reply) (new : History) → IsRequest request → IsMoment moment → at ≡ stamp history moment
+pub Legal-step : (limits : Limits) (history : History) (request : Request) (moment : ℤ) (at : EntryTerms) (answered : Reply) (new : History) → IsRequest request → IsMoment moment → at ≡ terms_by newest_rules history moment
     → Legal (office_of limits history) → StepOf request (outcome_at (office_of limits history) request at) (office_of limits history) answered (office_of limits new) → Legal (office_of limits new)
 Legal-step limits history request moment at answered new asked is stamped legal (inl step) =
     let office = office_of limits history in

@@ -1,6 +1,7 @@
 pub mod Passing
 pub mod Registers
 pub mod Histories
+pub mod Chained
 pub mod Orders
 pub mod Sessions
 pub mod PlaceLemmas

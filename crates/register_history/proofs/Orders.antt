@@ -13,8 +13,8 @@ use Rattle.lei_outside.specs.declared.entry.KeptEntry.{KeptEntry}
 use Rattle.register_words.specs.declared.limits.Limits.{Limits}
 use Rattle.register_words.specs.declared.request.Call.{Call}
 use Rattle.register_words.specs.declared.request.Request.TheVariants.{Upload}
-use Rattle.upload_ledger.specs.History.{History, accredited, ahead, fresh, is_upload_of, last, later, place, place_of_taken, repeat_of, stamp, number_taken, unknown_issuer, upload_at, uploads}
-use Rattle.register_history.specs.Replies.{outcome}
+use Rattle.upload_ledger.specs.History.{History, accredited, ahead, fresh, is_upload_of, last, later, place, place_of_taken, repeat_of, number_taken, unknown_issuer, upload_at, uploads}
+use Rattle.register_history.specs.Replies.{outcome_by, terms_by}
 use Rattle.register_history.specs.Legal.{IsNext, LegalAfter, Legal, MomentsNeverFall, UploadsAreNumbered, request_of}
 use Rattle.register_history.specs.State.{OfficeState, office_of}
 use Rattle.register_history.proofs.Histories.{last_entry-push, request_adds, upload_adds}
@@ -40,7 +40,7 @@ never_fall office legal before after first second is =
     let P : History → Type 0 = λ h. LegalAfter office.limits [] h in
     let next = next_at office.limits [] (before ++ first ∷ []) after second (subst P (is ∙ sym (append_assoc before (first ∷ []) (second ∷ after))) legal) in
     let stamped : second.moment ≡ int_max first.moment second.moment =
-    (request_adds (office_of office.limits (before ++ first ∷ [])) next.0 (stamp (before ++ first ∷ []) second.moment) second next.4).at_moment ∙ ap (λ o. later o second.moment) (last_entry-push before first) in
+    (request_adds (office_of office.limits (before ++ first ∷ [])) next.0 (terms_by second.rules (before ++ first ∷ []) second.moment) second next.5).at_moment ∙ ap (λ o. later o second.moment) (last_entry-push before first) in
     let M : ℤ → Type 0 = λ m. first.moment ≤ℤ m in
     subst M (sym stamped) (greater-is_above first.moment second.moment)
 
@@ -96,7 +96,7 @@ next-is_numbered limits before e office next is =
     let of_office : e.office ≡ office = (bytes_eq-Decides e.office office).0 parts.1 in
     let call : Call = record { office = e.office; number = e.number; body = e.body } in
     let asked : next.0 ≡ Upload call = (let both : Some next.0 ≡ Some (Upload call) = sym next.1 ∙ upload_request e (eqb-true e.kind 2 parts.0) in cc) in
-    let added = upload_adds (office_of limits before) call (stamp before e.moment) e (ap (λ request. outcome (office_of limits before) request e.moment) (sym asked) ∙ next.4) in
+    let added = upload_adds (office_of limits before) call (terms_by e.rules before e.moment) e (ap (λ request. outcome_by e.rules (office_of limits before) request e.moment) (sym asked) ∙ next.5) in
     fresh-is_next before e.office e.number e.body added.0 ∙ ap (λ o. last before o + 1) of_office
 
 numbered-push : (limits : Limits) (before : History) (e : KeptEntry) → IsNext (office_of limits before) e → UploadsAreNumbered before → UploadsAreNumbered (before ++ e ∷ [])

@@ -1,5 +1,5 @@
 -- The register after a history is sound and has no more records than the limit, and what an upload writes may be put.
-use Rattle.std.proofs.Common.{◌≡◌, ℕ, ◌+◌, ◌<◌, ◌≤◌, List, [], ◌∷◌, map, fold, Bool, true, false, ◌&&◌, cond, nat_le, nat_lt, ◌==◌, length, Option, Some, None, is_some, is_none, find, option_map, option_and_then, Result, Ok, Err, MatchResult, refl, sym, ap, ◌∙◌, subst, arith, rules}
+use Rattle.std.proofs.Common.{◌≡◌, ℕ, ◌+◌, ◌<◌, ◌≤◌, List, [], ◌∷◌, map, fold, Bool, true, false, ◌&&◌, cond, nat_le, nat_lt, ◌==◌, length, Option, Some, None, is_some, is_none, find, option_map, Result, Ok, Err, MatchResult, refl, sym, ◌∙◌, subst, arith, rules}
 use Rattle.std.specs.List.{Contains}
 use Rattle.std.specs.Option.{option_to_list}
 use Rattle.std.specs.FinMap.{get-empty, len-empty, len-insert}
@@ -13,7 +13,7 @@ use Rattle.upload_format.specs.Bodies as bodies
 use Rattle.upload_format.specs.Bodies.{of_items, of_value, upload, value_of}
 use Rattle.register_words.specs.declared.malformed.Malformed.{Malformed}
 use Rattle.register_words.specs.declared.malformed.Malformed.TheVariants.{NoItems, TooManyItems}
-use Rattle.lei_records.specs.Cells.{lei_in, rec_cell, successor_in}
+use Rattle.lei_records.specs.Cells.{lei_in, rec_cell}
 use Rattle.lei_records.specs.Items.{failed_check, ready, readied}
 use Rattle.lei_records.specs.Relations.{end_in, is_active_of}
 use Rattle.lei_records.specs.declared.fields.Kind.{Kind}
@@ -27,17 +27,14 @@ use Rattle.lei_records.specs.declared.view.CellKey.{CellKey}
 use Rattle.lei_records.proofs.RowLemmas.{IsRowOf-row_of}
 use Rattle.lei_records.specs.Checks.{FailedCheck, first_failing}
 use Rattle.lei_records.specs.Parents.{parent_type, parents_of}
-use Rattle.lei_records.specs.Walks.{successors_of}
 use Rattle.relation_rules.specs.Parents.{AreApart, ParentChainsEnd}
 use Rattle.authority_rules.proofs.MapLemmas.{find-values}
 use Rattle.successor_rules.specs.Chains.{EndsIn}
-use Rattle.successor_rules.specs.Successors.{SuccessorChainsEnd}
 use Rattle.register_judge.specs.Checks.{earlier_checks, limit_check, record_checks}
 use Rattle.register_judge.specs.declared.sitting.Sitting.{Sitting}
 use Rattle.register_judge.specs.Taking.{Taken, take, in_front, is_new_record, verdict_of, written, writes_of, item_checks, HasRow, HaveRows}
 use Rattle.register_judge.specs.declared.outcome.JudgeStop.{JudgeStop}
 use Rattle.register_judge.specs.declared.outcome.Outcome.{Outcome}
-use Rattle.register_judge.proofs.ChainLemmas.{take-chains}
 use Rattle.register_judge.proofs.ParentLemmas.{take-apart, take-parents}
 use Rattle.register_judge.proofs.TakingLemmas.{take-sound}
 use Rattle.register_table.specs.Held.{no_rows}
@@ -46,28 +43,30 @@ use Rattle.register_words.specs.declared.limits.Limits.{Limits}
 use Rattle.upload_ledger.specs.History.{History}
 use Rattle.register_history.specs.Register.{after, after_entry, entry_sitting, items_in, items_of, take_items}
 use Rattle.register_history.proofs.Passing.{passing, passing_behind}
+use Rattle.lei_records.specs.RuleNumbers.{rules_of}
+use Rattle.lei_records.specs.declared.rules.Rules.{Rules}
 
 keys_total : IsTotalOrder key_cmp
 keys_total = lists_total nat_list_cmp_total
 
 -- ---- items have rows
 
-readied-rows : (kind : Kind) (pairs : List (List ℕ × List ℕ)) (failed : Option FailedCheck) (items : List Readied) → failed_check kind pairs ≡ failed → HaveRows items
+readied-rows : (rules : Rules) (kind : Kind) (pairs : List (List ℕ × List ℕ)) (failed : Option FailedCheck) (items : List Readied) → failed_check rules kind pairs ≡ failed → HaveRows items
     → HaveRows (readied kind pairs failed ∷ items)
-readied-rows Kind.Record pairs None items passes rows = (IsRowOf-row_of Kind.Record pairs passes, rows)
-readied-rows Kind.Relation pairs None items passes rows = (IsRowOf-row_of Kind.Relation pairs passes, rows)
-readied-rows Kind.Exception pairs None items passes rows = (IsRowOf-row_of Kind.Exception pairs passes, rows)
-readied-rows kind pairs (Some check) items fails rows = rows
+readied-rows rules Kind.Record pairs None items passes rows = (IsRowOf-row_of rules Kind.Record pairs passes, rows)
+readied-rows rules Kind.Relation pairs None items passes rows = (IsRowOf-row_of rules Kind.Relation pairs passes, rows)
+readied-rows rules Kind.Exception pairs None items passes rows = (IsRowOf-row_of rules Kind.Exception pairs passes, rows)
+readied-rows rules kind pairs (Some check) items fails rows = rows
 
-pub ready-rows : (raws : List RawItem) → HaveRows (map ready raws)
-ready-rows [] = tt
-ready-rows (RawItem.Record pairs ∷ raws) = readied-rows Kind.Record pairs (failed_check Kind.Record pairs) (map ready raws) refl (ready-rows raws)
-ready-rows (RawItem.Relation pairs ∷ raws) = readied-rows Kind.Relation pairs (failed_check Kind.Relation pairs) (map ready raws) refl (ready-rows raws)
-ready-rows (RawItem.Exception pairs ∷ raws) = readied-rows Kind.Exception pairs (failed_check Kind.Exception pairs) (map ready raws) refl (ready-rows raws)
+pub ready-rows : (rules : Rules) (raws : List RawItem) → HaveRows (map (ready rules) raws)
+ready-rows rules [] = tt
+ready-rows rules (RawItem.Record pairs ∷ raws) = readied-rows rules Kind.Record pairs (failed_check rules Kind.Record pairs) (map (ready rules) raws) refl (ready-rows rules raws)
+ready-rows rules (RawItem.Relation pairs ∷ raws) = readied-rows rules Kind.Relation pairs (failed_check rules Kind.Relation pairs) (map (ready rules) raws) refl (ready-rows rules raws)
+ready-rows rules (RawItem.Exception pairs ∷ raws) = readied-rows rules Kind.Exception pairs (failed_check rules Kind.Exception pairs) (map (ready rules) raws) refl (ready-rows rules raws)
 
-pub read-rows : (read : Result (List RawItem) Malformed) → HaveRows (items_in read)
-read-rows (Ok raws) = ready-rows raws
-read-rows (Err fault) = tt
+pub read-rows : (rules : Rules) (read : Result (List RawItem) Malformed) → HaveRows (items_in rules read)
+read-rows rules (Ok raws) = ready-rows rules raws
+read-rows rules (Err fault) = tt
 
 -- ---- an accepted item
 
@@ -151,18 +150,16 @@ may_put table sitting (Readied.Good item ∷ items) sound fits rows =
 pub record IsFit (limit : ℕ) (table : Table) : Type 0 where
   pub sound : IsSound table
   pub fits : record_count table ≤ limit
-  pub chains : SuccessorChainsEnd table
   pub parents : ParentChainsEnd table
   pub apart : AreApart table
 
 pub entry-fit : (limits : Limits) (table : Table) (e : KeptEntry) → IsFit limits.records table → IsFit limits.records (after_entry limits table e)
 entry-fit limits table e fit =
-    let rows = read-rows (upload e.body) in
+    let rows = read-rows (rules_of e.rules) (upload e.body) in
     elim (e.kind == 2) as (λ b. IsFit limits.records (cond b (take_items limits table e (items_of e)).table table)) [
       | true ↦ record {
         sound = take-sound table (entry_sitting limits e) (items_of e) fit.sound rows;
         fits = (may_put table (entry_sitting limits e) (items_of e) fit.sound fit.fits rows).fits;
-        chains = take-chains table (entry_sitting limits e) (items_of e) fit.chains;
         parents = take-parents table (entry_sitting limits e) (items_of e) fit.sound fit.parents rows;
         apart = take-apart table (entry_sitting limits e) (items_of e) fit.sound fit.apart rows;
       }
@@ -176,18 +173,7 @@ entries-fit limits table (e ∷ history) fit = entries-fit limits (after_entry l
 is_some-none : {X : Type 0} (x : X) (found : Option X) → found ≡ None → found ≡ Some x → ⊥
 is_some-none x found none some = cc
 
--- where there are no rows, nothing is named
-nothing : (next : List ℕ) → Contains [] next → ⊥
-nothing next at = search rules
-
-none-named : (lei next : List ℕ) → Contains (successors_of no_rows lei) next → EndsIn 0 (successors_of no_rows) next
-none-named lei next at =
-    let empty : successors_of no_rows lei ≡ [] = ap (λ row. option_to_list (option_and_then successor_in row)) (get-empty key_cmp (record_key lei)) in
-    nothing next (subst (λ nexts. Contains nexts next) empty at) where
-      nothing : (next : List ℕ) → Contains [] next → ⊥
-      nothing next at = search rules
-
--- and nothing is active
+-- where there are no rows, nothing is active
 none-active : (start : List ℕ) (kind : RelationType) → active_of no_rows start kind ≡ None
 none-active start kind = of_found (find (is_active_of start kind) (relations_of no_rows)) refl where
   of_found : (found : Option Row) → find (is_active_of start kind) (relations_of no_rows) ≡ found → option_map end_in found ≡ None
@@ -198,7 +184,9 @@ none-active start kind = of_found (find (is_active_of start kind) (relations_of 
 
 none-above : (lei next : List ℕ) → Contains (parents_of no_rows lei) next → EndsIn 0 (parents_of no_rows) next
 none-above lei next at =
-    nothing next (subst (λ parent. Contains (option_to_list parent) next) (none-active lei RelationType.IsDirectlyConsolidatedBy) at)
+    nothing next (subst (λ parent. Contains (option_to_list parent) next) (none-active lei RelationType.IsDirectlyConsolidatedBy) at) where
+      nothing : (next : List ℕ) → Contains [] next → ⊥
+      nothing next at = search rules
 
 pub none-fit : (limit : ℕ) → IsFit limit no_rows
 none-fit limit = record {
@@ -213,10 +201,6 @@ none-fit limit = record {
     exception_rows = λ key row at. absurd (is_some-none row _ (get-empty key_cmp key) at);
   };
   fits = let none = len-empty key_cmp Row in omega (arith, none);
-  chains = record {
-    held = λ lei row next at. absurd (is_some-none row _ (get-empty key_cmp (record_key lei)) at);
-    ends = λ lei. (1, none-named lei);
-  };
   parents = record { ends = λ lei. (1, none-above lei) };
   apart = λ lei category stands. none-active lei (parent_type category);
 }

@@ -45,6 +45,8 @@ use Rattle.upload_ledger.specs.History.{History}
 use Rattle.register_words.specs.declared.limits.Limits.{Limits}
 use Rattle.register_history.specs.Register.{entry_sitting, entry_writes, held_after, held_after_entry, items_in, items_of, take_items}
 use Rattle.upload_format.proofs.JsonTexts.{AreTexts, If, ItemsAreTexts, MembersAreTexts, read-texts}
+use Rattle.lei_records.specs.RuleNumbers.{rules_of}
+use Rattle.lei_records.specs.declared.rules.Rules.{Rules}
 
 -- ---- items as they were sent
 
@@ -225,6 +227,7 @@ moment-printed text is = by (is_absent text) (read_moment text) (read-is_moment 
 
 printed-text : (shape : Shape) (text : Text) → IsUtf8 text → IsUtf8 (printed shape text)
 printed-text Shape.Code text is = is
+printed-text Shape.Codes text is = is
 printed-text Shape.Free text is = is
 printed-text Shape.Lang text is = is
 printed-text Shape.Country text is = is
@@ -244,6 +247,7 @@ printed-text Shape.Reason text is = is
 
 content-text : (content : Content) (text : Text) → IsUtf8 text → IsUtf8 (row_text content text)
 content-text (Content.Shaped shape) text is = printed-text shape text is
+content-text Content.Successors text is = is
 content-text Content.Action text is = is
 
 fields-row : (fields : List Field) (pairs : List (Text × Text)) → ArePairs pairs → AreUtf8 (map (λ (field : Field). row_text field.1 (text_of pairs field.0)) fields)
@@ -267,15 +271,15 @@ readied-textual Kind.Record pairs None are = sent-row Kind.Record pairs are
 readied-textual Kind.Relation pairs None are = sent-row Kind.Relation pairs are
 readied-textual Kind.Exception pairs None are = sent-row Kind.Exception pairs are
 
-ready-textual : (raws : List RawItem) → AreSent raws → AllByRecursion IsTextual (map ready raws)
-ready-textual [] are = tt
-ready-textual (RawItem.Record pairs ∷ raws) are = (readied-textual Kind.Record pairs (failed_check Kind.Record pairs) are.0, ready-textual raws are.1)
-ready-textual (RawItem.Relation pairs ∷ raws) are = (readied-textual Kind.Relation pairs (failed_check Kind.Relation pairs) are.0, ready-textual raws are.1)
-ready-textual (RawItem.Exception pairs ∷ raws) are = (readied-textual Kind.Exception pairs (failed_check Kind.Exception pairs) are.0, ready-textual raws are.1)
+ready-textual : (rules : Rules) (raws : List RawItem) → AreSent raws → AllByRecursion IsTextual (map (ready rules) raws)
+ready-textual rules [] are = tt
+ready-textual rules (RawItem.Record pairs ∷ raws) are = (readied-textual Kind.Record pairs (failed_check rules Kind.Record pairs) are.0, ready-textual rules raws are.1)
+ready-textual rules (RawItem.Relation pairs ∷ raws) are = (readied-textual Kind.Relation pairs (failed_check rules Kind.Relation pairs) are.0, ready-textual rules raws are.1)
+ready-textual rules (RawItem.Exception pairs ∷ raws) are = (readied-textual Kind.Exception pairs (failed_check rules Kind.Exception pairs) are.0, ready-textual rules raws are.1)
 
-read-textual : (found : Result (List RawItem) Malformed) → IfOkSent found → AllByRecursion IsTextual (items_in found)
-read-textual (Ok raws) are = ready-textual raws are
-read-textual (Err fault) are = tt
+read-textual : (rules : Rules) (found : Result (List RawItem) Malformed) → IfOkSent found → AllByRecursion IsTextual (items_in rules found)
+read-textual rules (Ok raws) are = ready-textual rules raws are
+read-textual rules (Err fault) are = tt
 
 -- ---- what is written
 
@@ -307,7 +311,7 @@ take-written table sitting (Readied.Good item ∷ items) are =
 entry-written : (limits : Limits) (table : Table) (e : KeptEntry) → AllByRecursion IsWritten (entry_writes limits table e)
 entry-written limits table e =
     elim (e.kind == 2) as (λ b. AllByRecursion IsWritten (cond b (take_items limits table e (items_of e)).writes [])) [
-      | true ↦ take-written table (entry_sitting limits e) (items_of e) (read-textual (upload e.body) (upload-sent e.body))
+      | true ↦ take-written table (entry_sitting limits e) (items_of e) (read-textual (rules_of e.rules) (upload e.body) (upload-sent e.body))
       | false ↦ tt
     ]
 

@@ -1,16 +1,16 @@
 -- What a step does to the history, and how many publications come about.
-use Rattle.std.proofs.Common.{◌≡◌, ◌⊎◌, inl, inr, ◌≤◌, ◌<◌, ◌+◌, ℤ, [], ◌∷◌, ◌++◌, Bool, true, false, cond, length, Some, refl, sym, ap, subst, ◌∙◌, arith, append-nil, append_assoc, length-append}
+use Rattle.std.proofs.Common.{◌≡◌, inl, inr, ◌≤◌, ◌<◌, ℤ, [], ◌∷◌, ◌++◌, Bool, true, false, cond, length, Some, refl, sym, ap, subst, ◌∙◌, arith, append-nil, append_assoc, length-append}
 use Rattle.std.proofs.lemmas.Bool.{eqb-true}
 use Rattle.std.proofs.lemmas.List.Elements.{filter-append}
 use Rattle.lei_outside.specs.declared.entry.KeptEntry.{KeptEntry}
-use Rattle.upload_ledger.specs.History.{History, is_publication, publications, published, stamp}
+use Rattle.upload_ledger.specs.History.{History, is_publication, publications, published}
 use Rattle.register_words.specs.Requests.{IsRequest}
 use Rattle.register_words.specs.declared.limits.Limits.{Limits}
 use Rattle.register_words.specs.declared.reply.Reply.{Reply}
 use Rattle.register_words.specs.declared.request.Request.{Request}
 use Rattle.register_words.specs.declared.request.Request.TheVariants.{Publish}
 use Rattle.register_history.specs.Legal.{IsNext, Legal, LegalAfter, request_of}
-use Rattle.register_history.specs.Replies.{Outcome, Step, adds, next_of, next_publication, outcome, stays}
+use Rattle.register_history.specs.Replies.{Outcome, Step, adds, next_of, next_publication, outcome, outcome_by, stays, terms_by}
 use Rattle.register_history.specs.State.{OfficeState, office_of}
 use Rattle.register_history.specs.Steps.{AddsOneOrNone}
 use Rattle.register_history.proofs.Histories.{publish_adds}
@@ -43,7 +43,7 @@ few-push limits before e next few = by_kind (is_publication e) refl
         let office = office_of limits before in
         let asked : next.0 ≡ Publish e.number = (let both : Some next.0 ≡ Some (Publish e.number) = sym next.1 ∙ publication_request e (eqb-true e.kind 3 is) in cc) in
         let most = (subst IsRequest asked next.2).1 in
-        let added = publish_adds office e.number (stamp before e.moment) (published before e.number) e (ap (λ r. outcome office r e.moment) (sym asked) ∙ next.4) in
+        let added = publish_adds office e.number (terms_by e.rules before e.moment) (published before e.number) e (ap (λ r. outcome_by e.rules office r e.moment) (sym asked) ∙ next.5) in
         let own = eqb-true e.number (next_publication before) added.next in
         let same : publications (before ++ e ∷ []) ≡ publications before ++ e ∷ [] =
         filter-append is_publication before (e ∷ []) ∙ ap (λ b. publications before ++ cond b (e ∷ []) []) is in

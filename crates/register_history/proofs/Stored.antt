@@ -24,6 +24,7 @@ use Rattle.register_history.specs.State.{office_of}
 use Rattle.register_history.proofs.AskedFor.{next-seq}
 use Rattle.register_history.specs.Standing.{AllStand, Stands}
 use Rattle.register_history.proofs.Registers.{read-rows}
+use Rattle.lei_records.specs.RuleNumbers.{rules_of}
 
 -- the key of an item's row
 row-key : (item : Item) → HasRow item → IsKey (row_key item)
@@ -52,7 +53,7 @@ take-keys table sitting (Readied.Good item ∷ items) rows =
 entry-keys : (limits : Limits) (table : Table) (e : KeptEntry) → AreKeys (entry_writes limits table e)
 entry-keys limits table e =
     elim (e.kind == 2) as (λ b. AreKeys (cond b (take_items limits table e (items_of e)).writes [])) [
-      | true ↦ take-keys table (entry_sitting limits e) (items_of e) (read-rows (upload e.body))
+      | true ↦ take-keys table (entry_sitting limits e) (items_of e) (read-rows (rules_of e.rules) (upload e.body))
       | false ↦ tt
     ]
 

@@ -1,5 +1,5 @@
 -- The table that an office keeps after one more entry.
-use Rattle.std.proofs.Common.{◌≡◌, ℕ, ℤ, ◌+◌, ◌≤◌, List, [], ◌∷◌, ◌++◌, fold, true, false, cond, ◌==◌, length, Option, None, Some, refl, sym, ap, subst, ◌∙◌, arith, length-append}
+use Rattle.std.proofs.Common.{◌≡◌, ℕ, ◌+◌, ◌≤◌, List, [], ◌∷◌, ◌++◌, fold, true, false, cond, ◌==◌, length, Option, None, Some, refl, sym, ap, subst, ◌∙◌, arith, length-append}
 use Rattle.std.specs.Prelude.{IfSome, OnErr, OnOk, Result, Ok, Err}
 use Rattle.lei_outside.specs.declared.faults.KeepFault.{KeepFault}
 use Rattle.register_words.specs.declared.reply.Reply.{Reply}
@@ -31,6 +31,8 @@ use Rattle.register_history.specs.Register.{CellsHaveTheRows, IsKeptAfter, after
 use Rattle.register_history.specs.State.{OfficeState, office_of}
 use Rattle.register_history.proofs.Histories.{after-push, last_entry-push}
 use Rattle.register_history.proofs.Registers.{IsFit, after-fit, entry-fit, may_put, none-fit, read-rows}
+use Rattle.register_history.specs.declared.terms.EntryTerms.{EntryTerms}
+use Rattle.lei_records.specs.RuleNumbers.{rules_of}
 
 -- ---- what an entry writes
 
@@ -44,14 +46,14 @@ entry-put limits table e =
 entry-own : (limits : Limits) (table : Table) (e : KeptEntry) → IsFit limits.records table → AreOwn (entry_writes limits table e)
 entry-own limits table e fit =
     elim (e.kind == 2) as (λ b. AreOwn (cond b (take_items limits table e (items_of e)).writes [])) [
-      | true ↦ (may_put table (entry_sitting limits e) (items_of e) fit.sound fit.fits (read-rows (upload e.body))).own
+      | true ↦ (may_put table (entry_sitting limits e) (items_of e) fit.sound fit.fits (read-rows (rules_of e.rules) (upload e.body))).own
       | false ↦ tt
     ]
 
 entry-kept : (limits : Limits) (table : Table) (e : KeptEntry) → limits.records ≤ 4294967295 → IsFit limits.records table → StaysKept (entry_writes limits table e) table
 entry-kept limits table e bound fit =
     elim (e.kind == 2) as (λ b. StaysKept (cond b (take_items limits table e (items_of e)).writes []) table) [
-      | true ↦ (may_put table (entry_sitting limits e) (items_of e) fit.sound fit.fits (read-rows (upload e.body))).kept bound
+      | true ↦ (may_put table (entry_sitting limits e) (items_of e) fit.sound fit.fits (read-rows (rules_of e.rules) (upload e.body))).kept bound
       | false ↦ tt
     ]
 
@@ -145,10 +147,10 @@ held-told limits history table told kept keeps = subst (λ h. IfSome told (AreTa
 
 -- ---- an entry that is added
 
-pub upload-next : (limits : Limits) (history : History) (call : Call) (moment : ℤ) (verdicts : List Verdict) (e : KeptEntry) → AreLimits limits → IsValid call.office
-    → e ≡ upload_entry history call moment verdicts → is_full (office_of limits history) ≡ false → is_too_much (office_of limits history) call.body ≡ false
+pub upload-next : (limits : Limits) (history : History) (call : Call) (terms : EntryTerms) (verdicts : List Verdict) (e : KeptEntry) → AreLimits limits → IsValid call.office
+    → e ≡ upload_entry history call terms verdicts → is_full (office_of limits history) ≡ false → is_too_much (office_of limits history) call.body ≡ false
     → (e.seq ≡ length history + 1) × IsAscii e.office × AreFew (history ++ e ∷ [])
-upload-next limits history call moment verdicts e are valid added room few =
+upload-next limits history call terms verdicts e are valid added room few =
     let entries = leb-false limits.entries (length history) room in
     let bodies = ltb-false limits.kept (kept_bytes history + length call.body) few in
     let body : length e.body ≡ length call.body = ap (λ x. length x.body) added in
@@ -162,9 +164,9 @@ upload-next limits history call moment verdicts e are valid added room few =
       },
     )
 
-pub accreditation-next : (limits : Limits) (history : History) (issuer : List ℕ) (moment : ℤ) (e : KeptEntry) → AreLimits limits → IsValid issuer → AreFew history
-    → e ≡ accreditation history issuer moment → is_full (office_of limits history) ≡ false → (e.seq ≡ length history + 1) × IsAscii e.office × AreFew (history ++ e ∷ [])
-accreditation-next limits history issuer moment e are valid few added room =
+pub accreditation-next : (limits : Limits) (history : History) (issuer : List ℕ) (terms : EntryTerms) (e : KeptEntry) → AreLimits limits → IsValid issuer → AreFew history
+    → e ≡ accreditation history issuer terms → is_full (office_of limits history) ≡ false → (e.seq ≡ length history + 1) × IsAscii e.office × AreFew (history ++ e ∷ [])
+accreditation-next limits history issuer terms e are valid few added room =
     let entries = leb-false limits.entries (length history) room in
     let body : length e.body ≡ 0 = ap (λ x. length x.body) added in
     let most = are.2.1 in

@@ -1,5 +1,5 @@
 -- The two texts of a damaged entry differ.
-use Rattle.std.proofs.Common.{◌≡◌, ℕ, ◌+◌, ◌==◌, ◌&&◌, Bool, true, false, cond, codes, List, [], ◌∷◌, length, is_none, Option, Some, None, inl, inr, refl, sym, ap, subst, ◌∙◌, arith}
+use Rattle.std.proofs.Common.{◌≡◌, ℕ, ◌+◌, ◌<◌, ◌==◌, ◌&&◌, Bool, true, false, cond, codes, List, [], ◌∷◌, length, is_none, Option, Some, None, inl, inr, refl, sym, ap, subst, ◌∙◌, arith}
 use Rattle.std.proofs.lemmas.Bool.{eqb-true}
 use Rattle.std.proofs.lemmas.Bool.Decides.{nat_tests}
 use Rattle.std.proofs.lemmas.Int.{ints}
@@ -9,20 +9,20 @@ use Rattle.lei_code.specs.declared.fault.LeiFault.{LeiFault}
 use Rattle.lei_code.proofs.Faults.{IsValid-from_fault_of}
 use Rattle.lei_shapes.specs.Moment.{IsMoment, is_moment}
 use Rattle.lei_outside.specs.declared.entry.KeptEntry.{KeptEntry}
-use Rattle.upload_ledger.specs.History.{History, stamp}
+use Rattle.upload_ledger.specs.History.{History}
 use Rattle.register_words.specs.declared.limits.Limits.{Limits}
 use Rattle.register_words.specs.declared.request.Request.{Request}
 use Rattle.register_words.specs.declared.request.Request.TheVariants.{Accredit, Publish, Upload}
 use Rattle.register_history.specs.Damage.{EntryTextsDiffer, asked_by, entry_line, is_lei, is_number, outcome_text, request_in, request_text, replayed}
-use Rattle.register_history.specs.Legal.{IsNext, Legal}
+use Rattle.register_history.specs.Legal.{IsNext, Legal, may_follow}
 use Rattle.register_words.specs.Requests.{IsRequest, IsUploadNumber}
-use Rattle.register_history.specs.Replies.{adds, outcome, stays}
+use Rattle.register_history.specs.Replies.{adds, outcome_by, stays, terms_by}
 use Rattle.register_history.specs.State.{office_of}
 use Rattle.register_words.specs.Refusals.{reply_words}
-use Rattle.register_history.proofs.AskedFor.{adds-next, asked-request}
+use Rattle.register_history.proofs.AskedFor.{adds-next, asked-follows, asked-request}
 use Rattle.register_history.proofs.Beginnings.{Comes, IsApart, IsFor, IsMade, legal-apart, request-comes, request-taken}
 use Rattle.register_history.proofs.EntryLines.{first, line-begins, line-tells}
-use Rattle.register_history.proofs.Histories.{stamp-is_moment}
+use Rattle.register_history.proofs.Histories.{follows-within, stamp-is_moment}
 
 -- ---- the request that is read of a stored entry
 
@@ -80,9 +80,9 @@ of_publication e request true in_range kind tests is =
     (record { own = (kind, nothing_in e.office front.0, refl, nothing_in e.body all.1); valid = number-valid e.number front.1; in_range = in_range })
 of_publication e request false in_range kind tests is = cc
 
-of_stored : (e : KeptEntry) (request : Request) → asked_by e ≡ Some request → IsAskedBy request e
+of_stored : (before : History) (e : KeptEntry) (request : Request) → asked_by before e ≡ Some request → IsAskedBy request e
 unfolding asked_by
-of_stored e request is = by_moment (is_moment e.moment) refl is
+of_stored before e request is = by_moment (is_moment e.moment) (may_follow before e.rules) refl is
   where
     by_kind : IsMoment e.moment → (one two three : Bool) → e.kind == 1 ≡ one → e.kind == 2 ≡ two → e.kind == 3 ≡ three
         → cond one (cond (is_lei e.office && e.number == 0 && length e.body == 0) (Some (Accredit e.office)) None)
@@ -94,9 +94,10 @@ of_stored e request is = by_moment (is_moment e.moment) refl is
     by_kind in_range false false true of_one of_two of_three asked = of_publication e request (length e.office == 0 && is_number e.number && length e.body == 0) in_range (eqb-true e.kind 3 of_three) refl asked
     by_kind in_range false false false of_one of_two of_three asked = cc
 
-    by_moment : (b : Bool) → is_moment e.moment ≡ b → cond b (request_in e) None ≡ Some request → IsAskedBy request e
-    by_moment true in_range asked = by_kind (grind (arith, ints)) (e.kind == 1) (e.kind == 2) (e.kind == 3) refl refl refl asked
-    by_moment false in_range asked = cc
+    by_moment : (at follows : Bool) → is_moment e.moment ≡ at → cond (at && follows) (request_in e) None ≡ Some request → IsAskedBy request e
+    by_moment true false in_range asked = cc
+    by_moment true true in_range asked = by_kind (grind (arith, ints)) (e.kind == 1) (e.kind == 2) (e.kind == 3) refl refl refl asked
+    by_moment false follows in_range asked = cc
 
 -- two entries with what one request asks
 own-same : (request : Request) (e f : KeptEntry) → IsFor request e → IsFor request f → (e.kind ≡ f.kind) × (e.office ≡ f.office) × (e.number ≡ f.number) × (e.body ≡ f.body)
@@ -116,30 +117,32 @@ line-apart e text apart same =
 
 -- what is made for the request of a stored entry and has its line is that entry
 made-is : (limits : Limits) (before : History) (e made : KeptEntry) (request : Request) → Legal (office_of limits before) → e.seq ≡ length before + 1 → IsAskedBy request e
-    → IsMade (office_of limits before) request (stamp before e.moment) made → entry_line e ≡ entry_line made → made ≡ e
-made-is limits before e made request legal number asked is same =
+    → may_follow before e.rules ≡ true → IsMade (office_of limits before) request (terms_by e.rules before e.moment) made → entry_line e ≡ entry_line made → made ≡ e
+made-is limits before e made request legal number asked follows is same =
     let parts = own-same request e made asked.own is.own in
     let stamped : IsMoment made.moment = subst IsMoment (sym is.at_moment) (stamp-is_moment limits before e.moment legal asked.in_range) in
-    line-tells e made (number ∙ sym is.seq) parts.0 parts.1 parts.2 parts.3 asked.in_range stamped is.rules same
+    let most = (follows-within before e.rules follows).most in
+    let small : made.rules < 10 = (let own = is.of_rules in omega (arith, most, own)) in
+    line-tells e made (number ∙ sym is.seq) parts.0 parts.1 parts.2 parts.3 asked.in_range stamped small same
 
 request-differs : (limits : Limits) (before : History) (e : KeptEntry) (request : Request) → Legal (office_of limits before) → e.seq ≡ length before + 1 → (IsNext (office_of limits before) e → ⊥)
-    → asked_by e ≡ Some request → entry_line e ≡ outcome_text (outcome (office_of limits before) request e.moment) → ⊥
+    → asked_by before e ≡ Some request → entry_line e ≡ outcome_text (outcome_by e.rules (office_of limits before) request e.moment) → ⊥
 request-differs limits before e request legal number never asked same =
     let office = office_of limits before in
-    let moment = stamp before e.moment in
-    let stored = of_stored e request asked in
-    let comes = request-comes office request moment (legal-apart limits before legal) (request-taken e request (asked-request e request asked)) in
-    elim (outcome office request e.moment) as (λ o. outcome office request e.moment ≡ o → entry_line e ≡ outcome_text o → ⊥) [
-      | stays reply ↦ λ is line. line-apart e (reply_words reply) (subst (Comes office request moment) is comes) line
+    let terms = terms_by e.rules before e.moment in
+    let stored = of_stored before e request asked in
+    let comes = request-comes office request terms (legal-apart limits before legal) (request-taken e request (asked-request before e request asked)) in
+    elim (outcome_by e.rules office request e.moment) as (λ o. outcome_by e.rules office request e.moment ≡ o → entry_line e ≡ outcome_text o → ⊥) [
+      | stays reply ↦ λ is line. line-apart e (reply_words reply) (subst (Comes office request terms) is comes) line
       | adds made ↦ λ is line.
-          let this = made-is limits before e made request legal number stored (subst (Comes office request moment) is comes) line in
+          let this = made-is limits before e made request legal number stored (asked-follows before e request asked) (subst (Comes office request terms) is comes) line in
           never (adds-next office e request made asked is this stored.valid stored.in_range)
     ] refl same
 
 entry-differs : (limits : Limits) (before : History) (e : KeptEntry) → Legal (office_of limits before) → e.seq ≡ length before + 1 → (IsNext (office_of limits before) e → ⊥)
     → entry_line e ≡ replayed (office_of limits before) e → ⊥
 entry-differs limits before e legal number never same =
-    elim (asked_by e) as (λ o. asked_by e ≡ o → entry_line e ≡ request_text (office_of limits before) e.moment o → ⊥) [
+    elim (asked_by before e) as (λ o. asked_by before e ≡ o → entry_line e ≡ request_text (office_of limits before) e o → ⊥) [
       | None ↦ λ none line. line-apart e (codes "NOT_AN_ENTRY") (omega arith) line
       | Some request ↦ λ asked line. request-differs limits before e request legal number never asked line
     ] refl same

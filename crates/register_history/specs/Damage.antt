@@ -21,10 +21,10 @@ use Rattle.register_history.specs.declared.damage.Damage.{Damage}
 use Rattle.register_words.specs.declared.request.Request.{Request}
 use Rattle.register_words.specs.declared.request.Request.TheVariants.{Accredit, Publish, Upload}
 use Rattle.register_history.specs.Kept.{AreTablesOf, joined}
-use Rattle.register_history.specs.Legal.{IsNext, Legal}
+use Rattle.register_history.specs.Legal.{IsNext, Legal, may_follow}
 use Rattle.register_words.specs.Words.{number_limit}
 use Rattle.register_history.specs.Register.{held_after}
-use Rattle.register_history.specs.Replies.{Outcome, adds, outcome, stays}
+use Rattle.register_history.specs.Replies.{Outcome, adds, outcome_by, stays}
 use Rattle.register_history.specs.State.{OfficeState, office_of}
 use Rattle.register_words.specs.Refusals.{reply_words}
 
@@ -80,24 +80,24 @@ abbrev pub request_in : KeptEntry → Option Request
 request_in e = if is_accreditation e then accreditation_in e
     else (if is_upload e then upload_in e else (if is_publication e then publication_in e else None))
 
--- The request that a stored entry was taken for, and none where its values are those of no request or its moment isn't
--- one.
-unfoldable pub asked_by : KeptEntry → Option Request
-asked_by e = if is_moment e.moment then request_in e else None
+-- The request that a stored entry was taken for. None where its values are those of no request, its moment isn't one, or
+-- its rules may not follow those of the entry before it.
+unfoldable pub asked_by : History → KeptEntry → Option Request
+asked_by before e = if is_moment e.moment && may_follow before e.rules then request_in e else None
 
 -- the entry that comes of a request in a line, or the text of its reply where none comes
 abbrev pub outcome_text : Outcome → Text
 outcome_text (adds made) = entry_line made
 outcome_text (stays reply) = reply_words reply
 
--- the same of the request that a stored entry was taken for, asked at the entry's moment
-abbrev pub request_text : OfficeState → ℤ → Option Request → Text
-request_text office moment None = codes "NOT_AN_ENTRY"
-request_text office moment (Some request) = outcome_text (outcome office request moment)
+-- the same of the request that a stored entry was taken for, asked by the entry's rules at its moment
+abbrev pub request_text : OfficeState → KeptEntry → Option Request → Text
+request_text office e None = codes "NOT_AN_ENTRY"
+request_text office e (Some request) = outcome_text (outcome_by e.rules office request e.moment)
 
 -- what the replay makes of a stored entry
 abbrev pub replayed : OfficeState → KeptEntry → Text
-replayed office e = request_text office e.moment (asked_by e)
+replayed office e = request_text office e (asked_by office.history e)
 
 -- ---- the first entry that differs
 

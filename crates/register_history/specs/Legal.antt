@@ -1,5 +1,5 @@
 -- Which histories can come about, and runs of requests over them.
-use Rattle.std.specs.Prelude.{◌≡◌, ◌⊎◌, ℕ, ℤ, ◌≤ℤ◌, List, [], ◌∷◌, ◌++◌, if◌then◌else◌, Option, Some, None}
+use Rattle.std.specs.Prelude.{◌≡◌, ◌⊎◌, ℕ, ℤ, ◌≤ℤ◌, List, [], ◌∷◌, ◌++◌, Bool, ◌&&◌, nat_le, IsTrue, if◌then◌else◌, Option, Some, None}
 use Rattle.lei_code.specs.Texts.{Lei}
 use Rattle.lei_shapes.specs.Moment.{IsMoment}
 use Rattle.lei_outside.specs.declared.entry.KeptEntry.{KeptEntry}
@@ -11,11 +11,11 @@ use Rattle.register_words.specs.declared.reply.Refusal.TheVariants.{NoMemory}
 use Rattle.register_words.specs.declared.reply.Reply.{Reply}
 use Rattle.register_words.specs.declared.reply.Reply.TheVariants.{Words}
 use Rattle.register_words.specs.declared.limits.Limits.{Limits}
-use Rattle.upload_ledger.specs.History.{History, is_accreditation, is_publication, is_upload, upload_at}
+use Rattle.upload_ledger.specs.History.{History, is_accreditation, is_publication, is_upload, last_entry, upload_at}
 use Rattle.register_words.specs.Requests.{IsRequest, TakesMemoryToRead}
 use Rattle.request_loop.specs.Sessions as sessions
 use Rattle.register_history.specs.State.{OfficeState, office_of}
-use Rattle.register_history.specs.Replies.{adds, next, outcome, reply, Step}
+use Rattle.register_history.specs.Replies.{adds, newest_rules, next, outcome_by, reply, Step}
 
 -- the request that an entry was taken for
 abbrev pub request_of : KeptEntry → Option Request
@@ -24,11 +24,23 @@ request_of e =
     else (if is_upload e then Some (Upload (record { office = e.office; number = e.number; body = e.body }))
     else (if is_publication e then Some (Publish e.number) else None))
 
--- the entry is what its own request adds to the office before it, at its own moment
+-- the number of the rules of the last entry, and that of the first rules where there is none
+abbrev pub last_rules : Option KeptEntry → ℕ
+last_rules None = 1
+last_rules (Some e) = e.rules
+
+-- These are rules that an entry after a history may have: there are such, and they aren't lower than those of the entry
+-- before.
+abbrev pub may_follow : History → ℕ → Bool
+may_follow history rules =
+    nat_le 1 rules && nat_le rules newest_rules && nat_le (last_rules (last_entry history)) rules
+
+-- The entry is what its own request adds to the office before it, by its own rules and at its own moment. Its rules may
+-- follow those of the entry before it.
 abbrev pub IsNext : OfficeState → KeptEntry → Type 0
 IsNext before e =
     (request : Request) × (request_of e ≡ Some request) × IsRequest request × IsMoment e.moment
-    × (outcome before request e.moment ≡ adds e)
+    × IsTrue (may_follow before.history e.rules) × (outcome_by e.rules before request e.moment ≡ adds e)
 
 -- each entry of the rest is next after those before it
 abbrev pub LegalAfter : Limits → History → History → Type 0
@@ -36,7 +48,8 @@ LegalAfter limits before [] = Unit {0}
 LegalAfter limits before (e ∷ rest) = IsNext (office_of limits before) e
     × LegalAfter limits (before ++ e ∷ []) rest
 
--- each entry is what its own request adds to the entries before it, under the limits
+-- each entry is what its own request adds to the entries before it, under the limits, and no entry's rules are lower
+-- than those of the entry before it
 unfoldable pub Legal : OfficeState → Type 0
 Legal office = LegalAfter office.limits [] office.history
 

@@ -9,6 +9,7 @@ use Rattle.lei_records.specs.Items.{ready}
 use Rattle.lei_records.specs.Tables.{Table}
 use Rattle.lei_records.specs.declared.item.RawItem.{RawItem}
 use Rattle.lei_records.specs.declared.item.Readied.{Readied}
+use Rattle.lei_records.specs.declared.rules.Rules.{Rules}
 use Rattle.register_judge.specs.declared.sitting.Sitting.{Sitting}
 use Rattle.lei_records.specs.RuleNumbers.{rules_of}
 use Rattle.register_judge.specs.Sittings.{sitting_by}
@@ -20,14 +21,14 @@ use Rattle.lei_outside.specs.Keeping.{number_of}
 use Rattle.upload_ledger.specs.History.{History, is_upload, last_entry}
 use Rattle.register_history.specs.State.{OfficeState}
 
--- the items of a body after the checks of their fields, none of a body that is no upload
-abbrev pub items_in : Result (List RawItem) Malformed → List Readied
-items_in (Ok raws) = map ready raws
-items_in (Err fault) = []
+-- the items of a body after the checks of their fields by these rules, none of a body that is no upload
+abbrev pub items_in : Rules → Result (List RawItem) Malformed → List Readied
+items_in rules (Ok raws) = map (ready rules) raws
+items_in rules (Err fault) = []
 
--- the items of an entry's body
+-- the items of an entry's body, read by the entry's rules
 abbrev pub items_of : KeptEntry → List Readied
-items_of e = items_in (upload e.body)
+items_of e = items_in (rules_of e.rules) (upload e.body)
 
 -- The sitting in which the items of an entry are judged: by the entry's rules, for its issuer, on the day of its
 -- moment, and under the limit on records.

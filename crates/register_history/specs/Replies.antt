@@ -12,7 +12,7 @@ use Rattle.lei_records.specs.Rows.{Row}
 use Rattle.lei_records.specs.Tables.{Table, row_at}
 use Rattle.lei_records.specs.declared.item.Item.{Item}
 use Rattle.lei_records.specs.declared.item.RawItem.{RawItem}
-use Rattle.lei_records.specs.declared.rules.Rules.{Rules}
+use Rattle.lei_records.specs.RuleNumbers.{rules_of}
 use Rattle.register_judge.specs.Sittings.{sitting_by}
 use Rattle.register_judge.specs.Taking.{take}
 use Rattle.register_judge.specs.declared.outcome.Verdict.{Verdict}
@@ -38,6 +38,7 @@ use Rattle.answer_texts.specs.Answers.{accreditation_text, publication_text, sta
 use Rattle.register_history.specs.Publications.{published_rows, trail}
 use Rattle.register_history.specs.Register.{after}
 use Rattle.register_history.specs.State.{OfficeState}
+use Rattle.register_history.specs.declared.terms.EntryTerms.{EntryTerms}
 use Rattle.copy_forms.specs.Items.{item_text}
 
 -- A request leaves the history, and has this reply; or it adds this entry, and has the entry's reply.
@@ -58,45 +59,46 @@ json_reply code text = Text code Json text
 abbrev pub told : KeptEntry → Reply
 told e = json_reply (kind_status_code e.kind) e.answer
 
--- ---- what a request adds, at the moment of the new entry
+-- ---- what a request adds, by the rules and at the moment of the new entry
 
 -- an accreditation is an entry of kind 1, without a number and a body
-abbrev pub accreditation : History → Lei → ℤ → KeptEntry
-accreditation history issuer moment =
+abbrev pub accreditation : History → Lei → EntryTerms → KeptEntry
+accreditation history issuer terms =
     let number = length history + 1 in
     record {
       seq = number;
       kind = 1;
       office = issuer;
       number = 0;
-      moment = moment;
-      rules = 1;
+      moment = terms.moment;
+      rules = terms.rules;
       body = [];
       answer = accreditation_text number issuer;
     }
 
--- an upload is an entry of kind 2, with the number and the body that were sent; its items are judged by rules 1
-abbrev pub upload_entry : History → Call → ℤ → List Verdict → KeptEntry
-upload_entry history call moment verdicts =
+-- an upload is an entry of kind 2, with the number and the body that were sent, and a verdict on each item
+abbrev pub upload_entry : History → Call → EntryTerms → List Verdict → KeptEntry
+upload_entry history call terms verdicts =
     let number = length history + 1 in
     record {
       seq = number;
       kind = 2;
       office = call.office;
       number = call.number;
-      moment = moment;
-      rules = 1;
+      moment = terms.moment;
+      rules = terms.rules;
       body = call.body;
       answer = upload_text number call.office call.number verdicts;
     }
 
--- the items are judged by rules 1 on the table after the history, on the day of the moment
-abbrev pub taken_upload : OfficeState → Call → ℤ → List RawItem → KeptEntry
-taken_upload office call moment raws =
+-- the items are read and judged by the entry's rules, on the table after the history and on the day of the moment
+abbrev pub taken_upload : OfficeState → Call → EntryTerms → List RawItem → KeptEntry
+taken_upload office call terms raws =
     let table = after office.limits office.history in
-    let sitting = sitting_by Rules.First office.limits.records (day_of moment) call.office in
-    let taken = take table sitting (map ready raws) in
-    upload_entry office.history call moment taken.verdicts
+    let rules = rules_of terms.rules in
+    let sitting = sitting_by rules office.limits.records (day_of terms.moment) call.office in
+    let taken = take table sitting (map (ready rules) raws) in
+    upload_entry office.history call terms taken.verdicts
 
 -- how many rows of each sheet are published of a table: records, relationships and exceptions
 abbrev pub published_counts : Table → ℕ × ℕ × ℕ
@@ -107,18 +109,18 @@ published_counts table = (
 )
 
 -- a publication is an entry of kind 3, without an office and a body, with the number that was asked for
-abbrev pub publication_entry : OfficeState → ℕ → ℤ → KeptEntry
-publication_entry office number moment =
+abbrev pub publication_entry : OfficeState → ℕ → EntryTerms → KeptEntry
+publication_entry office number terms =
     let seq = length office.history + 1 in
     record {
       seq = seq;
       kind = 3;
       office = [];
       number = number;
-      moment = moment;
-      rules = 1;
+      moment = terms.moment;
+      rules = terms.rules;
       body = [];
-      answer = publication_text seq number moment (published_counts (after office.limits office.history));
+      answer = publication_text seq number terms.moment (published_counts (after office.limits office.history));
     }
 
 -- ---- what a request comes to
@@ -132,31 +134,31 @@ abbrev pub is_too_much : OfficeState → texts.Body → Bool
 is_too_much office body = nat_lt office.limits.kept (kept_bytes office.history + length body)
 
 -- an issuer that is accredited gets the answer from then
-abbrev pub accredit_outcome : OfficeState → Lei → ℤ → Option texts.Text → Outcome
-accredit_outcome office issuer moment None =
-    if is_full office then stays (Words LedgerFull) else adds (accreditation office.history issuer moment)
-accredit_outcome office issuer moment (Some text) = stays (json_reply (kind_status_code 1) text)
+abbrev pub accredit_outcome : OfficeState → Lei → EntryTerms → Option texts.Text → Outcome
+accredit_outcome office issuer terms None =
+    if is_full office then stays (Words LedgerFull) else adds (accreditation office.history issuer terms)
+accredit_outcome office issuer terms (Some text) = stays (json_reply (kind_status_code 1) text)
 
 -- a body that is no upload takes no number, and neither does one for which there is no room
-abbrev pub body_outcome : OfficeState → Call → ℤ → Result (List RawItem) Malformed → Outcome
-body_outcome office call moment (Ok raws) =
+abbrev pub body_outcome : OfficeState → Call → EntryTerms → Result (List RawItem) Malformed → Outcome
+body_outcome office call terms (Ok raws) =
     if is_full office || is_too_much office call.body then stays (Words LedgerFull)
-    else adds (taken_upload office call moment raws)
-body_outcome office call moment (Err fault) = stays (Words (refusals.Malformed fault))
+    else adds (taken_upload office call terms raws)
+body_outcome office call terms (Err fault) = stays (Words (refusals.Malformed fault))
 
 -- a repeat gets the answer that was kept, at any later place
-abbrev pub place_outcome : OfficeState → Call → ℤ → Place → Outcome
-place_outcome office call moment unknown_issuer = stays (Words IssuerUnknown)
-place_outcome office call moment (repeat_of answer) = stays (json_reply (kind_status_code 2) answer)
-place_outcome office call moment number_taken = stays (Words NumberTaken)
-place_outcome office call moment (ahead next) = stays (Words (NumberAhead next))
-place_outcome office call moment fresh = body_outcome office call moment (upload call.body)
+abbrev pub place_outcome : OfficeState → Call → EntryTerms → Place → Outcome
+place_outcome office call terms unknown_issuer = stays (Words IssuerUnknown)
+place_outcome office call terms (repeat_of answer) = stays (json_reply (kind_status_code 2) answer)
+place_outcome office call terms number_taken = stays (Words NumberTaken)
+place_outcome office call terms (ahead next) = stays (Words (NumberAhead next))
+place_outcome office call terms fresh = body_outcome office call terms (upload call.body)
 
 -- a body is no longer than the limit
-unfoldable pub upload_outcome : OfficeState → Call → ℤ → Outcome
-upload_outcome office call moment =
+unfoldable pub upload_outcome : OfficeState → Call → EntryTerms → Outcome
+upload_outcome office call terms =
     if nat_lt office.limits.body (length call.body) then stays (Words TooLong)
-    else place_outcome office call moment (place office.history call.office call.number call.body)
+    else place_outcome office call terms (place office.history call.office call.number call.body)
 
 -- an upload's answer is told as it was kept
 abbrev pub answer_outcome : Option texts.Text → Outcome
@@ -174,12 +176,12 @@ abbrev pub next_publication : History → ℕ
 next_publication history = length (publications history) + 1
 
 -- A publication that was made gets the answer from then. Of all other numbers it is only the next one that is made.
-abbrev pub publish_outcome : OfficeState → ℕ → ℤ → Option texts.Text → Outcome
-publish_outcome office number moment None =
+abbrev pub publish_outcome : OfficeState → ℕ → EntryTerms → Option texts.Text → Outcome
+publish_outcome office number terms None =
     if number == next_publication office.history then
-    (if is_full office then stays (Words LedgerFull) else adds (publication_entry office number moment))
+    (if is_full office then stays (Words LedgerFull) else adds (publication_entry office number terms))
     else stays (Words (NumberAhead (next_publication office.history)))
-publish_outcome office number moment (Some text) = stays (json_reply (kind_status_code 3) text)
+publish_outcome office number terms (Some text) = stays (json_reply (kind_status_code 3) text)
 
 -- the kind of a text that is a file in this form
 abbrev pub form_kind : Form → Kind
@@ -227,22 +229,34 @@ held_counts table = (len table.records, len table.relations, len table.exception
 abbrev pub status_outcome : History → Table → Outcome
 status_outcome history table = stays (json_reply 200 (status_text (totals history) (held_counts table)))
 
--- what a request comes to, where an entry that is added has this moment
-abbrev pub outcome_at : OfficeState → Request → ℤ → Outcome
-outcome_at office (requests.Accredit issuer) moment =
-    accredit_outcome office issuer moment (accredited office.history issuer)
-outcome_at office (requests.Upload call) moment = upload_outcome office call moment
-outcome_at office (requests.Kept issuer number) moment = kept_outcome office.history issuer number
-outcome_at office (requests.Publish number) moment =
-    publish_outcome office number moment (published office.history number)
-outcome_at office (requests.Show lei) moment = show_outcome (row_at (after office.limits office.history) lei)
-outcome_at office (requests.Copy sheet form) moment = copy_outcome sheet form (trail office)
-outcome_at office (requests.Delta base sheet form) moment = delta_outcome base sheet form (trail office)
-outcome_at office requests.Status moment = status_outcome office.history (after office.limits office.history)
+-- what a request comes to, where an entry that is added has these rules and this moment
+abbrev pub outcome_at : OfficeState → Request → EntryTerms → Outcome
+outcome_at office (requests.Accredit issuer) terms =
+    accredit_outcome office issuer terms (accredited office.history issuer)
+outcome_at office (requests.Upload call) terms = upload_outcome office call terms
+outcome_at office (requests.Kept issuer number) terms = kept_outcome office.history issuer number
+outcome_at office (requests.Publish number) terms =
+    publish_outcome office number terms (published office.history number)
+outcome_at office (requests.Show lei) terms = show_outcome (row_at (after office.limits office.history) lei)
+outcome_at office (requests.Copy sheet form) terms = copy_outcome sheet form (trail office)
+outcome_at office (requests.Delta base sheet form) terms = delta_outcome base sheet form (trail office)
+outcome_at office requests.Status terms = status_outcome office.history (after office.limits office.history)
 
--- the same where the request comes at this moment of the clock
+-- the terms of the next entry by these rules, where its request comes at this moment of the clock
+abbrev pub terms_by : ℕ → History → ℤ → EntryTerms
+terms_by rules history moment = record { rules = rules; moment = stamp history moment }
+
+-- what a request comes to by these rules at this moment of the clock
+abbrev pub outcome_by : ℕ → OfficeState → Request → ℤ → Outcome
+outcome_by rules office request moment = outcome_at office request (terms_by rules office.history moment)
+
+-- the rules of each entry that is made now: the second
+abbrev pub newest_rules : ℕ
+newest_rules = 2
+
+-- what a request that is made now comes to
 abbrev pub outcome : OfficeState → Request → ℤ → Outcome
-outcome office request moment = outcome_at office request (stamp office.history moment)
+outcome office request moment = outcome_by newest_rules office request moment
 
 -- ---- the reply and the next history
 
@@ -260,13 +274,21 @@ history_after history (adds e) = history ++ e ∷ []
 abbrev pub next_of : OfficeState → Outcome → OfficeState
 next_of office outcome = record office { history = history_after office.history outcome }
 
--- the reply to a request at a moment of the clock
+-- the reply by these rules to a request at a moment of the clock
+abbrev pub reply_by : ℕ → OfficeState → Request → ℤ → Reply
+reply_by rules office request moment = reply_of (outcome_by rules office request moment)
+
+-- the office after it
+abbrev pub next_by : ℕ → OfficeState → Request → ℤ → OfficeState
+next_by rules office request moment = next_of office (outcome_by rules office request moment)
+
+-- the reply to a request that is made now
 abbrev pub reply : OfficeState → Request → ℤ → Reply
-reply office request moment = reply_of (outcome office request moment)
+reply office request moment = reply_by newest_rules office request moment
 
 -- the office after it
 abbrev pub next : OfficeState → Request → ℤ → OfficeState
-next office request moment = next_of office (outcome office request moment)
+next office request moment = next_by newest_rules office request moment
 
 -- ---- one step, which want of memory or the keeper may stop
 

@@ -4,6 +4,7 @@
 
 mod damage;
 mod laws;
+mod terms;
 
 pub use damage::Damage;
 pub use laws::{
@@ -13,3 +14,4 @@ pub use laws::{
     registers_are_sound, sessions_are_exact, steps_add_one_entry_or_none, successors_are_chained,
     texts_of_entries_differ, touched_keys_were_accepted, uploads_are_numbered,
 };
+pub use terms::EntryTerms;

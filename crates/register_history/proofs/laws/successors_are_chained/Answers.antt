@@ -1,5 +1,5 @@
-use Rattle.register_history.proofs.Registers.{after-fit}
+use Rattle.register_history.proofs.Chained.{legal-chained}
 use Rattle.register_history.proofs.laws.successors_are_chained.Goals as goal
 
 pub returns : goal.returns
-returns c = λ office legal. (after-fit office.limits office.history).chains
+returns c = legal-chained
