@@ -17,7 +17,7 @@ pub struct KeptEntry {
     pub number: u32,
     /// The entry's moment, in seconds since 1970 in UTC.
     pub moment: i64,
-    /// The rules that it was judged by: 1.
+    /// The number of the rules by which it was made: 1 or 2.
     pub rules: u16,
     /// The body of the upload, empty for the others.
     pub body: Shared,

@@ -1,6 +1,6 @@
 -- What the row of a relationship spells by its texts. Each part of such a row can be read; for that of another row
 -- stands the value behind it.
-use Rattle.std.specs.Prelude.{ℕ, ℤ, List, Bool, true, false, ◌&&◌, Option, unwrap_or, option_and_then}
+use Rattle.std.specs.Prelude.{ℤ, Bool, true, false, ◌&&◌, Option, unwrap_or, option_and_then}
 use Rattle.std.specs.Str.{bytes_eq}
 use Rattle.lei_code.specs.Texts.{Lei}
 use Rattle.lei_shapes.specs.declared.lists.RelationType.{RelationType}

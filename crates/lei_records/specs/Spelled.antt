@@ -1,5 +1,5 @@
 -- What a row spells by its texts, and which rows are those of records, of relationships and of exceptions.
-use Rattle.std.specs.Prelude.{◌≡◌, ◌≤◌, ◌-◌, ℕ, ℤ, pos, List, length, Bool, ◌==◌, if◌then◌else◌, Option, None, Some, IsSome, IfSome, IsTrue, unwrap_or}
+use Rattle.std.specs.Prelude.{◌≡◌, ◌≤◌, ℕ, ℤ, pos, length, Bool, ◌==◌, if◌then◌else◌, Option, None, Some, IsSome, IfSome, IsTrue, unwrap_or}
 use Rattle.std.specs.List.{All}
 use Rattle.lei_code.specs.Code.{IsValid}
 use Rattle.lei_code.specs.Texts.{Text}

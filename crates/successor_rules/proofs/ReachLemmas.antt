@@ -1,22 +1,22 @@
 -- The first 200 LEIs that a walk by levels reaches: what these name decides what becomes of it.
-use Rattle.std.specs.Prelude.{◌≡◌, ℕ, zero, suc, ◌+◌, ◌<◌, ◌≤◌, Bool, true, false, not, cond, ◌&&◌, ◌||◌, nat_lt, List, [], ◌∷◌, ◌++◌, length, take, drop, get_or, find, Option, Some, None}
+use Rattle.std.specs.Prelude.{◌≡◌, ℕ, zero, suc, ◌+◌, ◌<◌, ◌≤◌, Bool, true, false, not, cond, ◌&&◌, ◌||◌, List, [], ◌∷◌, ◌++◌, length, take, drop, get_or, find, Option, Some, None}
 use Rattle.std.specs.List.{AllByRecursion, IsDistinct}
 use Rattle.std.proofs.Math.ListN.{get_or-append}
 use Rattle.std.specs.Str.{bytes_eq}
 use Rattle.std.proofs.Common.{refl, sym, ap, subst, ◌∙◌, ◌⊎◌, inl, inr, arith}
 use Rattle.std.proofs.lemmas.Bool.{and_parts, cases_Bool, cases_lt, false≢true, lt-ltb, ltb-false, ltb-true, or_cases, or_left, or_right}
-use Rattle.std.proofs.lemmas.List.{length-append, length-take-le, take-append-drop, take-append-le, take_all, take_more}
+use Rattle.std.proofs.lemmas.List.{length-take-le, take-append-drop, take_all, take_more}
 use Rattle.std.proofs.lemmas.Map.Made.{length-le_from_is_member}
 use Rattle.lei_records.specs.declared.view.CellKey.{CellKey}
 use Rattle.lei_records.specs.declared.view.Seen.{Seen}
 use Rattle.successor_rules.specs.declared.walks.Walked.{Walked}
 use Rattle.successor_rules.specs.Chains.{Nexts}
-use Rattle.successor_rules.specs.Levels.{SeenNexts, each_once, first_lacking, held_nexts, is_back, is_wide, known_nexts, lacks_nexts, levels, next_level, onward, others, reached, spread_out, spread_over}
+use Rattle.successor_rules.specs.Levels.{SeenNexts, first_lacking, held_nexts, is_back, is_wide, known_nexts, lacks_nexts, levels, next_level, onward, others, reached, spread_over}
 use Rattle.successor_rules.specs.Walks.{unless_lacking}
 use Rattle.successor_rules.proofs.AgreeLemmas.{find-none, find-some, named_there, others-same-all, spread-same, text_laws}
 use Rattle.successor_rules.proofs.ViewLemmas.{spread-whole}
 use Rattle.successor_rules.proofs.LevelLemmas.{Within, has, has-append, has-at, next-has, once-distinct, once-has, own_text, same_text}
-use Rattle.successor_rules.proofs.RiseLemmas.{Begins, begins_length, begins_on, gathered, gathered-begins, others-begin, others-next, others-rise, others-stand}
+use Rattle.successor_rules.proofs.RiseLemmas.{Begins, begins_length, begins_on, gathered, gathered-begins, others-next, others-rise, others-stand}
 
 -- of two lists with which a third one begins, the shorter begins the longer
 shorter : (xs ys rest more : List (List ℕ)) → xs ++ rest ≡ ys ++ more → length xs ≤ length ys → Begins xs ys

@@ -1,13 +1,12 @@
 -- Levels: what is reached from an entity, step by step, if each LEI may name several next ones. This project's profile.
-use Rattle.std.specs.Prelude.{◌≡◌, ℕ, zero, suc, Bool, true, false, if◌then◌else◌, List, [], ◌∷◌, ◌++◌, length, nat_lt, take, find, flat_map, Option, IsTrue}
-use Rattle.std.specs.List.{Contains}
+use Rattle.std.specs.Prelude.{◌≡◌, ℕ, zero, suc, Bool, true, false, if◌then◌else◌, List, [], ◌∷◌, ◌++◌, length, nat_lt, take, find, flat_map, Option}
 use Rattle.std.specs.Set.{is_member}
 use Rattle.std.specs.Str.{bytes_eq}
 use Rattle.lei_code.specs.Texts.{Lei}
 use Rattle.lei_records.specs.declared.view.CellKey.{CellKey}
 use Rattle.lei_records.specs.declared.view.Seen.{Seen}
 use Rattle.successor_rules.specs.declared.walks.Walked.{Walked}
-use Rattle.successor_rules.specs.Chains.{AllEnd, Nexts}
+use Rattle.successor_rules.specs.Chains.{Nexts}
 use Rattle.successor_rules.specs.Walks.{unless_lacking}
 
 -- ---- levels

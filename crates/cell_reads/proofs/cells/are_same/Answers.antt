@@ -1,4 +1,3 @@
-use Rattle.std.specs.Str.{bytes_eq}
 use Rattle.std.proofs.lemmas.Slice.Eq.{bytes_eq-Decides, slice_eq-Decides}
 use Rattle.cell_reads.proofs.cells.are_same.Goals as goal
 

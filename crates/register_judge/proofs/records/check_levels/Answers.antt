@@ -1,4 +1,4 @@
-use Rattle.std.proofs.Common.{◌≡◌, ◌∙◌, Bool, IfOk, ap, false, length, subst, sym, unwrap_or}
+use Rattle.std.proofs.Common.{◌≡◌, ◌∙◌, IfOk, ap, false, length, subst, sym, unwrap_or}
 use Rattle.std.specs.Prelude.{◌==◌}
 use Rattle.lei_records.specs.Cells.{lei_in, successors_in}
 use Rattle.relation_rules.specs.declared.checked.Checked.{Checked}

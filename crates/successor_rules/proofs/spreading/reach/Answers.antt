@@ -1,4 +1,4 @@
-use Rattle.std.proofs.Common.{rules, ◌≡◌, ◌<◌, ◌≤◌, [], length, get_or, arith, take, sym, ◌∙◌}
+use Rattle.std.proofs.Common.{rules, ◌≡◌, ◌<◌, ◌≤◌, [], length, get_or, arith, take, ◌∙◌}
 use Rattle.successor_rules.specs.Levels.{held_nexts, known_nexts}
 use Rattle.successor_rules.proofs.StageLemmas.{begun, joined, cut_at_once, cut_then, joined-longer, one_asked, reached_all}
 use Rattle.successor_rules.proofs.spreading.reach.Goals as goal

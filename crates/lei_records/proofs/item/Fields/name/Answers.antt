@@ -1,4 +1,4 @@
-use Rattle.std.proofs.Common.{List, ℕ, ◌∙◌, ◌≡◌, ◌+◌, ◌<◌, length, ap, arith, get_or, []}
+use Rattle.std.proofs.Common.{List, ℕ, ◌∙◌, ◌<◌, length, ap, arith, get_or, []}
 use Rattle.lei_records.proofs.PairLemmas.{pairs_count, first_at}
 use Rattle.lei_records.proofs.item.Fields.name.Goals as goal
 
