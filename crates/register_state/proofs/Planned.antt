@@ -43,15 +43,15 @@ few_items call items is =
 -- ---- what items come to
 
 -- items that were judged on the table as it is kept, at the moment as it was handed on
-pub judged_by : (office : OfficeState) (call : Call) (at moment : ℤ) (outcome : judged.Outcome) (raws items : List RawItem) (table : Table)
-    → upload call.body ≡ Ok raws → items ≡ raws → at ≡ moment → table ≡ after office.limits office.history
-    → ShowsTaken outcome (take table (sitting_by Rules.First office.limits.records (day_of at) call.office) (map ready items))
+pub judged_by : (office : OfficeState) (call : Call) (at moment : ℤ) (outcome : judged.Outcome) (raws : List RawItem) (items : List Readied) (table : Table)
+    → upload call.body ≡ Ok raws → items ≡ map ready raws → at ≡ moment → table ≡ after office.limits office.history
+    → ShowsTaken outcome (take table (sitting_by Rules.First office.limits.records (day_of at) call.office) items)
     → IsTakenBy office call moment outcome
 judged_by office call at moment outcome raws items table reads same now is shows =
     let sitting : ℤ → Sitting = λ m. sitting_by Rules.First office.limits.records (day_of m) call.office in
-    let R : List RawItem → Type 0 = λ rs. ShowsTaken outcome (take (after office.limits office.history) (sitting moment) (map ready rs)) in
-    let M : ℤ → Type 0 = λ m. ShowsTaken outcome (take (after office.limits office.history) (sitting m) (map ready items)) in
-    let T : Table → Type 0 = λ t. ShowsTaken outcome (take t (sitting at) (map ready items)) in
+    let R : List Readied → Type 0 = λ rs. ShowsTaken outcome (take (after office.limits office.history) (sitting moment) rs) in
+    let M : ℤ → Type 0 = λ m. ShowsTaken outcome (take (after office.limits office.history) (sitting m) items) in
+    let T : Table → Type 0 = λ t. ShowsTaken outcome (take t (sitting at) items) in
     record { raws = raws; reads = reads; taken = subst R same (subst M now (subst T is shows)) }
 
 -- items that were judged ahead

@@ -16,7 +16,7 @@ ghost use Rattle.register_history.specs.Register.{after};
 use crate::books::Books;
 use crate::decision::{Decision, refused};
 use crate::entries::{accreditation, taken_upload};
-use crate::judge::{is_usable, judge};
+use crate::judge::{is_usable, judge, ready_all};
 use crate::publishing::{copy, delta};
 use answer_texts::status_text;
 use copy_forms::item_text;
@@ -51,7 +51,7 @@ impl Books {
     {
         match request {
             Request::Accredit(issuer) => self.accredit(issuer, moment),
-            Request::Upload(call) => self.upload(reader, call, None, moment),
+            Request::Upload(call) => self.upload(rt, reader, call, None, moment),
             Request::Kept(issuer, number) => Ok(Decision::Stays(self.kept(issuer, *number)?)),
             Request::Publish(number) => self.publish(rt, shelf, *number, moment),
             Request::Show(lei) => Ok(Decision::Stays(self.show(lei)?)),
@@ -118,8 +118,9 @@ impl Books {
 
     // Decides an upload, which may have been judged ahead.
     #[tactic(auto, unfolding(register_history::specs::Replies::upload_outcome))]
-    pub fn upload(
+    pub fn upload<R: Threads + Sync>(
         &self,
+        rt: &R,
         reader: &mut Reader,
         call: &Call,
         plan: Option<Plan>,
@@ -142,13 +143,14 @@ impl Books {
             Place::Repeat(answer) => Ok(Decision::Stays(kept_reply(self.alloc, answer)?)),
             Place::Taken => Ok(refused(Refusal::NumberTaken)),
             Place::Ahead(next) => Ok(refused(Refusal::NumberAhead(next))),
-            Place::Fresh => self.take_fresh(reader, call, plan, moment),
+            Place::Fresh => self.take_fresh(rt, reader, call, plan, moment),
         }
     }
 
     // Takes an upload of the next number: as it was planned if it still comes to that, and else by its body.
-    fn take_fresh(
+    fn take_fresh<R: Threads + Sync>(
         &self,
+        rt: &R,
         reader: &mut Reader,
         call: &Call,
         plan: Option<Plan>,
@@ -165,7 +167,7 @@ impl Books {
                 return self.take_planned(call, plan, moment);
             }
         }
-        self.take_upload(reader, call, moment)
+        self.take_upload(rt, reader, call, moment)
     }
 
     // Takes an upload as it was planned. Its body isn't read again.
@@ -188,8 +190,9 @@ impl Books {
         self.add_judged(call, plan.outcome, moment)
     }
 
-    fn take_upload(
+    fn take_upload<R: Threads + Sync>(
         &self,
+        rt: &R,
         reader: &mut Reader,
         call: &Call,
         moment: Moment,
@@ -207,14 +210,14 @@ impl Books {
         if self.is_full() || self.is_too_much(call.body.as_slice()) {
             return Ok(refused(Refusal::LedgerFull));
         }
-        let (records, items) = (self.limits.records, upload.items.as_slice());
+        let items = ready_all(rt, self.alloc, upload.items.as_slice())?;
         let judged = judge(
             self.alloc,
             &self.table,
-            records,
+            self.limits.records,
             &call.office,
             moment.seconds(),
-            items,
+            items.as_slice(),
         )?;
         self.add_judged(call, judged, moment)
     }

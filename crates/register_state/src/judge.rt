@@ -17,6 +17,15 @@ use lei_shapes::day_number;
 use register_judge::{JudgeStop, Outcome, Plan, judge_on};
 use register_table::Table;
 use std::alloc::Global;
+use std::marker::Brand;
+use std::sync::ledger::{Blank, Ledger};
+use std::thread::Threads;
+use worker_pool::{Steps, map_list};
+
+// From so many items on their checks are asked in several threads. An item takes some microseconds, and a thread some
+// fifty of them to start. `map_list` gives a thread at least 1,024 members: fewer than twice as many would stay in one
+// thread, and there a plain loop takes the memory for all of them at once.
+const MANY_ITEMS: usize = 2_048;
 
 // Judges the items of an issuer's upload on the table, on the day of the moment, where the table may hold so many
 // records.
@@ -26,26 +35,18 @@ pub fn judge(
     records: u32,
     issuer: &Lei,
     moment: i64,
-    raws: &[RawItem],
+    items: &[Readied],
 ) -> Result<Outcome, NoMemory>
-    requires count { length raws.now ≤ 5000 }
+    requires count { length items.now ≤ 5000 }
     requires moment { IsMoment moment }
     requires fits { record_count (rows table.now.held) ≤ records }
     ensures { IfOk result (λ outcome.
         ShowsTaken outcome
         (take (rows table.now.held) (sitting_by Rules.First records (day_of moment) issuer.now)
-        (map ready_of raws.now))) }
+        items.now)) }
 {
-    let items = ready_all(alloc, raws)?;
     let room = records.saturating_sub(table.held());
-    match judge_on(
-        alloc,
-        table,
-        room,
-        issuer,
-        day_number(moment),
-        items.as_slice(),
-    ) {
+    match judge_on(alloc, table, room, issuer, day_number(moment), items) {
         Ok(outcome) => Ok(outcome),
         Err(JudgeStop::NoMemory) => Err(NoMemory),
         Err(JudgeStop::NeedCell(_)) => unreachable!(),
@@ -67,8 +68,46 @@ pub fn is_usable(table: &Table, records: u32, moment: i64, plan: &Plan) -> bool
         && table.agrees(&plan.outcome.reads)
 }
 
-// Asks the checks of each item's fields.
-pub fn ready_all(alloc: Global, raws: &[RawItem]) -> Result<Vec<Readied>, NoMemory>
+// Asks the checks of each item's fields, in several threads if the items are many.
+pub fn ready_all<R: Threads + Sync>(
+    rt: &R,
+    alloc: Global,
+    raws: &[RawItem],
+) -> Result<Vec<Readied>, NoMemory>
+    ensures { IfOk result (λ items. items.items ≡ map ready_of raws.now) }
+{
+    if raws.len() < MANY_ITEMS {
+        return ready_one_by_one(alloc, raws);
+    }
+    ready_in_threads::<Brand, R>(rt, alloc, raws, Blank::new(1))
+}
+
+// The same in as many threads as there are processors. Each item is a step, counted in a ledger that nobody reads.
+fn ready_in_threads<L: Ledger, R: Threads + Sync>(
+    rt: &R,
+    alloc: Global,
+    raws: &[RawItem],
+    blank: Blank,
+) -> Result<Vec<Readied>, NoMemory>
+    requires name { blank.name ≡ L.name }
+    requires parts { blank.parts ≡ L.parts }
+    requires one { blank.parts ≡ 1 }
+    ensures { IfOk result (λ items. items.items ≡ map ready_of raws.now) }
+{
+    let mut steps = Steps::<L>::new(blank);
+    map_list(
+        rt,
+        alloc,
+        raws,
+        |raw: &RawItem| -> Result<Readied, NoMemory>
+            ensures { IfOk result (λ item. item ≡ ready_of raw.now) }
+        { ready(alloc, raw) },
+        &mut steps,
+    )
+}
+
+// The same in this thread.
+fn ready_one_by_one(alloc: Global, raws: &[RawItem]) -> Result<Vec<Readied>, NoMemory>
     ensures { IfOk result (λ items. items.items ≡ map ready_of raws.now) }
 {
     let mut items = Vec::with_capacity(alloc, raws.len())?;

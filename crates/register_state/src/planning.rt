@@ -8,18 +8,19 @@ use lei_shapes::{Moment, day_number};
 use register_judge::{Plan, Verdict, judge_all};
 use register_words::Call;
 use std::alloc::Global;
+use std::thread::Threads;
 use upload_format::Reader;
 
 /// The items of an upload, with the checks of their fields asked. There are none if the body has no reading, or if
 /// memory runs out.
-pub fn items_of(alloc: Global, call: &Call) -> Option<Vec<Readied>>
+pub fn items_of<R: Threads + Sync>(rt: &R, alloc: Global, call: &Call) -> Option<Vec<Readied>>
     ensures { IfSome result (λ items. AreItemsOf call.now items.items) }
 {
     let mut reader = Reader::new(alloc);
     let Ok(upload) = reader.read(alloc, call.body.as_slice()) else {
         return None;
     };
-    ready_all(alloc, upload.items.as_slice()).ok()
+    ready_all(rt, alloc, upload.items.as_slice()).ok()
 }
 
 /// A plan of an upload, by what a view has of a table. There is none if the view lacks a cell that an item needs, or if

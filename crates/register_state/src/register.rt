@@ -154,8 +154,9 @@ impl Register {
     /// Answers an upload that came at this moment, as `answer` does its request, whether there is a plan of it or none.
     /// A plan is used if it is of the day, if the table agrees with what it has read, and if its new records fit: then
     /// neither is the body read nor are its items judged. Nothing has to be copied for that.
-    pub fn settle<K: Keeper>(
+    pub fn settle<K: Keeper, R: Threads + Sync>(
         &mut self,
+        rt: &R,
         keeper: &mut K,
         call: &Call,
         plan: Option<Plan>,
@@ -176,7 +177,7 @@ impl Register {
         ensures failed { IsErrOf result KeepFault.Failed → Rose (K.faults keeper.old) (K.faults keeper.new) }
     {
         let moment = self.books.stamp(moment);
-        match self.books.upload(&mut self.reader, call, plan, moment) {
+        match self.books.upload(rt, &mut self.reader, call, plan, moment) {
             Ok(Decision::Stays(reply)) => Ok(reply),
             Ok(Decision::Adds(entry, writes)) => match self.books.add(keeper, entry, &writes) {
                 Ok(reply) => Ok(reply),
