@@ -105,7 +105,8 @@ pub fn fetch_cells<K: Keeper>(slot: &mut Slot<K>, keys: &[CellKey]) -> Looked
 }
 
 // Settles an upload with the office, which may have been judged ahead.
-pub fn settle_call<'a, K: Keeper>(
+pub fn settle_call<'a, K: Keeper, R: Threads + Sync>(
+    rt: &R,
     slot: &mut Slot<K>,
     call: &'a Call,
     plan: Option<Plan>,
@@ -117,7 +118,7 @@ pub fn settle_call<'a, K: Keeper>(
     ensures opened { slot.new.opened ≡ slot.old.opened }
     ensures answers { Answers K.faults slot.old.office (Upload call.now) moment result.reply slot.new.office }
 {
-    let reply = slot.office.settle(call, plan, moment);
+    let reply = slot.office.settle(rt, call, plan, moment);
     Settled {
         call,
         moment,

@@ -143,7 +143,7 @@ impl<K: Keeper> Hall<K> {
         ensures sees { SeesMore pass result.0 }
         ensures plan { IfSome result.1 (IsPlanOf call.now) }
     {
-        let Some(items) = items_of(self.alloc, call) else {
+        let Some(items) = items_of(rt, self.alloc, call) else {
             return (pass, None);
         };
         let Ok(keys) = keys_of(self.alloc, items.as_slice()) else {
@@ -178,12 +178,12 @@ impl<K: Keeper> Hall<K> {
             rt,
             pass,
             |slot: &mut Slot<K>| -> Settled<'_>
-                requires { IsUploadNumber call.now.number × IfSome plan (IsPlanOf call.now) }
+                requires { IsSync R.row × IsUploadNumber call.now.number × IfSome plan (IsPlanOf call.now) }
                 ensures asked { (result.call.now ≡ call.entry.now) × (result.moment ≡ moment) }
                 ensures opened { slot.new.opened ≡ slot.old.opened }
                 ensures answers { Answers K.faults
                     slot.old.office (Upload call.entry.now) moment result.reply slot.new.office }
-            { settle_call(slot, call, plan, moment) },
+            { settle_call(rt, slot, call, plan, moment) },
         );
         (pass, settled.reply)
     }

@@ -167,7 +167,13 @@ impl<K: Keeper> Office<K> {
     /// Answers an upload that came at this moment, as `answer` does its request, whether there is a plan of it or none,
     /// and whether that is stale. A plan is used if it is of the day, if the register agrees with what it has read, and
     /// if its new records fit. The upload is lent, and nothing of it is copied but what is kept.
-    pub fn settle(&mut self, call: &Call, plan: Option<Plan>, moment: Moment) -> Reply
+    pub fn settle<R: Threads + Sync>(
+        &mut self,
+        rt: &R,
+        call: &Call,
+        plan: Option<Plan>,
+        moment: Moment,
+    ) -> Reply
         requires numbered { IsUploadNumber call.now.number }
         requires plan { IfSome plan (IsPlanOf call.now) }
         ensures step { Step self.old.office (Upload call.now) moment result self.new.office }
@@ -183,7 +189,10 @@ impl<K: Keeper> Office<K> {
             → Rose (K.faults self.old.keeper) (K.faults self.new.keeper) }
         ensures legal { Legal self.new.office }
     {
-        reply_or(self.register.settle(&mut self.keeper, call, plan, moment))
+        reply_or(
+            self.register
+                .settle(rt, &mut self.keeper, call, plan, moment),
+        )
     }
 }
 

@@ -1,6 +1,6 @@
 -- What a crash may leave after an entry was to be added.
 use Rattle.std.proofs.Common.{◌≡◌, ◌⊎◌, inl, inr, ◌≤◌, [], ◌∷◌, ◌++◌, length, Option, None, Some, refl, sym, ap, subst, arith, length-append}
-use Rattle.std.specs.Prelude.{IfSome, IsSome}
+use Rattle.std.specs.Prelude.{IfSome}
 use Rattle.lei_outside.specs.Keeping.{KeptTables, LeavesEither, LeavesTold, with_batch}
 use Rattle.lei_outside.specs.declared.entry.KeptEntry.{KeptEntry}
 use Rattle.lei_outside.specs.declared.keeper.Batch.{Batch}
@@ -12,7 +12,7 @@ use Rattle.register_history.proofs.KeptLemmas.{told-with}
 use Rattle.register_table.specs.Held.{Held}
 use Rattle.upload_ledger.specs.History.{History}
 use Rattle.register_state.specs.Books.{with_entry}
-use Rattle.register_state.specs.Crashes.{CrashStays, IsLeftOf, LeavesAlso, LeavesOnly}
+use Rattle.register_state.specs.Crashes.{CrashStays, IsLeftOf, LeavesAlso}
 
 -- the tables that are told are those of the office with the entry
 pub crash-added : (old new : OfficeState) (e : KeptEntry) (told : Option KeptTables) (before after : Option KeptTables → Type 0) → new ≡ with_entry old e → Keeps told new → LeavesTold told after

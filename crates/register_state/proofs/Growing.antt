@@ -1,30 +1,36 @@
 -- The books of a register whose history grows by an entry.
-use Rattle.std.proofs.Common.{◌≡◌, ◌+◌, ℤ, ◌∷◌, [], ◌++◌, sym, ap, subst, ◌∙◌}
+use Rattle.std.proofs.Common.{◌≡◌, ◌+◌, ℕ, ℤ, ◌∷◌, [], ◌++◌, true, sym, ap, subst, ◌∙◌}
 use Rattle.lei_outside.specs.declared.entry.KeptEntry.{KeptEntry}
 use Rattle.lei_records.specs.Tables.{put_all}
 use Rattle.lei_shapes.specs.Moment.{IsMoment}
 use Rattle.register_table.specs.Held.{TableState, rows}
 use Rattle.register_table.specs.Undos.{IsLater, WriteList, touch_all}
-use Rattle.upload_ledger.specs.History.{History, stamp}
+use Rattle.upload_ledger.specs.History.{History}
 use Rattle.register_words.specs.Requests.{IsRequest}
 use Rattle.register_words.specs.declared.limits.Limits.{Limits}
 use Rattle.register_words.specs.declared.request.Request.{Request}
-use Rattle.register_history.specs.Legal.{Legal}
+use Rattle.register_history.specs.Legal.{Legal, may_follow}
 use Rattle.register_history.specs.Register.{IsKeptAfter}
-use Rattle.register_history.specs.Replies.{Outcome, adds, next_of, outcome, outcome_at}
+use Rattle.register_history.specs.Replies.{adds, newest_rules, outcome_at, outcome_by, terms_by}
 use Rattle.register_history.specs.State.{OfficeState, office_of}
-use Rattle.register_history.proofs.Histories.{Legal-next}
+use Rattle.register_history.proofs.Histories.{Legal-push, added-is_next, newest-follows}
 use Rattle.register_history.proofs.TableLemmas.{kept-push}
 use Rattle.register_state.specs.Books.{AreBooks, with_entry, writes_of}
 use Rattle.register_state.specs.Deciding.{FitsNext}
+use Rattle.register_history.specs.declared.terms.EntryTerms.{EntryTerms}
 
--- the entry that a request adds leads to a history that can come about
-pub legal-added : (office : OfficeState) (request : Request) (moment at : ℤ) (e : KeptEntry) → IsRequest request → IsMoment moment → at ≡ stamp office.history moment → Legal office
-    → outcome_at office request at ≡ adds e → Legal (with_entry office e)
-legal-added office request moment at e asked is stamped legal comes =
-    let came : outcome office request moment ≡ adds e = ap (outcome_at office request) (sym stamped) ∙ comes in
-    let L : Outcome → Type 0 = λ o. Legal (next_of office o) in
-    subst L came (Legal-next office.limits office.history request moment asked is legal)
+-- the entry that a request adds by rules that may follow leads to a history that can come about
+pub legal-added : (office : OfficeState) (rules : ℕ) (request : Request) (moment : ℤ) (at : EntryTerms) (e : KeptEntry) → IsRequest request → IsMoment moment
+    → may_follow office.history rules ≡ true → at ≡ terms_by rules office.history moment → Legal office → outcome_at office request at ≡ adds e → Legal (with_entry office e)
+legal-added office rules request moment at e asked is follows stamped legal comes =
+    let came : outcome_by rules office request moment ≡ adds e = ap (outcome_at office request) (sym stamped) ∙ comes in
+    Legal-push office.limits office.history e legal (added-is_next office.limits office.history rules request moment e asked is follows legal came)
+
+-- the same by the newest rules
+pub legal-new : (office : OfficeState) (request : Request) (moment : ℤ) (at : EntryTerms) (e : KeptEntry) → IsRequest request → IsMoment moment
+    → at ≡ terms_by newest_rules office.history moment → Legal office → outcome_at office request at ≡ adds e → Legal (with_entry office e)
+legal-new office request moment at e asked is stamped legal comes =
+    legal-added office newest_rules request moment at e asked is (newest-follows office.limits office.history legal) stamped legal comes
 
 -- the books with the entry
 pub books-push : (limits : Limits) (history later : History) (old new : TableState) (e : KeptEntry) (writes : WriteList) → AreBooks limits history old → Legal (with_entry (office_of limits history) e)

@@ -4,3 +4,4 @@ pub mod Outcomes
 pub mod Shelved
 pub mod Settling
 pub mod Planned
+pub mod InThreads

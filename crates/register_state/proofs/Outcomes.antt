@@ -1,5 +1,5 @@
 -- What a request is not refused with: that nothing can be kept is found by the keeper alone.
-use Rattle.std.proofs.Common.{◌≡◌, ℕ, ℤ, List, ◌||◌, ◌==◌, Bool, true, false, cond, ltb, length, is_some, Option, Some, None, Result, Ok, Err, subst, ◌∙◌}
+use Rattle.std.proofs.Common.{◌≡◌, ℕ, List, ◌||◌, ◌==◌, Bool, true, false, cond, ltb, length, is_some, Option, Some, None, Result, Ok, Err, subst, ◌∙◌}
 use Rattle.upload_format.specs.Bodies.{upload}
 use Rattle.register_words.specs.declared.malformed.Malformed.{Malformed}
 use Rattle.lei_code.specs.Texts.{Lei, Text}
@@ -31,6 +31,7 @@ use Rattle.register_history.specs.Publications.{trail}
 use Rattle.register_history.specs.Register.{after}
 use Rattle.register_history.specs.Replies.{Outcome, accredit_outcome, accreditation, adds, answer_outcome, body_outcome, changed, copied, is_full, is_too_much, next_publication, outcome_at, place_outcome, publication_entry, publish_outcome, show_outcome, stays, taken_upload, upload_outcome}
 use Rattle.register_history.specs.State.{OfficeState}
+use Rattle.register_history.specs.declared.terms.EntryTerms.{EntryTerms}
 
 -- what was decided, by what it is
 pub stays_of : (office : OfficeState) (request : Request) (outcome : Outcome) (decision : Decision) (reply : Reply) → decision ≡ Stays reply
@@ -58,26 +59,26 @@ of_outcome : (outcome : Outcome) (reply : Reply) → IsNoFault outcome → outco
 of_outcome (stays other) reply none is fault = (let same : other ≡ reply = cc in none (same ∙ fault))
 of_outcome (adds e) reply none is fault = cc
 
-accredit-none : (office : OfficeState) (issuer : Lei) (moment : ℤ) (found : Option Text) → IsNoFault (accredit_outcome office issuer moment found)
-accredit-none office issuer moment None = elim (is_full office) as (λ b. IsNoFault (cond b (stays (Words refusals.LedgerFull)) (adds (accreditation office.history issuer moment)))) [ true ↦ λ is. cc | false ↦ tt ]
-accredit-none office issuer moment (Some text) = λ is. cc
+accredit-none : (office : OfficeState) (issuer : Lei) (terms : EntryTerms) (found : Option Text) → IsNoFault (accredit_outcome office issuer terms found)
+accredit-none office issuer terms None = elim (is_full office) as (λ b. IsNoFault (cond b (stays (Words refusals.LedgerFull)) (adds (accreditation office.history issuer terms)))) [ true ↦ λ is. cc | false ↦ tt ]
+accredit-none office issuer terms (Some text) = λ is. cc
 
-body-none : (office : OfficeState) (call : Call) (moment : ℤ) (read : Result (List RawItem) Malformed) → IsNoFault (body_outcome office call moment read)
-body-none office call moment (Ok raws) = elim (is_full office || is_too_much office call.body) as (λ b. IsNoFault (cond b (stays (Words refusals.LedgerFull)) (adds (taken_upload office call moment raws)))) [ true ↦ λ is. cc | false ↦ tt ]
-body-none office call moment (Err fault) = λ is. cc
+body-none : (office : OfficeState) (call : Call) (terms : EntryTerms) (read : Result (List RawItem) Malformed) → IsNoFault (body_outcome office call terms read)
+body-none office call terms (Ok raws) = elim (is_full office || is_too_much office call.body) as (λ b. IsNoFault (cond b (stays (Words refusals.LedgerFull)) (adds (taken_upload office call terms raws)))) [ true ↦ λ is. cc | false ↦ tt ]
+body-none office call terms (Err fault) = λ is. cc
 
-place-none : (office : OfficeState) (call : Call) (moment : ℤ) (at : Place) → IsNoFault (place_outcome office call moment at)
-place-none office call moment unknown_issuer = λ is. cc
-place-none office call moment (repeat_of answer) = λ is. cc
-place-none office call moment number_taken = λ is. cc
-place-none office call moment (ahead next) = λ is. cc
-place-none office call moment fresh = body-none office call moment (upload call.body)
+place-none : (office : OfficeState) (call : Call) (terms : EntryTerms) (at : Place) → IsNoFault (place_outcome office call terms at)
+place-none office call terms unknown_issuer = λ is. cc
+place-none office call terms (repeat_of answer) = λ is. cc
+place-none office call terms number_taken = λ is. cc
+place-none office call terms (ahead next) = λ is. cc
+place-none office call terms fresh = body-none office call terms (upload call.body)
 
-upload-none : (office : OfficeState) (call : Call) (moment : ℤ) → IsNoFault (upload_outcome office call moment)
+upload-none : (office : OfficeState) (call : Call) (terms : EntryTerms) → IsNoFault (upload_outcome office call terms)
 unfolding upload_outcome
-upload-none office call moment = elim (ltb office.limits.body (length call.body)) as (λ b. IsNoFault (cond b (stays (Words refusals.TooLong)) (place_outcome office call moment (place office.history call.office call.number call.body)))) [
+upload-none office call terms = elim (ltb office.limits.body (length call.body)) as (λ b. IsNoFault (cond b (stays (Words refusals.TooLong)) (place_outcome office call terms (place office.history call.office call.number call.body)))) [
   | true ↦ λ is. cc
-  | false ↦ place-none office call moment (place office.history call.office call.number call.body)
+  | false ↦ place-none office call terms (place office.history call.office call.number call.body)
 ]
 
 show-none : (found : Option Row) → IsNoFault (show_outcome found)
@@ -92,14 +93,14 @@ kept-none : (known : Bool) (found : Option Text) → IsNoFault (cond known (answ
 kept-none true found = answer-none found
 kept-none false found = λ is. cc
 
-publish-none : (office : OfficeState) (number : ℕ) (moment : ℤ) (found : Option Text) → IsNoFault (publish_outcome office number moment found)
-publish-none office number moment None = by_tests (number == next_publication office.history) (is_full office)
+publish-none : (office : OfficeState) (number : ℕ) (terms : EntryTerms) (found : Option Text) → IsNoFault (publish_outcome office number terms found)
+publish-none office number terms None = by_tests (number == next_publication office.history) (is_full office)
   where
-    by_tests : (next full : Bool) → IsNoFault (cond next (cond full (stays (Words refusals.LedgerFull)) (adds (publication_entry office number moment))) (stays (Words (refusals.NumberAhead (next_publication office.history)))))
+    by_tests : (next full : Bool) → IsNoFault (cond next (cond full (stays (Words refusals.LedgerFull)) (adds (publication_entry office number terms))) (stays (Words (refusals.NumberAhead (next_publication office.history)))))
     by_tests true true = λ is. cc
     by_tests true false = tt
     by_tests false full = λ is. cc
-publish-none office number moment (Some text) = λ is. cc
+publish-none office number terms (Some text) = λ is. cc
 
 copy-none : (sheet : Sheet) (form : Form) (number : ℕ) (found : Option Publication) → IsNoFault (copied sheet form number found)
 copy-none sheet form number None = λ is. cc
@@ -113,15 +114,15 @@ delta-none sheet form made (Err ShelfFault.NoMemory) last = λ is. cc
 delta-none sheet form made (Ok from) None = λ is. cc
 delta-none sheet form made (Ok from) (Some publication) = λ is. cc
 
-outcome-none : (office : OfficeState) (request : Request) (moment : ℤ) → IsNoFault (outcome_at office request moment)
-outcome-none office (Accredit issuer) moment = accredit-none office issuer moment (accredited office.history issuer)
-outcome-none office (Upload call) moment = upload-none office call moment
-outcome-none office (Kept issuer number) moment = kept-none (is_some (accredited office.history issuer)) (kept office.history issuer number)
-outcome-none office (Show lei) moment = show-none (row_at (after office.limits office.history) lei)
-outcome-none office (Publish number) moment = publish-none office number moment (published office.history number)
-outcome-none office (Copy sheet form) moment = copy-none sheet form (length (trail office)) (latest (trail office))
-outcome-none office (Delta base sheet form) moment = delta-none sheet form (trail office) (base_in (moments_of (trail office)) base) (latest (trail office))
-outcome-none office Status moment = λ is. cc
+outcome-none : (office : OfficeState) (request : Request) (terms : EntryTerms) → IsNoFault (outcome_at office request terms)
+outcome-none office (Accredit issuer) terms = accredit-none office issuer terms (accredited office.history issuer)
+outcome-none office (Upload call) terms = upload-none office call terms
+outcome-none office (Kept issuer number) terms = kept-none (is_some (accredited office.history issuer)) (kept office.history issuer number)
+outcome-none office (Show lei) terms = show-none (row_at (after office.limits office.history) lei)
+outcome-none office (Publish number) terms = publish-none office number terms (published office.history number)
+outcome-none office (Copy sheet form) terms = copy-none sheet form (length (trail office)) (latest (trail office))
+outcome-none office (Delta base sheet form) terms = delta-none sheet form (trail office) (base_in (moments_of (trail office)) base) (latest (trail office))
+outcome-none office Status terms = λ is. cc
 
-pub never_fault : (office : OfficeState) (request : Request) (moment : ℤ) (reply : Reply) → outcome_at office request moment ≡ stays reply → reply ≡ Words KeeperFault → ⊥
-never_fault office request moment reply is fault = of_outcome (outcome_at office request moment) reply (outcome-none office request moment) is fault
+pub never_fault : (office : OfficeState) (request : Request) (terms : EntryTerms) (reply : Reply) → outcome_at office request terms ≡ stays reply → reply ≡ Words KeeperFault → ⊥
+never_fault office request terms reply is fault = of_outcome (outcome_at office request terms) reply (outcome-none office request terms) is fault

@@ -1,5 +1,5 @@
 -- Uploads whose items were judged, in their turn or ahead of it.
-use Rattle.std.proofs.Common.{◌≡◌, ◌≤◌, ◌+◌, ◌||◌, ℤ, List, map, Bool, false, cond, length, Result, Ok, refl, sym, ap, subst, ◌∙◌}
+use Rattle.std.proofs.Common.{◌≡◌, ◌≤◌, ◌+◌, ◌||◌, ℕ, ℤ, List, map, Bool, false, cond, length, Result, Ok, refl, sym, ap, subst, ◌∙◌}
 use Rattle.std.proofs.lemmas.List.{length-map}
 use Rattle.cell_reads.specs.Reads.{Agrees}
 use Rattle.lei_outside.specs.declared.entry.KeptEntry.{KeptEntry}
@@ -9,7 +9,7 @@ use Rattle.lei_records.specs.declared.item.RawItem.{RawItem}
 use Rattle.lei_records.specs.declared.item.Readied.{Readied}
 use Rattle.lei_shapes.specs.Moment.{day_of}
 use Rattle.register_history.specs.Register.{after, items_in}
-use Rattle.register_history.specs.Replies.{adds, body_outcome, is_full, is_too_much, stays, taken_upload, upload_entry}
+use Rattle.register_history.specs.Replies.{adds, body_outcome, is_full, is_too_much, newest_rules, stays, taken_upload, upload_entry}
 use Rattle.register_history.specs.State.{OfficeState}
 use Rattle.register_judge.specs.Agreement.{IsAgreed}
 use Rattle.register_judge.specs.Sittings.{sitting_by}
@@ -32,38 +32,42 @@ use Rattle.register_words.specs.declared.reply.Reply.TheVariants.{Words}
 use Rattle.register_words.specs.declared.request.Call.{Call}
 use Rattle.register_words.specs.declared.request.Request.TheVariants.{Upload}
 use Rattle.upload_format.specs.Bodies.{upload}
+use Rattle.register_history.specs.declared.terms.EntryTerms.{EntryTerms}
+use Rattle.lei_records.specs.RuleNumbers.{rules_of}
 
 -- ---- the items of a body
 
 -- there are at most 5,000
 pub few_items : (call : Call) (items : List Readied) → AreItemsOf call items → length items ≤ 5000
 few_items call items is =
-    subst (λ n. n ≤ 5000) (sym (ap length is.are ∙ length-map is.raws ready)) (upload-within call.body is.raws is.reads)
+    subst (λ n. n ≤ 5000) (sym (ap length is.are ∙ length-map is.raws (ready Rules.Second))) (upload-within call.body is.raws is.reads)
 
 -- ---- what items come to
 
--- items that were judged on the table as it is kept, at the moment as it was handed on
-pub judged_by : (office : OfficeState) (call : Call) (at moment : ℤ) (outcome : judged.Outcome) (raws items : List RawItem) (table : Table)
-    → upload call.body ≡ Ok raws → items ≡ raws → at ≡ moment → table ≡ after office.limits office.history
-    → ShowsTaken outcome (take table (sitting_by Rules.First office.limits.records (day_of at) call.office) (map ready items))
-    → IsTakenBy office call moment outcome
-judged_by office call at moment outcome raws items table reads same now is shows =
-    let sitting : ℤ → Sitting = λ m. sitting_by Rules.First office.limits.records (day_of m) call.office in
-    let R : List RawItem → Type 0 = λ rs. ShowsTaken outcome (take (after office.limits office.history) (sitting moment) (map ready rs)) in
-    let M : ℤ → Type 0 = λ m. ShowsTaken outcome (take (after office.limits office.history) (sitting m) (map ready items)) in
-    let T : Table → Type 0 = λ t. ShowsTaken outcome (take t (sitting at) (map ready items)) in
-    record { raws = raws; reads = reads; taken = subst R same (subst M now (subst T is shows)) }
+-- items that were judged on the table as it is kept, in the sitting as it was handed on
+pub judged_by : (office : OfficeState) (call : Call) (terms : EntryTerms) (outcome : judged.Outcome) (raws : List RawItem) (sitting : Sitting) (items : List Readied) (table : Table)
+    → upload call.body ≡ Ok raws → items ≡ map (ready (rules_of terms.rules)) raws
+    → sitting ≡ sitting_by (rules_of terms.rules) office.limits.records (day_of terms.moment) call.office → table ≡ after office.limits office.history
+    → ShowsTaken outcome (take table sitting items) → IsTakenBy office call terms outcome
+judged_by office call terms outcome raws sitting items table reads same held is shows =
+    let own = sitting_by (rules_of terms.rules) office.limits.records (day_of terms.moment) call.office in
+    let R : List Readied → Type 0 = λ rs. ShowsTaken outcome (take (after office.limits office.history) own rs) in
+    let S : Sitting → Type 0 = λ s. ShowsTaken outcome (take (after office.limits office.history) s items) in
+    let T : Table → Type 0 = λ t. ShowsTaken outcome (take t sitting items) in
+    record { raws = raws; reads = reads; taken = subst R same (subst S held (subst T is shows)) }
 
--- items that were judged ahead
-pub planned_by : (office : OfficeState) (call : Call) (moment : ℤ) (plan : Plan) → IsPlanOf call plan → plan.today ≡ day_of moment
+-- items that were judged ahead, by the newest rules
+pub planned_by : (office : OfficeState) (call : Call) (terms : EntryTerms) (plan : Plan) → IsPlanOf call plan → terms.rules ≡ newest_rules → plan.today ≡ day_of terms.moment
     → IsSound (after office.limits office.history) → Agrees plan.outcome.reads (after office.limits office.history)
     → record_count (after office.limits office.history) + plan.outcome.new_records ≤ office.limits.records
-    → office.limits.records ≤ 4294967295 → IsTakenBy office call moment plan.outcome
-planned_by office call moment plan is today sound agrees fits less =
-    let D : ℤ → Type 0 = λ day. IsAgreed plan.outcome 4294967295 day call.office (map ready is.raws) in
-    let shows = plan-taken plan.outcome office.limits.records (day_of moment) call.office (map ready is.raws) (after office.limits office.history)
+    → office.limits.records ≤ 4294967295 → IsTakenBy office call terms plan.outcome
+planned_by office call terms plan is newest today sound agrees fits less =
+    let D : ℤ → Type 0 = λ day. IsAgreed plan.outcome 4294967295 day call.office (map (ready Rules.Second) is.raws) in
+    let shows = plan-taken plan.outcome office.limits.records (day_of terms.moment) call.office (map (ready Rules.Second) is.raws) (after office.limits office.history)
     (subst D today is.agreed) sound agrees fits less in
-    record { raws = is.raws; reads = is.reads; taken = record { verdicts = shows.verdicts_are; writes = shows.writes_are } }
+    let S : ℕ → Type 0 = λ rules. ShowsTaken plan.outcome (take (after office.limits office.history)
+    (sitting_by (rules_of rules) office.limits.records (day_of terms.moment) call.office) (map (ready (rules_of rules)) is.raws)) in
+    record { raws = is.raws; reads = is.reads; taken = subst S (sym newest) (record { verdicts = shows.verdicts_are; writes = shows.writes_are }) }
 
 -- ---- what is decided
 
@@ -71,19 +75,20 @@ none_of : (full much : Bool) → full ≡ false → much ≡ false → (full || 
 none_of full much not_full not_much = ap (λ b. b || much) not_full ∙ not_much
 
 -- the entry of such an upload, for which there is room, with what it writes
-pub judged_decides : (office : OfficeState) (call : Call) (moment : ℤ) (outcome : judged.Outcome) (entry : KeptEntry) (list : WriteList)
-    → IsTakenBy office call moment outcome → is_full office ≡ false → is_too_much office call.body ≡ false
-    → entry ≡ upload_entry office.history call moment outcome.verdicts → list ≡ outcome.writes
-    → Decides office (Upload call) (body_outcome office call moment (upload call.body)) (Ok (Adds entry list))
-judged_decides office call moment outcome entry list is not_full not_much made wrote =
+pub judged_decides : (office : OfficeState) (call : Call) (terms : EntryTerms) (outcome : judged.Outcome) (entry : KeptEntry) (list : WriteList)
+    → IsTakenBy office call terms outcome → is_full office ≡ false → is_too_much office call.body ≡ false
+    → entry ≡ upload_entry office.history call terms outcome.verdicts → list ≡ outcome.writes
+    → Decides office (Upload call) (body_outcome office call terms (upload call.body)) (Ok (Adds entry list))
+judged_decides office call terms outcome entry list is not_full not_much made wrote =
     let raws = is.raws in
-    let sitting = sitting_by Rules.First office.limits.records (day_of moment) call.office in
-    let taken = take (after office.limits office.history) sitting (map ready raws) in
-    let whole = taken_upload office call moment raws in
-    let B : Result (List RawItem) Malformed → Type 0 = λ read. Decides office (Upload call) (body_outcome office call moment read) (Ok (Adds entry list)) in
+    let rules = rules_of terms.rules in
+    let sitting = sitting_by rules office.limits.records (day_of terms.moment) call.office in
+    let taken = take (after office.limits office.history) sitting (map (ready rules) raws) in
+    let whole = taken_upload office call terms raws in
+    let B : Result (List RawItem) Malformed → Type 0 = λ read. Decides office (Upload call) (body_outcome office call terms read) (Ok (Adds entry list)) in
     let C : Bool → Type 0 = λ full. Decides office (Upload call) (cond full (stays (Words LedgerFull)) (adds whole)) (Ok (Adds entry list)) in
-    let same : whole ≡ entry = sym (made ∙ ap (λ vs. upload_entry office.history call moment vs) is.taken.verdicts) in
-    let W : Result (List RawItem) Malformed → Type 0 = λ read. taken.writes ≡ (take (after office.limits office.history) sitting (items_in read)).writes in
+    let same : whole ≡ entry = sym (made ∙ ap (λ vs. upload_entry office.history call terms vs) is.taken.verdicts) in
+    let W : Result (List RawItem) Malformed → Type 0 = λ read. taken.writes ≡ (take (after office.limits office.history) sitting (items_in rules read)).writes in
     let written : taken.writes ≡ writes_of office whole = subst W (sym is.reads) refl in
     subst B (sym is.reads) (subst C (sym (none_of (is_full office) (is_too_much office call.body) not_full not_much)) (
       ap adds same,

@@ -1,5 +1,5 @@
 -- An upload that is added leaves the shelf as it is.
-use Rattle.std.proofs.Common.{◌≡◌, ℤ, Ok, sym, subst}
+use Rattle.std.proofs.Common.{◌≡◌, Ok, sym, subst}
 use Rattle.golden_shelf.specs.Shelves.{ShelfState}
 use Rattle.lei_outside.specs.declared.entry.KeptEntry.{KeptEntry}
 use Rattle.register_table.specs.Undos.{WriteList}
@@ -13,11 +13,12 @@ use Rattle.register_state.specs.Shelving.{IsShelved, Shelves}
 use Rattle.register_state.specs.declared.decision.Decision.{Decision}
 use Rattle.register_state.specs.declared.decision.Decision.TheVariants.{Adds}
 use Rattle.register_state.proofs.Shelved.{upload-shelves}
+use Rattle.register_history.specs.declared.terms.EntryTerms.{EntryTerms}
 
-pub upload-stays-shelved : (office new : OfficeState) (call : Call) (moment : ℤ) (shelf : ShelfState) (decision : Decision) (entry : KeptEntry) (list : WriteList)
-    → decision ≡ Adds entry list → Decides office (Upload call) (outcome_at office (Upload call) moment) (Ok decision) → IsShelved office shelf.now
+pub upload-stays-shelved : (office new : OfficeState) (call : Call) (terms : EntryTerms) (shelf : ShelfState) (decision : Decision) (entry : KeptEntry) (list : WriteList)
+    → decision ≡ Adds entry list → Decides office (Upload call) (outcome_at office (Upload call) terms) (Ok decision) → IsShelved office shelf.now
     → new ≡ with_entry office entry → IsShelved new shelf.now
-upload-stays-shelved office new call moment shelf decision entry list is decides shelved added =
+upload-stays-shelved office new call terms shelf decision entry list is decides shelved added =
     let S : Decision → Type 0 = λ d. Shelves office shelf (Ok d) shelf in
     let I : OfficeState → Type 0 = λ o. IsShelved o shelf.now in
-    subst I (sym added) (subst S is (upload-shelves office.limits office.history call moment shelf (Ok decision) shelved decides)).0
+    subst I (sym added) (subst S is (upload-shelves office.limits office.history call terms shelf (Ok decision) shelved decides)).0

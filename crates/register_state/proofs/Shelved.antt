@@ -1,5 +1,5 @@
 -- The shelf of a history that grows by an entry.
-use Rattle.std.proofs.Common.{◌≡◌, ℕ, ℤ, ◌≤◌, ◌<◌, List, [], ◌∷◌, ◌++◌, length, Bool, true, false, cond, ◌==◌, Some, Result, Ok, Err, refl, sym, ap, subst, ◌∙◌, arith, suc, get_or, take, drop, filter, drop-cons, take-append-drop}
+use Rattle.std.proofs.Common.{◌≡◌, ℕ, ◌≤◌, ◌<◌, List, [], ◌∷◌, ◌++◌, length, Bool, true, false, cond, ◌==◌, Some, Result, Ok, Err, refl, sym, ap, subst, ◌∙◌, arith, suc, get_or, take, drop, filter, drop-cons, take-append-drop}
 use Rattle.std.proofs.lemmas.List.Elements.{filter-append}
 use Rattle.std.specs.Prelude.{IsTrue, MatchResult}
 use Rattle.std.proofs.lemmas.Bool.{eqb-true}
@@ -39,6 +39,7 @@ use Rattle.register_history.specs.State.{office_of}
 use Rattle.register_history.proofs.Histories.{last_entry-push, request_adds}
 use Rattle.register_history.proofs.NextIssue.{next_issued}
 use Rattle.register_history.proofs.TrailGrowth.{trail-length, trail-push, trail-same}
+use Rattle.register_history.specs.declared.terms.EntryTerms.{EntryTerms}
 
 -- ---- no entry yet
 
@@ -70,24 +71,24 @@ kind_apart e request asked other = by_kind (e.kind == 3) refl
         let same : Publish e.number ≡ request = cc in
         ap publishes same ∙ other
 
-pub other-shelves : (limits : Limits) (history : History) (request : Request) (moment : ℤ) (shelf : ShelfState) (result : Result Decision NoMemory)
-    → publishes request ≡ false → IsShelved (office_of limits history) shelf.now → Decides (office_of limits history) request (outcome_at (office_of limits history) request moment) result → Shelves (office_of limits history) shelf result shelf
-other-shelves limits history request moment shelf (Ok (Stays reply)) other shelved decides = refl
-other-shelves limits history request moment shelf (Ok (Adds e list)) other shelved decides =
-    let added = request_adds (office_of limits history) request moment e decides.0 in
+pub other-shelves : (limits : Limits) (history : History) (request : Request) (terms : EntryTerms) (shelf : ShelfState) (result : Result Decision NoMemory)
+    → publishes request ≡ false → IsShelved (office_of limits history) shelf.now → Decides (office_of limits history) request (outcome_at (office_of limits history) request terms) result → Shelves (office_of limits history) shelf result shelf
+other-shelves limits history request terms shelf (Ok (Stays reply)) other shelved decides = refl
+other-shelves limits history request terms shelf (Ok (Adds e list)) other shelved decides =
+    let added = request_adds (office_of limits history) request terms e decides.0 in
     let none = kind_apart e request added.for_request other in
     (same-shelved limits history e shelf.now none shelved, ap (λ b. back_to b shelf) none)
-other-shelves limits history request moment shelf (Err wanted) other shelved decides = refl
+other-shelves limits history request terms shelf (Err wanted) other shelved decides = refl
 
-pub accredit-shelves : (limits : Limits) (history : History) (issuer : List ℕ) (moment : ℤ) (shelf : ShelfState) (result : Result Decision NoMemory)
-    → IsShelved (office_of limits history) shelf.now → Decides (office_of limits history) (Accredit issuer) (outcome_at (office_of limits history) (Accredit issuer) moment) result → Shelves (office_of limits history) shelf result shelf
-accredit-shelves limits history issuer moment shelf result shelved decides =
-    other-shelves limits history (Accredit issuer) moment shelf result refl shelved decides
+pub accredit-shelves : (limits : Limits) (history : History) (issuer : List ℕ) (terms : EntryTerms) (shelf : ShelfState) (result : Result Decision NoMemory)
+    → IsShelved (office_of limits history) shelf.now → Decides (office_of limits history) (Accredit issuer) (outcome_at (office_of limits history) (Accredit issuer) terms) result → Shelves (office_of limits history) shelf result shelf
+accredit-shelves limits history issuer terms shelf result shelved decides =
+    other-shelves limits history (Accredit issuer) terms shelf result refl shelved decides
 
-pub upload-shelves : (limits : Limits) (history : History) (call : Call) (moment : ℤ) (shelf : ShelfState) (result : Result Decision NoMemory)
-    → IsShelved (office_of limits history) shelf.now → Decides (office_of limits history) (Upload call) (outcome_at (office_of limits history) (Upload call) moment) result → Shelves (office_of limits history) shelf result shelf
-upload-shelves limits history call moment shelf result shelved decides =
-    other-shelves limits history (Upload call) moment shelf result refl shelved decides
+pub upload-shelves : (limits : Limits) (history : History) (call : Call) (terms : EntryTerms) (shelf : ShelfState) (result : Result Decision NoMemory)
+    → IsShelved (office_of limits history) shelf.now → Decides (office_of limits history) (Upload call) (outcome_at (office_of limits history) (Upload call) terms) result → Shelves (office_of limits history) shelf result shelf
+upload-shelves limits history call terms shelf result shelved decides =
+    other-shelves limits history (Upload call) terms shelf result refl shelved decides
 
 -- ---- a publication
 
@@ -127,13 +128,13 @@ shelf-few limits history kept number shelved most next =
     omega (arith, made, count, most, next)
 
 -- the shelf with the next publication keeps the history with its entry
-pub published-shelved : (limits : Limits) (history : History) (number : ℕ) (moment : ℤ) (changes : Changes) (old new : Kept) → Legal (office_of limits history) → AreNextChanges limits history changes
+pub published-shelved : (limits : Limits) (history : History) (number : ℕ) (terms : EntryTerms) (changes : Changes) (old new : Kept) → Legal (office_of limits history) → AreNextChanges limits history changes
     → IsShelved (office_of limits history) old
-    → ((made : Trail) (next : Publication) → KeepsTrail made old → IsIssued (latest_rows made) moment changes next → KeepsTrail (made ++ next ∷ []) new)
-    → KeepsTrail (trail (office_of limits history) ++ publication_by limits history (publication_entry (office_of limits history) number moment) ∷ []) new
-published-shelved limits history number moment changes old new legal are shelved publish =
-    let e = publication_entry (office_of limits history) number moment in
-    publish (trail (office_of limits history)) (publication_by limits history e) shelved (next_issued limits history changes e moment legal are refl refl)
+    → ((made : Trail) (next : Publication) → KeepsTrail made old → IsIssued (latest_rows made) terms.moment changes next → KeepsTrail (made ++ next ∷ []) new)
+    → KeepsTrail (trail (office_of limits history) ++ publication_by limits history (publication_entry (office_of limits history) number terms) ∷ []) new
+published-shelved limits history number terms changes old new legal are shelved publish =
+    let e = publication_entry (office_of limits history) number terms in
+    publish (trail (office_of limits history)) (publication_by limits history e) shelved (next_issued limits history changes e terms.moment legal are refl refl)
 
 last_behind-push : (first : Publication) (later : Trail) (p : Publication) → last_behind first (later ++ p ∷ []) ≡ p
 last_behind-push first [] p = refl

@@ -1,11 +1,13 @@
 -- Uploads that are judged: what their items come to, in their turn or ahead of it.
-use Rattle.std.specs.Prelude.{◌≡◌, ℤ, List, map, Ok}
+use Rattle.std.specs.Prelude.{◌≡◌, List, map, Ok}
 use Rattle.lei_records.specs.Items.{ready}
+use Rattle.lei_records.specs.RuleNumbers.{rules_of}
 use Rattle.lei_records.specs.declared.item.RawItem.{RawItem}
 use Rattle.lei_records.specs.declared.item.Readied.{Readied}
 use Rattle.lei_shapes.specs.Moment.{day_of}
 use Rattle.register_history.specs.Register.{after}
 use Rattle.register_history.specs.State.{OfficeState}
+use Rattle.register_history.specs.declared.terms.EntryTerms.{EntryTerms}
 use Rattle.register_judge.specs.Agreement.{IsAgreed}
 use Rattle.register_judge.specs.Sittings.{sitting_by}
 use Rattle.register_judge.specs.Taking.{take}
@@ -16,23 +18,24 @@ use Rattle.register_state.specs.Judging.{ShowsTaken}
 use Rattle.register_words.specs.declared.request.Call.{Call}
 use Rattle.upload_format.specs.Bodies.{upload}
 
--- The upload's body has a reading, and these are its items after the checks of their fields.
+-- The upload's body has a reading, and these are its items after the checks of their fields by the newest rules.
 pub record AreItemsOf (call : Call) (items : List Readied) : Type 0 where
   pub raws : List RawItem
   pub reads : upload call.body ≡ Ok raws
-  pub are : items ≡ map ready raws
+  pub are : items ≡ map (ready Rules.Second) raws
 
--- A plan of an upload. Its body has a reading, and on each sound table that agrees with what the plan has read, what the
+-- A plan of an upload by the newest rules. Its body has a reading, and on each sound table that agrees with what the plan has read, what the
 -- items come to on the plan's day is the plan's outcome: with room for 4,294,967,295 records more, which is no limit for
 -- the at most 5,000 items of a body.
 pub record IsPlanOf (call : Call) (plan : Plan) : Type 0 where
   pub raws : List RawItem
   pub reads : upload call.body ≡ Ok raws
-  pub agreed : IsAgreed plan.outcome 4294967295 plan.today call.office (map ready raws)
+  pub agreed : IsAgreed plan.outcome 4294967295 plan.today call.office (map (ready Rules.Second) raws)
 
--- The upload's body has a reading, and the outcome is what its items come to at this moment on the office's table.
-pub record IsTakenBy (office : OfficeState) (call : Call) (moment : ℤ) (outcome : Outcome) : Type 0 where
+-- The upload's body has a reading, and the outcome is what its items come to on these terms on the office's table.
+pub record IsTakenBy (office : OfficeState) (call : Call) (terms : EntryTerms) (outcome : Outcome) : Type 0 where
   pub raws : List RawItem
   pub reads : upload call.body ≡ Ok raws
   pub taken : ShowsTaken outcome (take (after office.limits office.history)
-      (sitting_by Rules.First office.limits.records (day_of moment) call.office) (map ready raws))
+      (sitting_by (rules_of terms.rules) office.limits.records (day_of terms.moment) call.office)
+      (map (ready (rules_of terms.rules)) raws))

@@ -4,12 +4,11 @@ ghost use Rattle.lei_shapes.specs.Moment.{IsMoment};
 ghost use Rattle.lei_records.specs.Tables.{cells_of};
 ghost use Rattle.fetched_cells.specs.Fetching.{HasJust, fetched_keys};
 ghost use Rattle.fetched_cells.specs.Maps.{cells_in};
-ghost use Rattle.upload_ledger.specs.History.{stamp};
 ghost use Rattle.upload_ledger.specs.Limits.{AreFew};
 ghost use Rattle.register_words.specs.Limits.{AreLimits};
 ghost use Rattle.register_history.specs.Legal.{Legal};
 ghost use Rattle.register_history.specs.Register.{after};
-ghost use Rattle.register_history.specs.Replies.{is_full, is_too_much};
+ghost use Rattle.register_history.specs.Replies.{is_full, is_too_much, terms_by};
 ghost use Rattle.register_history.specs.State.{opened};
 
 use crate::entries::stamp;
@@ -17,6 +16,7 @@ use fetched_cells::Fetched;
 use lei_outside::{KeptEntry, NoMemory};
 use lei_records::CellKey;
 use lei_shapes::Moment;
+use register_history::EntryTerms;
 use register_table::Table;
 use register_words::Limits;
 use std::alloc::Global;
@@ -81,13 +81,16 @@ impl Books {
         self.ledger.entries()
     }
 
-    // The moment of the next entry: the later of the clock's moment and the last entry's.
-    pub fn stamp(&self, moment: Moment) -> Moment
-        ensures stamp { result ≡ stamp self.now.history moment }
+    // The terms of the next entry by these rules. Its moment is the later of the clock's moment and the last entry's.
+    pub fn terms(&self, rules: u16, moment: Moment) -> EntryTerms
+        ensures terms { result ≡ terms_by rules self.now.history moment }
         ensures moment { IsMoment moment }
         ensures legal { Legal self.now }
     {
-        moment_of(stamp(self.ledger.entries(), moment))
+        EntryTerms {
+            rules,
+            moment: moment_of(stamp(self.ledger.entries(), moment)),
+        }
     }
 
     // The cells of these keys, and of the walks from the records among them.

@@ -1,31 +1,34 @@
 //! What is decided of a request. Nothing but the shelf changes by it, where a publication is made.
 ghost use Rattle.std.specs.Prelude.{◌≡◌, ◌≤◌, ◌+◌, false, IfOk, IfSome};
 ghost use Rattle.lei_shapes.specs.Moment.{day_of};
+ghost use Rattle.lei_records.specs.RuleNumbers.{rules_of};
 ghost use Rattle.lei_records.specs.Tables.{record_count, row_at};
 ghost use Rattle.cell_reads.specs.Reads.{Agrees};
 ghost use Rattle.upload_format.specs.Bodies.{upload as items_of};
 ghost use Rattle.upload_ledger.specs.History.{accredited};
 ghost use Rattle.register_words.specs.declared.request.Request.TheVariants.{Accredit, Kept, Show, Status, Upload};
+ghost use Rattle.register_judge.specs.Sittings.{sitting_by};
 ghost use Rattle.register_state.specs.Shelving.{IsShelved, Shelves};
 ghost use Rattle.register_state.specs.Deciding.{AddsNext, Decides, Tells};
 ghost use Rattle.register_state.specs.Planning.{IsPlanOf, IsTakenBy};
-ghost use Rattle.register_history.specs.Replies.{accredit_outcome, body_outcome, is_full, is_too_much, json_reply, kept_outcome, outcome_at, show_outcome, status_outcome, upload_outcome};
+ghost use Rattle.register_history.specs.Replies.{accredit_outcome, body_outcome, is_full, is_too_much, json_reply, kept_outcome, newest_rules, outcome_at, show_outcome, status_outcome, upload_outcome};
 ghost use Rattle.register_words.specs.Requests.{IsNumbered, IsUploadNumber};
 ghost use Rattle.register_history.specs.Register.{after};
 
 use crate::books::Books;
 use crate::decision::{Decision, refused};
 use crate::entries::{accreditation, taken_upload};
-use crate::judge::{is_usable, judge};
+use crate::judge::{is_usable, judge, ready_all};
 use crate::publishing::{copy, delta};
 use answer_texts::status_text;
 use copy_forms::item_text;
 use golden_shelf::Shelf;
 use lei_code::Lei;
 use lei_outside::{Bytes, List, NoMemory};
-use lei_records::Item;
-use lei_shapes::Moment;
-use register_judge::{Outcome, Plan};
+use lei_records::{Item, Rules};
+use lei_shapes::day_number;
+use register_history::EntryTerms;
+use register_judge::{Outcome, Plan, Sitting};
 use register_words::{Call, Kind, Refusal, Reply, Request};
 use std::alloc::Global;
 use std::thread::Threads;
@@ -33,7 +36,7 @@ use upload_format::{Reader, UploadFault};
 use upload_ledger::Place;
 
 impl Books {
-    // Decides a request, where an entry that is added has this moment. A publication that is made stands on the shelf
+    // Decides a request, where an entry that is added has these rules and this moment. A publication that is made stands on the shelf
     // then, and can be taken back.
     pub fn decide<R: Threads + Sync>(
         &self,
@@ -41,19 +44,21 @@ impl Books {
         shelf: &mut Shelf,
         reader: &mut Reader,
         request: &Request,
-        moment: Moment,
+        terms: &EntryTerms,
     ) -> Result<Decision, NoMemory>
         requires numbered { IsNumbered request.now }
+        requires first { 1 ≤ terms.now.rules }
+        requires last { terms.now.rules ≤ 2 }
         requires shelf { IsShelved self.now shelf.old.now }
-        ensures decides { Decides self.now request.now (outcome_at self.now request.now moment) result }
+        ensures decides { Decides self.now request.now (outcome_at self.now request.now terms.now) result }
         ensures next { AddsNext self.now request.now result }
         ensures shelf { Shelves self.now shelf.old result shelf.new }
     {
         match request {
-            Request::Accredit(issuer) => self.accredit(issuer, moment),
-            Request::Upload(call) => self.upload(reader, call, None, moment),
+            Request::Accredit(issuer) => self.accredit(issuer, terms),
+            Request::Upload(call) => self.upload(rt, reader, call, None, terms),
             Request::Kept(issuer, number) => Ok(Decision::Stays(self.kept(issuer, *number)?)),
-            Request::Publish(number) => self.publish(rt, shelf, *number, moment),
+            Request::Publish(number) => self.publish(rt, shelf, *number, terms),
             Request::Show(lei) => Ok(Decision::Stays(self.show(lei)?)),
             Request::Copy(sheet, form) => Ok(Decision::Stays(copy(shelf, *sheet, *form)?)),
             Request::Delta(base, sheet, form) => {
@@ -99,9 +104,9 @@ impl Books {
         Ok(json_reply(text))
     }
 
-    fn accredit(&self, issuer: &Lei, moment: Moment) -> Result<Decision, NoMemory>
+    fn accredit(&self, issuer: &Lei, terms: &EntryTerms) -> Result<Decision, NoMemory>
         ensures decides { Decides self.now (Accredit issuer.now)
-            (accredit_outcome self.now issuer.now moment (accredited self.now.history issuer.now)) result }
+            (accredit_outcome self.now issuer.now terms.now (accredited self.now.history issuer.now)) result }
         ensures next { AddsNext self.now (Accredit issuer.now) result }
     {
         // A step of the proof: what is accredited is named by an LEI.
@@ -112,23 +117,27 @@ impl Books {
         if self.is_full() {
             return Ok(refused(Refusal::LedgerFull));
         }
-        let entry = accreditation(self.alloc, self.ledger.entries(), issuer, moment)?;
+        let entry = accreditation(self.alloc, self.ledger.entries(), issuer, terms)?;
         Ok(Decision::Adds(entry, List::from(Vec::new(self.alloc))))
     }
 
     // Decides an upload, which may have been judged ahead.
     #[tactic(auto, unfolding(register_history::specs::Replies::upload_outcome))]
-    pub fn upload(
+    pub fn upload<R: Threads + Sync>(
         &self,
+        rt: &R,
         reader: &mut Reader,
         call: &Call,
         plan: Option<Plan>,
-        moment: Moment,
+        terms: &EntryTerms,
     ) -> Result<Decision, NoMemory>
         requires numbered { IsUploadNumber call.now.number }
         requires plan { IfSome plan (IsPlanOf call.now) }
+        requires newest { IfSome plan (λ plan. terms.now.rules ≡ newest_rules) }
+        requires first { 1 ≤ terms.now.rules }
+        requires last { terms.now.rules ≤ 2 }
         ensures decides { Decides self.now (Upload call.now)
-            (upload_outcome self.now call.now moment) result }
+            (upload_outcome self.now call.now terms.now) result }
         ensures next { AddsNext self.now (Upload call.now) result }
     {
         if call.body.len() as u64 > self.limits.body {
@@ -142,42 +151,57 @@ impl Books {
             Place::Repeat(answer) => Ok(Decision::Stays(kept_reply(self.alloc, answer)?)),
             Place::Taken => Ok(refused(Refusal::NumberTaken)),
             Place::Ahead(next) => Ok(refused(Refusal::NumberAhead(next))),
-            Place::Fresh => self.take_fresh(reader, call, plan, moment),
+            Place::Fresh => self.take_fresh(rt, reader, call, plan, terms),
         }
     }
 
     // Takes an upload of the next number: as it was planned if it still comes to that, and else by its body.
-    fn take_fresh(
+    fn take_fresh<R: Threads + Sync>(
         &self,
+        rt: &R,
         reader: &mut Reader,
         call: &Call,
         plan: Option<Plan>,
-        moment: Moment,
+        terms: &EntryTerms,
     ) -> Result<Decision, NoMemory>
         requires numbered { IsUploadNumber call.now.number }
         requires plan { IfSome plan (IsPlanOf call.now) }
+        requires newest { IfSome plan (λ plan. terms.now.rules ≡ newest_rules) }
+        requires first { 1 ≤ terms.now.rules }
+        requires last { terms.now.rules ≤ 2 }
         ensures decides { Decides self.now (Upload call.now)
-            (body_outcome self.now call.now moment (items_of call.now.body)) result }
+            (body_outcome self.now call.now terms.now (items_of call.now.body)) result }
         ensures next { AddsNext self.now (Upload call.now) result }
     {
         if let Some(plan) = plan {
-            if is_usable(&self.table, self.limits.records, moment.seconds(), &plan) {
-                return self.take_planned(call, plan, moment);
+            if is_usable(
+                &self.table,
+                self.limits.records,
+                terms.moment.seconds(),
+                &plan,
+            ) {
+                return self.take_planned(call, plan, terms);
             }
         }
-        self.take_upload(reader, call, moment)
+        self.take_upload(rt, reader, call, terms)
     }
 
     // Takes an upload as it was planned. Its body isn't read again.
-    fn take_planned(&self, call: &Call, plan: Plan, moment: Moment) -> Result<Decision, NoMemory>
+    fn take_planned(
+        &self,
+        call: &Call,
+        plan: Plan,
+        terms: &EntryTerms,
+    ) -> Result<Decision, NoMemory>
         requires numbered { IsUploadNumber call.now.number }
         requires plan { IsPlanOf call.now plan }
-        requires day { plan.today ≡ day_of moment }
+        requires newest { terms.now.rules ≡ newest_rules }
+        requires day { plan.today ≡ day_of terms.now.moment }
         requires agrees { Agrees plan.outcome.reads (after self.now.limits self.now.history) }
         requires fits { record_count (after self.now.limits self.now.history) + plan.outcome.new_records
             ≤ self.now.limits.records }
         ensures decides { Decides self.now (Upload call.now)
-            (body_outcome self.now call.now moment (items_of call.now.body)) result }
+            (body_outcome self.now call.now terms.now (items_of call.now.body)) result }
         ensures next { AddsNext self.now (Upload call.now) result }
     {
         // A step of the proof: the limits are such.
@@ -185,18 +209,21 @@ impl Books {
         if self.is_full() || self.is_too_much(call.body.as_slice()) {
             return Ok(refused(Refusal::LedgerFull));
         }
-        self.add_judged(call, plan.outcome, moment)
+        self.add_judged(call, plan.outcome, terms)
     }
 
-    fn take_upload(
+    fn take_upload<R: Threads + Sync>(
         &self,
+        rt: &R,
         reader: &mut Reader,
         call: &Call,
-        moment: Moment,
+        terms: &EntryTerms,
     ) -> Result<Decision, NoMemory>
-        requires { IsUploadNumber call.now.number }
+        requires numbered { IsUploadNumber call.now.number }
+        requires first { 1 ≤ terms.now.rules }
+        requires last { terms.now.rules ≤ 2 }
         ensures decides { Decides self.now (Upload call.now)
-            (body_outcome self.now call.now moment (items_of call.now.body)) result }
+            (body_outcome self.now call.now terms.now (items_of call.now.body)) result }
         ensures next { AddsNext self.now (Upload call.now) result }
     {
         let upload = match reader.read(self.alloc, call.body.as_slice()) {
@@ -207,26 +234,25 @@ impl Books {
         if self.is_full() || self.is_too_much(call.body.as_slice()) {
             return Ok(refused(Refusal::LedgerFull));
         }
-        let (records, items) = (self.limits.records, upload.items.as_slice());
-        let judged = judge(
-            self.alloc,
-            &self.table,
-            records,
-            &call.office,
-            moment.seconds(),
-            items,
-        )?;
-        self.add_judged(call, judged, moment)
+        let items = ready_all(rt, self.alloc, terms.rules, upload.items.as_slice())?;
+        let sitting = sitting(self.limits.records, call, terms);
+        let judged = judge(self.alloc, &self.table, &sitting, items.as_slice())?;
+        self.add_judged(call, judged, terms)
     }
 
     // The entry of an upload whose items were judged, and for which there is room, with what it writes.
-    fn add_judged(&self, call: &Call, judged: Outcome, moment: Moment) -> Result<Decision, NoMemory>
+    fn add_judged(
+        &self,
+        call: &Call,
+        judged: Outcome,
+        terms: &EntryTerms,
+    ) -> Result<Decision, NoMemory>
         requires numbered { IsUploadNumber call.now.number }
-        requires judged { IsTakenBy self.now call.now moment judged }
+        requires judged { IsTakenBy self.now call.now terms.now judged }
         requires entry { is_full self.now ≡ false }
         requires bytes { is_too_much self.now call.now.body ≡ false }
         ensures decides { Decides self.now (Upload call.now)
-            (body_outcome self.now call.now moment (items_of call.now.body)) result }
+            (body_outcome self.now call.now terms.now (items_of call.now.body)) result }
         ensures next { AddsNext self.now (Upload call.now) result }
     {
         // A step of the proof: what sends it is named by an LEI.
@@ -235,10 +261,24 @@ impl Books {
             self.alloc,
             self.ledger.entries(),
             call,
-            moment,
+            terms,
             judged.verdicts.as_slice(),
         )?;
         Ok(Decision::Adds(entry, judged.writes))
+    }
+}
+
+// The sitting for an upload by the rules and on the day of its entry, where there may be so many records.
+fn sitting(records: u32, call: &Call, terms: &EntryTerms) -> Sitting
+    requires first { 1 ≤ terms.now.rules }
+    requires last { terms.now.rules ≤ 2 }
+    ensures { result ≡ sitting_by (rules_of terms.now.rules) records (day_of terms.now.moment) call.now.office }
+{
+    Sitting {
+        rules: Rules::numbered(terms.rules),
+        limit: records,
+        today: day_number(terms.moment.seconds()),
+        issuer: call.office,
     }
 }
 

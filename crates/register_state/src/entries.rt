@@ -11,13 +11,14 @@ use answer_texts::{accreditation_text, publication_text, upload_text};
 use lei_code::Lei;
 use lei_outside::{Bytes, KeptEntry, NoMemory, Shared};
 use lei_shapes::Moment;
+use register_history::EntryTerms;
 use register_judge::Verdict;
 use register_words::Call;
 use std::alloc::Global;
 use upload_ledger::{ACCREDIT, PUBLISH, UPLOAD};
 
-/// The rules that uploads are judged by.
-pub const RULES: u16 = 1;
+/// The number of the rules of each entry that is made now.
+pub const RULES: u16 = 2;
 
 // The moment of the next entry: the later of the clock's moment and the last entry's.
 pub fn stamp(entries: &[KeptEntry], moment: Moment) -> i64
@@ -36,9 +37,9 @@ pub fn accreditation(
     alloc: Global,
     entries: &[KeptEntry],
     issuer: &Lei,
-    moment: Moment,
+    terms: &EntryTerms,
 ) -> Result<KeptEntry, NoMemory>
-    ensures { IfOk result (λ entry. entry ≡ accreditation entries.now issuer.now moment) }
+    ensures { IfOk result (λ entry. entry ≡ accreditation entries.now issuer.now terms.now) }
 {
     let seq = next_seq(entries)?;
     Ok(KeptEntry {
@@ -46,8 +47,8 @@ pub fn accreditation(
         kind: ACCREDIT,
         office: Bytes::copy_of(alloc, issuer.as_bytes())?,
         number: 0,
-        moment: moment.seconds(),
-        rules: RULES,
+        moment: terms.moment.seconds(),
+        rules: terms.rules,
         body: Shared::copy_of(alloc, &[])?,
         answer: accreditation_text(alloc, seq, issuer)?,
     })
@@ -58,10 +59,10 @@ pub fn taken_upload(
     alloc: Global,
     entries: &[KeptEntry],
     call: &Call,
-    moment: Moment,
+    terms: &EntryTerms,
     verdicts: &[Verdict],
 ) -> Result<KeptEntry, NoMemory>
-    ensures { IfOk result (λ entry. entry ≡ upload_entry entries.now call.now moment verdicts.now) }
+    ensures { IfOk result (λ entry. entry ≡ upload_entry entries.now call.now terms.now verdicts.now) }
 {
     let seq = next_seq(entries)?;
     Ok(KeptEntry {
@@ -69,8 +70,8 @@ pub fn taken_upload(
         kind: UPLOAD,
         office: Bytes::copy_of(alloc, call.office.as_bytes())?,
         number: call.number,
-        moment: moment.seconds(),
-        rules: RULES,
+        moment: terms.moment.seconds(),
+        rules: terms.rules,
         body: call.body.share()?,
         answer: upload_text(alloc, seq, &call.office, call.number, verdicts)?,
     })
@@ -81,11 +82,11 @@ pub fn publication(
     alloc: Global,
     entries: &[KeptEntry],
     number: u32,
-    moment: Moment,
+    terms: &EntryTerms,
     counts: (u64, u64, u64),
 ) -> Result<KeptEntry, NoMemory>
     ensures { IfOk result (λ entry. (limits : Limits) → counts ≡ published_counts (after limits entries.now)
-        → entry ≡ publication_entry (office_of limits entries.now) number moment) }
+        → entry ≡ publication_entry (office_of limits entries.now) number terms.now) }
 {
     let seq = next_seq(entries)?;
     Ok(KeptEntry {
@@ -93,10 +94,10 @@ pub fn publication(
         kind: PUBLISH,
         office: Bytes::copy_of(alloc, &[])?,
         number,
-        moment: moment.seconds(),
-        rules: RULES,
+        moment: terms.moment.seconds(),
+        rules: terms.rules,
         body: Shared::copy_of(alloc, &[])?,
-        answer: publication_text(alloc, seq, number, moment, counts)?,
+        answer: publication_text(alloc, seq, number, terms.moment, counts)?,
     })
 }
 

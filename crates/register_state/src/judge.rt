@@ -4,48 +4,46 @@ ghost use Rattle.cell_reads.specs.Reads.{Agrees};
 ghost use Rattle.lei_shapes.specs.Moment.{IsMoment, day_of};
 ghost use Rattle.lei_records.specs.Items.{ready as ready_of};
 ghost use Rattle.lei_records.specs.Tables.{record_count};
-ghost use Rattle.lei_records.specs.declared.rules.Rules.{Rules};
-ghost use Rattle.register_judge.specs.Sittings.{sitting_by};
+ghost use Rattle.lei_records.specs.RuleNumbers.{rules_of};
 ghost use Rattle.register_judge.specs.Taking.{take};
 ghost use Rattle.register_table.specs.Held.{rows};
 ghost use Rattle.register_state.specs.Judging.{ShowsTaken};
 
-use lei_code::Lei;
 use lei_outside::NoMemory;
-use lei_records::{RawItem, Readied, ready};
+use lei_records::{RawItem, Readied, ready_by};
 use lei_shapes::day_number;
-use register_judge::{JudgeStop, Outcome, Plan, judge_on};
+use register_judge::{JudgeStop, Outcome, Plan, Sitting, judge_by};
 use register_table::Table;
 use std::alloc::Global;
+use std::marker::Brand;
+use std::sync::ledger::{Blank, Ledger};
+use std::thread::Threads;
+use worker_pool::{Steps, map_list};
 
-// Judges the items of an issuer's upload on the table, on the day of the moment, where the table may hold so many
-// records.
+// From so many items on their checks are asked in several threads. An item takes some microseconds, and a thread some
+// fifty of them to start. `map_list` gives a thread at least 1,024 members: fewer than twice as many would stay in one
+// thread, and there a plain loop takes the memory for all of them at once.
+const MANY_ITEMS: usize = 2_048;
+
+// Judges the items of an upload on the table, in a sitting whose limit is that of all records of the table.
 pub fn judge(
     alloc: Global,
     table: &Table,
-    records: u32,
-    issuer: &Lei,
-    moment: i64,
-    raws: &[RawItem],
+    sitting: &Sitting,
+    items: &[Readied],
 ) -> Result<Outcome, NoMemory>
-    requires count { length raws.now ≤ 5000 }
-    requires moment { IsMoment moment }
-    requires fits { record_count (rows table.now.held) ≤ records }
-    ensures { IfOk result (λ outcome.
-        ShowsTaken outcome
-        (take (rows table.now.held) (sitting_by Rules.First records (day_of moment) issuer.now)
-        (map ready_of raws.now))) }
+    requires count { length items.now ≤ 5000 }
+    requires fits { record_count (rows table.now.held) ≤ sitting.now.limit }
+    ensures { IfOk result
+        (λ outcome. ShowsTaken outcome (take (rows table.now.held) sitting.now items.now)) }
 {
-    let items = ready_all(alloc, raws)?;
-    let room = records.saturating_sub(table.held());
-    match judge_on(
-        alloc,
-        table,
-        room,
-        issuer,
-        day_number(moment),
-        items.as_slice(),
-    ) {
+    let within = Sitting {
+        rules: sitting.rules,
+        limit: sitting.limit.saturating_sub(table.held()),
+        today: sitting.today,
+        issuer: sitting.issuer,
+    };
+    match judge_by(alloc, table, &within, items) {
         Ok(outcome) => Ok(outcome),
         Err(JudgeStop::NoMemory) => Err(NoMemory),
         Err(JudgeStop::NeedCell(_)) => unreachable!(),
@@ -67,13 +65,60 @@ pub fn is_usable(table: &Table, records: u32, moment: i64, plan: &Plan) -> bool
         && table.agrees(&plan.outcome.reads)
 }
 
-// Asks the checks of each item's fields.
-pub fn ready_all(alloc: Global, raws: &[RawItem]) -> Result<Vec<Readied>, NoMemory>
-    ensures { IfOk result (λ items. items.items ≡ map ready_of raws.now) }
+// Asks the checks of each item's fields by the rules of this number, in several threads if the items are many.
+pub fn ready_all<R: Threads + Sync>(
+    rt: &R,
+    alloc: Global,
+    rules: u16,
+    raws: &[RawItem],
+) -> Result<Vec<Readied>, NoMemory>
+    requires first { 1 ≤ rules }
+    requires last { rules ≤ 2 }
+    ensures { IfOk result (λ items. items.items ≡ map (ready_of (rules_of rules)) raws.now) }
+{
+    if raws.len() < MANY_ITEMS {
+        return ready_one_by_one(alloc, rules, raws);
+    }
+    ready_in_threads::<Brand, R>(rt, alloc, rules, raws, Blank::new(1))
+}
+
+// The same in as many threads as there are processors. Each item is a step, counted in a ledger that nobody reads.
+fn ready_in_threads<L: Ledger, R: Threads + Sync>(
+    rt: &R,
+    alloc: Global,
+    rules: u16,
+    raws: &[RawItem],
+    blank: Blank,
+) -> Result<Vec<Readied>, NoMemory>
+    requires name { blank.name ≡ L.name }
+    requires parts { blank.parts ≡ L.parts }
+    requires one { blank.parts ≡ 1 }
+    requires first { 1 ≤ rules }
+    requires last { rules ≤ 2 }
+    ensures { IfOk result (λ items. items.items ≡ map (ready_of (rules_of rules)) raws.now) }
+{
+    let mut steps = Steps::<L>::new(blank);
+    map_list(
+        rt,
+        alloc,
+        raws,
+        |raw: &RawItem| -> Result<Readied, NoMemory>
+            requires { 1 ≤ rules × rules ≤ 2 }
+            ensures { IfOk result (λ item. item ≡ ready_of (rules_of rules) raw.now) }
+        { ready_by(alloc, rules, raw) },
+        &mut steps,
+    )
+}
+
+// The same in this thread.
+fn ready_one_by_one(alloc: Global, rules: u16, raws: &[RawItem]) -> Result<Vec<Readied>, NoMemory>
+    requires first { 1 ≤ rules }
+    requires last { rules ≤ 2 }
+    ensures { IfOk result (λ items. items.items ≡ map (ready_of (rules_of rules)) raws.now) }
 {
     let mut items = Vec::with_capacity(alloc, raws.len())?;
     for raw in raws {
-        items.push(ready(alloc, raw)?)?;
+        items.push(ready_by(alloc, rules, raw)?)?;
     }
     Ok(items)
 }

@@ -2,27 +2,29 @@
 ghost use Rattle.std.specs.Prelude.{IfSome};
 ghost use Rattle.register_state.specs.Planning.{AreItemsOf, IsPlanOf};
 
+use crate::entries::RULES;
 use crate::judge::ready_all;
 use lei_records::{Readied, View};
 use lei_shapes::{Moment, day_number};
 use register_judge::{Plan, Verdict, judge_all};
 use register_words::Call;
 use std::alloc::Global;
+use std::thread::Threads;
 use upload_format::Reader;
 
-/// The items of an upload, with the checks of their fields asked. There are none if the body has no reading, or if
+/// The items of an upload, with the checks of their fields asked by the newest rules. There are none if the body has no reading, or if
 /// memory runs out.
-pub fn items_of(alloc: Global, call: &Call) -> Option<Vec<Readied>>
+pub fn items_of<R: Threads + Sync>(rt: &R, alloc: Global, call: &Call) -> Option<Vec<Readied>>
     ensures { IfSome result (λ items. AreItemsOf call.now items.items) }
 {
     let mut reader = Reader::new(alloc);
     let Ok(upload) = reader.read(alloc, call.body.as_slice()) else {
         return None;
     };
-    ready_all(alloc, upload.items.as_slice()).ok()
+    ready_all(rt, alloc, RULES, upload.items.as_slice()).ok()
 }
 
-/// A plan of an upload, by what a view has of a table. There is none if the view lacks a cell that an item needs, or if
+/// A plan of an upload by the newest rules, by what a view has of a table. There is none if the view lacks a cell that an item needs, or if
 /// memory runs out.
 pub fn plan_of<V: View>(
     alloc: Global,

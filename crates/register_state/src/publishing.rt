@@ -23,6 +23,7 @@ use golden_shelf::{Base, Shelf, ShelfFault};
 use lei_outside::{Bytes, KeptEntry, List, NoMemory};
 use lei_records::{FieldTexts, Item, RowKey};
 use lei_shapes::{Moment, RelationRegistration};
+use register_history::EntryTerms;
 use register_table::{Table, Touched};
 use register_words::{Kind, Refusal, Reply};
 use std::alloc::Global;
@@ -33,18 +34,18 @@ use upload_ledger::PUBLISH;
 use worker_pool::Steps;
 
 impl Books {
-    // Decides a publication of this number, which has this moment where it is made, and publishes it on the shelf then.
+    // Decides a publication of this number, whose entry has these rules and this moment if it is made, and publishes it on the shelf then.
     pub fn publish<R: Threads + Sync>(
         &self,
         rt: &R,
         shelf: &mut Shelf,
         number: u32,
-        moment: Moment,
+        terms: &EntryTerms,
     ) -> Result<Decision, NoMemory>
         requires number { IsUploadNumber number }
         requires shelf { IsShelved self.now shelf.old.now }
         ensures decides { Decides self.now (Publish number)
-            (publish_outcome self.now number moment (published self.now.history number)) result }
+            (publish_outcome self.now number terms.now (published self.now.history number)) result }
         ensures next { AddsNext self.now (Publish number) result }
         ensures shelf { Shelves self.now shelf.old result shelf.new }
     {
@@ -58,7 +59,7 @@ impl Books {
         if self.is_full() {
             return Ok(refused(Refusal::LedgerFull));
         }
-        let entry = self.publish_next(rt, shelf, number, moment)?;
+        let entry = self.publish_next(rt, shelf, number, terms)?;
         Ok(Decision::Adds(entry, List::from(Vec::new(self.alloc))))
     }
 
@@ -68,20 +69,20 @@ impl Books {
         rt: &R,
         shelf: &mut Shelf,
         number: u32,
-        moment: Moment,
+        terms: &EntryTerms,
     ) -> Result<KeptEntry, NoMemory>
         requires number { IsUploadNumber number }
         requires next { number ≡ next_publication self.now.history }
         requires shelf { IsShelved self.now shelf.old.now }
-        ensures entry { IfOk result (λ entry. entry ≡ publication_entry self.now number moment) }
+        ensures entry { IfOk result (λ entry. entry ≡ publication_entry self.now number terms.now) }
         ensures shelf { IfOk result (λ entry. IsShelved (with_entry self.now entry) shelf.new.now) }
         ensures before { OnOk result (shelf.new.before ≡ Some shelf.old.now) }
         ensures stays { OnErr result (shelf.new.now ≡ shelf.old.now) }
     {
         let changes = self.next_changes()?;
-        shelve::<Brand, R>(rt, shelf, moment, changes.as_slice(), Blank::new(1))?;
+        shelve::<Brand, R>(rt, shelf, terms.moment, changes.as_slice(), Blank::new(1))?;
         let entries = self.ledger.entries();
-        match publication(self.alloc, entries, number, moment, shelf.counts()) {
+        match publication(self.alloc, entries, number, terms, shelf.counts()) {
             Ok(entry) => Ok(entry),
             Err(NoMemory) => {
                 shelf.undo();

@@ -12,7 +12,7 @@ ghost use Rattle.register_words.specs.Limits.{AreLimits};
 ghost use Rattle.register_words.specs.Requests.{IsNumbered, IsUploadNumber};
 ghost use Rattle.register_words.specs.declared.request.Request.TheVariants.{Upload};
 ghost use Rattle.register_history.specs.Kept.{Keeps, StaysUntold};
-ghost use Rattle.register_history.specs.Legal.{Legal};
+ghost use Rattle.register_history.specs.Legal.{Legal, may_follow};
 ghost use Rattle.register_history.specs.Register.{after, held_after};
 ghost use Rattle.register_history.specs.Replies.{Step};
 ghost use Rattle.register_history.specs.State.{opened};
@@ -25,6 +25,7 @@ ghost use Rattle.register_state.specs.Shelving.{back_to};
 
 use crate::books::Books;
 use crate::decision::Decision;
+use crate::entries::RULES;
 use fetched_cells::Fetched;
 use golden_shelf::Shelf;
 use lei_outside::{KeepFault, Keeper, KeptCell, KeptEntry, List, NoMemory};
@@ -131,10 +132,10 @@ impl Register {
         ensures faultless { ¬ (IsErrOf result KeepFault.Failed) → K.faults keeper.new ≡ K.faults keeper.old }
         ensures failed { IsErrOf result KeepFault.Failed → Rose (K.faults keeper.old) (K.faults keeper.new) }
     {
-        let moment = self.books.stamp(moment);
+        let terms = self.books.terms(RULES, moment);
         match self
             .books
-            .decide(rt, &mut self.shelf, &mut self.reader, request, moment)
+            .decide(rt, &mut self.shelf, &mut self.reader, request, &terms)
         {
             Ok(Decision::Stays(reply)) => Ok(reply),
             Ok(Decision::Adds(entry, writes)) => {
@@ -154,8 +155,9 @@ impl Register {
     /// Answers an upload that came at this moment, as `answer` does its request, whether there is a plan of it or none.
     /// A plan is used if it is of the day, if the table agrees with what it has read, and if its new records fit: then
     /// neither is the body read nor are its items judged. Nothing has to be copied for that.
-    pub fn settle<K: Keeper>(
+    pub fn settle<K: Keeper, R: Threads + Sync>(
         &mut self,
+        rt: &R,
         keeper: &mut K,
         call: &Call,
         plan: Option<Plan>,
@@ -175,8 +177,8 @@ impl Register {
         ensures faultless { ¬ (IsErrOf result KeepFault.Failed) → K.faults keeper.new ≡ K.faults keeper.old }
         ensures failed { IsErrOf result KeepFault.Failed → Rose (K.faults keeper.old) (K.faults keeper.new) }
     {
-        let moment = self.books.stamp(moment);
-        match self.books.upload(&mut self.reader, call, plan, moment) {
+        let terms = self.books.terms(RULES, moment);
+        match self.books.upload(rt, &mut self.reader, call, plan, &terms) {
             Ok(Decision::Stays(reply)) => Ok(reply),
             Ok(Decision::Adds(entry, writes)) => match self.books.add(keeper, entry, &writes) {
                 Ok(reply) => Ok(reply),
@@ -186,8 +188,8 @@ impl Register {
         }
     }
 
-    /// Adds a stored entry, where its request adds the same one at the entry's own moment. Else it gives what the
-    /// request comes to in its place, and adds nothing.
+    /// Adds a stored entry, if its request adds the same one by the entry's own rules and at its own moment. Else it
+    /// gives what the request comes to in its place, and adds nothing.
     pub fn replay<R: Threads + Sync>(
         &mut self,
         rt: &R,
@@ -197,13 +199,14 @@ impl Register {
     ) -> Result<Option<Decision>, NoMemory>
         requires numbered { IsNumbered request.now }
         requires moment { moment ≡ stored.now.moment }
+        requires follows { IsTrue (may_follow self.old.history stored.now.rules) }
         ensures replays { IfOk result (ReplaysRequest self.old request.now stored.now self.new) }
         ensures stays { OnErr result (self.new ≡ self.old) }
     {
-        let moment = self.books.stamp(moment);
+        let terms = self.books.terms(stored.rules, moment);
         match self
             .books
-            .decide(rt, &mut self.shelf, &mut self.reader, request, moment)
+            .decide(rt, &mut self.shelf, &mut self.reader, request, &terms)
         {
             Ok(Decision::Stays(reply)) => Ok(Some(Decision::Stays(reply))),
             Ok(Decision::Adds(entry, writes)) => {

@@ -38,7 +38,8 @@ const FIRST_TAKEN: Step = (
 );
 
 // The reply to an upload of which a plan was made before another upload was taken.
-fn reply_to_planned<K: Keeper>(
+fn reply_to_planned<K: Keeper, R: Threads + Sync>(
+    rt: &R,
     alloc: Global,
     office: &mut Office<K>,
     planned: &Call,
@@ -48,12 +49,12 @@ fn reply_to_planned<K: Keeper>(
     requires planned { IsUploadNumber planned.now.number }
     requires between { IsUploadNumber between.now.number }
 {
-    let items = items_of(alloc, planned)?;
+    let items = items_of(rt, alloc, planned)?;
     let keys = keys_of(alloc, items.as_slice()).ok()?;
     let fetched = office.fetch(keys.as_slice()).ok()?;
     let plan = plan_of(alloc, &fetched, planned, items.as_slice(), moment)?;
-    let _ = office.settle(between, None, moment);
-    Some(office.settle(planned, Some(plan), moment))
+    let _ = office.settle(rt, between, None, moment);
+    Some(office.settle(rt, planned, Some(plan), moment))
 }
 
 // Whether an upload is judged again after another issuer's took the authority key of its record, though the cell of the
@@ -74,7 +75,7 @@ fn is_judged_again<R: Threads + Sync>(
         Ok(mut office) => {
             let steps = [ACCREDITED, OTHER_ACCREDITED, FIRST_TAKEN];
             let is_prepared = takes_all(rt, alloc, &mut office, &steps);
-            let reply = reply_to_planned(alloc, &mut office, planned, between, moment);
+            let reply = reply_to_planned(rt, alloc, &mut office, planned, between, moment);
             let _ = office.close();
             is_prepared && is_answered(&reply, wanted)
         }

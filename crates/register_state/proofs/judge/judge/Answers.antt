@@ -5,5 +5,5 @@ use Rattle.register_state.proofs.judge.judge.Goals as goal
 
 pub unreachable-requires : goal.unreachable-requires
 unreachable-requires c =
-    let takes = c.judge_on.ensures.over_tables (rows c.args.table.now.held) c.held.ensures.kept.sound refl in
-    no_cell_wanted _ c.judge_on.result c.in-Err-NeedCell.field-0-0 takes (c.in-Err-NeedCell.is ∙ ap Err c.in-Err-NeedCell.field-0-is)
+    let takes = c.judge_by.ensures.over_tables (rows c.args.table.now.held) c.held.ensures.kept.sound refl in
+    no_cell_wanted _ c.judge_by.result c.in-Err-NeedCell.field-0-0 takes (c.in-Err-NeedCell.is ∙ ap Err c.in-Err-NeedCell.field-0-is)

@@ -1,7 +1,4 @@
-use Rattle.std.proofs.Common.{◌≡◌, ◌++◌, drop, map}
-use Rattle.lei_records.specs.Items.{ready as ready_of}
 use Rattle.register_state.proofs.judge.ready_all.Given as goal
 
--- the items so far with those of the rest are all
-abbrev pub invariant-loop-raw : goal.invariant-loop-raw
-invariant-loop-raw l = l.items.items ++ map ready_of (drop l.raw-index l.raws) ≡ map ready_of l.raws
+abbrev pub ghosts-ready_in_threads : goal.ghosts-ready_in_threads
+ghosts-ready_in_threads g a = record { name = a.blank.name; parts = a.blank.parts }

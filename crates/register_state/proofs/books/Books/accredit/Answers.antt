@@ -12,6 +12,6 @@ returns-clause-next c =
     let entries = c.entries.ensures ∙ ap (λ o. o.history) c.self.view_is in
     let valid = c.as_bytes.ensures.valid in (
       valid,
-      accreditation-next office.limits office.history c.args.issuer.now c.args.moment c.in_ok-entry.entry (subst A c.self.view_is c.self.invariant.of_limits) valid c.is_full.ensures.few
-          (c.in_ok-entry.ensures ∙ ap (λ h. accreditation h c.args.issuer.now c.args.moment) entries) (sym c.is_full.ensures.value ∙ c.if-is_full.false),
+      accreditation-next office.limits office.history c.args.issuer.now c.args.terms.now c.in_ok-entry.entry (subst A c.self.view_is c.self.invariant.of_limits) valid c.is_full.ensures.few
+          (c.in_ok-entry.ensures ∙ ap (λ h. accreditation h c.args.issuer.now c.args.terms.now) entries) (sym c.is_full.ensures.value ∙ c.if-is_full.false),
     )

@@ -21,16 +21,16 @@ returns-in-Ok-clause-entry g c =
     let limits = office.limits in
     let history = office.history in
     let list = c.as_slice.result.now in
-    let e = publication_entry office c.args.number c.args.moment in
+    let e = publication_entry office c.args.number c.args.terms.now in
     let next = subst (AreNextChanges limits history) (sym c.as_slice.ensures.value) c.in_ok-changes.ensures.changes in
     let legal = subst Legal c.self.view_is c.self.invariant.legal in
     let made = trail office ++ publication_by limits history e ∷ [] in
     let keeps : KeepsTrail made c.shelve.new.shelf.now =
-    published-shelved limits history c.args.number c.args.moment list c.args.shelf.now.now c.shelve.new.shelf.now legal next c.requires.shelf c.in_ok-shelve.ensures.next in
+    published-shelved limits history c.args.number c.args.terms.now list c.args.shelf.now.now c.shelve.new.shelf.now legal next c.requires.shelf c.in_ok-shelve.ensures.next in
     let counted = published-counted limits history (trail office) e c.counts.result (c.counts.ensures.lei made keeps) (c.counts.ensures.rr made keeps) (c.counts.ensures.repex made keeps) in
     let same = c.entries-entries.ensures ∙ ap (λ o. o.history) c.self.view_is in
     c.in-Ok.ensures limits (counted ∙ ap (λ l. published_counts (after limits l)) (sym same))
-    ∙ ap (λ l. publication_entry (office_of limits l) c.args.number c.args.moment) same
+    ∙ ap (λ l. publication_entry (office_of limits l) c.args.number c.args.terms.now) same
 
 pub returns-in-Ok-clause-shelf : goal.returns-in-Ok-clause-shelf
 returns-in-Ok-clause-shelf g c =
@@ -38,11 +38,11 @@ returns-in-Ok-clause-shelf g c =
     let limits = office.limits in
     let history = office.history in
     let list = c.as_slice.result.now in
-    let e = publication_entry office c.args.number c.args.moment in
+    let e = publication_entry office c.args.number c.args.terms.now in
     let next = subst (AreNextChanges limits history) (sym c.as_slice.ensures.value) c.in_ok-changes.ensures.changes in
     let legal = subst Legal c.self.view_is c.self.invariant.legal in
     let keeps : KeepsTrail (trail office ++ publication_by limits history e ∷ []) c.shelve.new.shelf.now =
-    published-shelved limits history c.args.number c.args.moment list c.args.shelf.now.now c.shelve.new.shelf.now legal next c.requires.shelf c.in_ok-shelve.ensures.next in
+    published-shelved limits history c.args.number c.args.terms.now list c.args.shelf.now.now c.shelve.new.shelf.now legal next c.requires.shelf c.in_ok-shelve.ensures.next in
     let own : c.in-Ok.entry ≡ e = returns-in-Ok-clause-entry g c in
     next-shelved limits history c.in-Ok.entry c.shelve.new.shelf.now (ap is_publication own)
     (subst (λ x. KeepsTrail (trail office ++ publication_by limits history x ∷ []) c.shelve.new.shelf.now) (sym own) keeps)

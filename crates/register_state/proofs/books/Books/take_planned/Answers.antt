@@ -9,5 +9,5 @@ add_judged-requires-clause-judged c =
     let limits = c.limits-limits.ensures in
     let most = limits.limits.3.1 in
     let same = ap (λ l. l.records) limits.value in
-    planned_by office c.args.call.now c.args.moment c.args.plan c.requires.plan c.requires.day
+    planned_by office c.args.call.now c.args.terms.now c.args.plan c.requires.plan c.requires.newest c.requires.day
     (after-fit office.limits office.history).sound c.requires.agrees c.requires.fits (omega (arith, most, same))

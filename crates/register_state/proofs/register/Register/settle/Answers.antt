@@ -4,7 +4,7 @@ use Rattle.register_words.specs.declared.request.Request.TheVariants.{Upload}
 use Rattle.register_state.specs.Crashes.{CrashStays}
 use Rattle.register_history.specs.Replies.{upload_outcome}
 use Rattle.register_state.proofs.Crashing.{crash-added, crash-refused}
-use Rattle.register_state.proofs.Growing.{legal-added}
+use Rattle.register_state.proofs.Growing.{legal-new}
 use Rattle.register_state.proofs.Settling.{upload-stays-shelved}
 use Rattle.register_state.proofs.Outcomes.{adds_is, never_fault, next_of, stays_of}
 use Rattle.register_state.proofs.register.Register.settle.Goals as goal
@@ -12,18 +12,18 @@ use Rattle.register_state.proofs.register.Register.settle.Goals as goal
 pub returns-in-Ok-Stays-clause-reply : goal.returns-in-Ok-Stays-clause-reply
 returns-in-Ok-Stays-clause-reply g c =
     let office = c.self.inside.books in
-    let at = c.stamp-moment.result in
+    let at = c.terms-terms.result in
     let found = c.in-Ok-Stays in
     never_fault office (Upload c.args.call.now) at found.reply (stays_of office (Upload c.args.call.now) (upload_outcome office c.args.call.now at) found.field-0 found.reply found.field-0-is found.ensures.decides)
 
 pub add-requires-clause-legal : goal.add-requires-clause-legal
 add-requires-clause-legal g c =
     let office = c.self.inside.books in
-    let at = c.stamp-moment.result in
+    let at = c.terms-terms.result in
     let found = c.in-Ok-Adds in
-    let stamp = c.stamp-moment.ensures in
+    let stamp = c.terms-terms.ensures in
     let next = next_of office (Upload c.args.call.now) found.field-0 found.entry found.writes found.field-0-is found.ensures.next in
-    legal-added office (Upload c.args.call.now) c.args.moment at found.entry next.0 stamp.moment stamp.stamp stamp.legal
+    legal-new office (Upload c.args.call.now) c.args.moment at found.entry next.0 stamp.moment stamp.terms stamp.legal
     (adds_is office (Upload c.args.call.now) (upload_outcome office c.args.call.now at) found.field-0 found.entry found.writes found.field-0-is found.ensures.decides)
 
 pub returns-in-Ok-clause-crash : goal.returns-in-Ok-clause-crash
@@ -39,11 +39,11 @@ pub returns-in-Ok-Adds-clause-crash : goal.returns-in-Ok-Adds-clause-crash
 returns-in-Ok-Adds-clause-crash g c =
     let refused = c.in-Err-add.ensures in
     let office = c.self.inside.books in
-    let at = c.stamp-moment.result in
+    let at = c.terms-terms.result in
     let found = c.in-Ok-Adds in
-    let stamp = c.stamp-moment.ensures in
+    let stamp = c.terms-terms.ensures in
     let next = next_of office (Upload c.args.call.now) found.field-0 found.entry found.writes found.field-0-is found.ensures.next in
-    let legal = legal-added office (Upload c.args.call.now) c.args.moment at found.entry next.0 stamp.moment stamp.stamp stamp.legal
+    let legal = legal-new office (Upload c.args.call.now) c.args.moment at found.entry next.0 stamp.moment stamp.terms stamp.legal
     (adds_is office (Upload c.args.call.now) (upload_outcome office c.args.call.now at) found.field-0 found.entry found.writes found.field-0-is found.ensures.decides) in
     let told = g.K.Keeper.tables c.add.new.keeper in
     let before = g.K.Keeper.leaves c.args.keeper.now in
@@ -54,5 +54,5 @@ returns-in-Ok-Adds-clause-crash g c =
 pub invariant_of-self-in-Ok : goal.invariant_of-self-in-Ok
 invariant_of-self-in-Ok g c =
     let found = c.in-Ok-Adds in
-    upload-stays-shelved c.self.inside.books c.add.new.self c.args.call.now c.stamp-moment.result c.self.inside.shelf found.field-0 found.entry found.writes
+    upload-stays-shelved c.self.inside.books c.add.new.self c.args.call.now c.terms-terms.result c.self.inside.shelf found.field-0 found.entry found.writes
     found.field-0-is found.ensures.decides c.self.invariant c.in-Ok.ensures.added

@@ -2,7 +2,7 @@ use Rattle.std.proofs.Common.{◌≡◌, ℤ, sym, ap, ◌∙◌, subst, of_z, t
 use Rattle.lei_shapes.specs.Moment.{IsMoment}
 use Rattle.upload_ledger.specs.History.{stamp}
 use Rattle.register_history.proofs.Histories.{stamp-is_moment}
-use Rattle.register_state.proofs.books.Books.stamp.Goals as goal
+use Rattle.register_state.proofs.books.Books.terms.Goals as goal
 
 pub moment_of-requires : goal.moment_of-requires
 moment_of-requires c =
