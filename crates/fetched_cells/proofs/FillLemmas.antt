@@ -1,5 +1,5 @@
 -- What is added when cells are copied one after the other, and what is left to add.
-use Rattle.std.specs.Prelude.{◌≡◌, ◌+◌, ◌-◌, ◌<◌, ◌≤◌, ℕ, zero, suc, List, [], ◌∷◌, ◌++◌, length, take, drop}
+use Rattle.std.specs.Prelude.{◌≡◌, ◌+◌, ◌-◌, ◌<◌, ◌≤◌, ℕ, zero, suc, List, [], ◌∷◌, ◌++◌, length, map, take, drop}
 use Rattle.std.proofs.Common.{sym, ap, subst, ◌∙◌, arith, get_or, drop-cons, add-one}
 use Rattle.std.proofs.lemmas.List.{append-nil, append_assoc, drop_all, length-append, take_all}
 use Rattle.std.proofs.Math.Seq.{take-nil}
@@ -90,3 +90,14 @@ keys_next cells keys i key less is =
 
 pub none_left : (cells : Cells) (keys : List CellKey) (i : ℕ) → length keys ≤ i → fetched_keys cells (drop i keys) ≡ []
 none_left cells keys i all = ap (fetched_keys cells) (drop_all i keys all)
+
+-- ---- record by record
+
+pub records_next : (leis : List (List ℕ)) (i : ℕ) (lei : List ℕ) → i < length leis → get_or leis i lei ≡ lei
+    → map CellKey.Rec (drop i leis) ≡ (CellKey.Rec lei ∷ []) ++ map CellKey.Rec (drop (i + 1) leis)
+records_next leis i lei less is =
+    let rest : drop i leis ≡ lei ∷ drop (i + 1) leis = rw add-one (drop-cons leis i lei less ∙ ap (λ x. x ∷ drop (suc i) leis) is) in
+    ap (map CellKey.Rec) rest
+
+pub no_records_left : (leis : List (List ℕ)) (i : ℕ) → length leis ≤ i → map CellKey.Rec (drop i leis) ≡ []
+no_records_left leis i all = ap (map CellKey.Rec) (drop_all i leis all)

@@ -1,25 +1,35 @@
 -- What an item needs is among what is fetched for the cells that it names.
-use Rattle.std.specs.Prelude.{◌≡◌, ◌⊎◌, ℕ, zero, suc, List, [], ◌∷◌, ◌++◌, map, Bool, true, false, cond, Option, Some, None}
+use Rattle.std.specs.Prelude.{◌≡◌, ℕ, List, [], ◌∷◌, ◌++◌, map, Bool, true, false, cond, Option, Some, None, slice_get}
 use Rattle.std.specs.List.{Contains, flat_map}
-use Rattle.std.specs.Option.{option_map_or}
+use Rattle.std.specs.Str.{bytes_eq}
 use mathlib.Core.Logic.{inl, inr}
 use Rattle.std.proofs.Common.{refl, rules, sym, subst}
+use Rattle.std.proofs.lemmas.Bool.{false≢true, or_cases, or_left, or_right}
 use Rattle.std.proofs.lemmas.List.Elements.{Contains-append_cases, Contains-append_left, Contains-append_right, Contains-push}
 use Rattle.lei_records.specs.declared.item.Item.{Item}
 use Rattle.lei_records.specs.declared.item.Readied.{Readied}
 use Rattle.lei_records.specs.declared.rules.Rules.{Rules}
 use Rattle.lei_records.specs.declared.view.CellKey.{CellKey}
+use Rattle.lei_records.specs.declared.view.RecCell.{RecCell}
+use Rattle.lei_records.specs.declared.view.Seen.{Seen}
 use Rattle.lei_records.specs.Cells.{Cells, akey, lei_in, successor_in, successors_in}
 use Rattle.lei_records.specs.Parents.{parent_category}
 use Rattle.lei_records.specs.Relations.{end_in, kind_in, start_in}
 use Rattle.lei_records.specs.Rows.{Row}
-use Rattle.lei_records.specs.Walks.{Next, members}
+use Rattle.lei_records.specs.Walks.{members}
+use Rattle.successor_rules.specs.declared.walks.Walked.{Walked}
+use Rattle.successor_rules.specs.Chains.{Nexts}
+use Rattle.successor_rules.specs.Levels.{held_nexts, known_nexts, reached, spread_out}
+use Rattle.successor_rules.specs.Successors.{named, successor_seen, successors_seen}
 use Rattle.successor_rules.specs.Walks.{held, known}
+use Rattle.successor_rules.proofs.LevelLemmas.{has, own_text, same_text}
 use Rattle.relation_rules.specs.Checks.{is_direct_parent}
 use Rattle.relation_rules.specs.Needs.{exception_keys, relation_names}
-use Rattle.cell_reads.proofs.NoteLemmas.{first_named}
-use Rattle.cell_reads.specs.Needs.{key_names, names, needs, parent_walk, record_names, successor_names, successor_walk, next_successor, walk_cells}
-use Rattle.fetched_cells.specs.Fetching.{brought, fetched_keys}
+use Rattle.cell_reads.specs.Needs.{key_names, names, needs, next_successor, next_successors, parent_walk, record_names, record_walk, successor_names, successor_walk, walk_cells}
+use Rattle.fetched_cells.specs.Fetching.{LevelsEnd, brought, fetched_keys, nearest_records}
+use Rattle.fetched_cells.specs.Nearest.{nearest}
+use Rattle.fetched_cells.proofs.CloseLemmas.{NamedBy}
+use Rattle.fetched_cells.proofs.SpreadLemmas.{member_near, near, reached_near}
 
 -- ---- lists
 
@@ -48,38 +58,45 @@ chosen : {X : Type 0} (test : Bool) (xs : List X) (x : X) → Contains (cond tes
 chosen true xs x at = at
 chosen false xs x at = absurd (none_at x at)
 
--- ---- walks
+-- ---- records
 
--- the cells after the first member, from what it names
-abbrev after : ℕ → (List ℕ → CellKey) → Next → Option (List ℕ) → List CellKey
-after n cell next named = map cell (option_map_or (members n next) named [])
+-- the LEI of a record cell that stands in a list of them
+record RecordOf (leis : List (List ℕ)) (key : CellKey) : Type 0 where
+  lei : List ℕ
+  at : has leis lei ≡ true
+  is : CellKey.Rec lei ≡ key
 
-after_more : (n : ℕ) (cell : List ℕ → CellKey) (next : Next) (key : CellKey)
-    → ((first : List ℕ) → Contains (map cell (members n next first)) key → Contains (map cell (members (suc n) next first)) key)
-    → (named : Option (List ℕ)) → Contains (after n cell next named) key → Contains (after (suc n) cell next named) key
-after_more n cell next key each None at = at
-after_more n cell next key each (Some lei) at = each lei at
-
--- a cell of a walk is that of the first member, or of those after it
-walk_cases : (n : ℕ) (cell : List ℕ → CellKey) (next : Next) (first : List ℕ) (key : CellKey) → Contains (map cell (members (suc n) next first)) key
-    → (cell first ≡ key) ⊎ Contains (after n cell next (next first)) key
-unfolding members
-walk_cases n cell next first key at = elim (Contains-append_cases (cell first ∷ []) (after n cell next (next first)) key at) [
-  | inl here ↦ inl (only (cell first) key here)
-  | inr there ↦ inr there
+record_of : (leis : List (List ℕ)) (key : CellKey) → Contains (map CellKey.Rec leis) key → RecordOf leis key
+record_of [] key at = absurd (none_at key at)
+record_of (x ∷ xs) key at = elim (Contains-append_cases (CellKey.Rec x ∷ []) (map CellKey.Rec xs) key at) [
+  | inl here ↦ record { lei = x; at = or_left (bytes_eq x x) (has xs x) (own_text x); is = only (CellKey.Rec x) key here }
+  | inr there ↦
+      let rest = record_of xs key there in
+      record { lei = rest.lei; at = or_right (bytes_eq rest.lei x) (has xs rest.lei) rest.at; is = rest.is }
 ]
 
--- the cells of a walk are among those of one that is longer by a member
-walk_more : (n : ℕ) (cell : List ℕ → CellKey) (next : Next) (key : CellKey) (first : List ℕ)
-    → Contains (map cell (members n next first)) key → Contains (map cell (members (suc n) next first)) key
-unfolding members
-walk_more zero cell next key first at = absurd (none_at key at)
-walk_more (suc n) cell next key first at = elim (walk_cases n cell next first key at) [
-  | inl here ↦ Contains-append_left (cell first ∷ []) (after (suc n) cell next (next first)) key
-      (subst (Contains (cell first ∷ [])) here (Contains-push [] (cell first)))
-  | inr there ↦ later (cell first) (after (suc n) cell next (next first)) key
-      (after_more n cell next key (walk_more n cell next key) (next first) there)
+record_there : (leis : List (List ℕ)) (lei : List ℕ) → has leis lei ≡ true → Contains (map CellKey.Rec leis) (CellKey.Rec lei)
+record_there [] lei at = absurd (false≢true at)
+record_there (x ∷ xs) lei at = elim (or_cases (bytes_eq lei x) (has xs lei) at) [
+  | inl is ↦ subst (λ y. Contains (map CellKey.Rec (x ∷ xs)) (CellKey.Rec y)) (sym (same_text lei x is)) (first_of (CellKey.Rec x) (map CellKey.Rec xs))
+  | inr is ↦ later (CellKey.Rec x) (map CellKey.Rec xs) (CellKey.Rec lei) (record_there xs lei is)
 ]
+
+-- the first one of a list, and of the successors that a view answers
+first_has : (leis : List (List ℕ)) (lei : List ℕ) → slice_get leis 0 ≡ Some lei → has leis lei ≡ true
+first_has [] lei is = absurd cc
+first_has (x ∷ xs) lei is =
+    let same : x ≡ lei = cc in
+    or_left (bytes_eq lei x) (has xs lei) (subst (λ y. bytes_eq lei y ≡ true) (sym same) (own_text lei))
+
+first_seen : (seen : Seen RecCell) (lei : List ℕ) → held (successor_seen seen) ≡ Some lei → has (held_nexts (successors_seen seen)) lei ≡ true
+first_seen (Seen.Held cell) lei is = by cell.successors is
+  where
+    by : (leis : List (List ℕ)) → held (named (slice_get leis 0)) ≡ Some lei → has leis lei ≡ true
+    by [] none = absurd cc
+    by (x ∷ xs) one = first_has (x ∷ xs) lei one
+first_seen Seen.Empty lei is = absurd cc
+first_seen Seen.Missing lei is = absurd cc
 
 -- ---- items
 
@@ -93,31 +110,44 @@ module _ (cells : Cells) (key : CellKey) where
   of_brought : (keys : List CellKey) (own : CellKey) → Contains keys own → Contains (brought cells own) key → Contains (fetched_keys cells keys) key
   of_brought keys own at within = flat_map-contains fetched keys own key at (later own (brought cells own) key within)
 
-  -- the walk after a successor
-  after_successor : (named : Option (List ℕ)) → Contains (after 200 CellKey.Rec (known (next_successor cells)) named) key → Contains (successor_walk cells named) key
-  after_successor None at = at
-  after_successor (Some lei) at = at
+  abbrev nexts : Nexts
+  nexts = known_nexts (next_successors cells)
 
-  of_successor : (keys : List CellKey) (lei : List ℕ) → Contains keys (CellKey.Rec lei) → Contains (successor_walk cells (Some lei)) key
-      → Contains (fetched_keys cells keys) key
-  of_successor keys lei at walked = elim (walk_cases 199 CellKey.Rec (known (next_successor cells)) lei key walked) [
-    | inl here ↦ of_names keys (subst (Contains keys) here at)
-    | inr there ↦ of_brought keys (CellKey.Rec lei) at
-        (Contains-append_left (successor_walk cells (held (next_successor cells lei))) (parent_walk cells lei) key
-        (after_successor (held (next_successor cells lei))
-        (after_more 199 CellKey.Rec (known (next_successor cells)) key (walk_more 199 CellKey.Rec (known (next_successor cells)) key)
-        (held (next_successor cells lei)) there)))
+  successor_named : (row : Row) (lei : List ℕ) → has (successors_in row) lei ≡ true → Contains (record_names row) (CellKey.Rec lei)
+  successor_named row lei at =
+      later (CellKey.Rec (lei_in row)) (key_names (akey row) ++ successor_names (successors_in row)) (CellKey.Rec lei)
+      (Contains-append_right (key_names (akey row)) (successor_names (successors_in row)) (CellKey.Rec lei)
+      (record_there (successors_in row) lei at))
+
+  -- a record that a walk from a successor reaches
+  of_near : (row : Row) (lei : List ℕ) → CellKey.Rec lei ≡ key → NamedBy (near nexts) (successors_in row) lei
+      → Contains (fetched_keys cells (record_names row)) key
+  of_near row lei is by = elim (or_cases (bytes_eq lei by.lei) (has (nearest nexts by.lei) lei) by.names) [
+    | inl same ↦ of_names (record_names row) (subst (Contains (record_names row)) is
+        (successor_named row lei (subst (λ l. has (successors_in row) l ≡ true) (sym (same_text lei by.lei same)) by.at)))
+    | inr within ↦ of_brought (record_names row) (CellKey.Rec by.lei) (successor_named row by.lei by.at)
+        (Contains-append_left (nearest_records cells by.lei) (parent_walk cells by.lei) key
+        (subst (Contains (nearest_records cells by.lei)) is (record_there (nearest nexts by.lei) lei within)))
   ]
 
-  of_record : (row : Row) (named : Option (List ℕ)) → successor_in row ≡ named → Contains (successor_walk cells named) key
-      → Contains (fetched_keys cells (record_names row)) key
-  of_record row None is walked = absurd (none_at key walked)
-  of_record row (Some lei) is walked =
-      of_successor (record_names row) lei
-      (later (CellKey.Rec (lei_in row)) (key_names (akey row) ++ successor_names (successors_in row)) (CellKey.Rec lei)
-      (Contains-append_right (key_names (akey row)) (successor_names (successors_in row)) (CellKey.Rec lei)
-      (first_named (successors_in row) lei is)))
-      walked
+  -- the first successor is one of them
+  one_of_all : (x y : List ℕ) → known (next_successor cells) x ≡ Some y → has (nexts x) y ≡ true
+  one_of_all x y is = first_seen (cells.record_cell x) y is
+
+  of_chain : (row : Row) (named : Option (List ℕ)) → successor_in row ≡ named → spread_out nexts (lei_in row) (successors_in row) ≡ Walked.Ends
+      → Contains (successor_walk cells named) key → Contains (fetched_keys cells (record_names row)) key
+  of_chain row None is ended walked = absurd (none_at key walked)
+  of_chain row (Some first) is ended walked =
+      let found = record_of (members 200 (known (next_successor cells)) first) key walked in
+      of_near row found.lei found.is (member_near nexts (lei_in row) (successors_in row) ended 200 (known (next_successor cells)) one_of_all
+      first (first_has (successors_in row) first is) found.lei found.at)
+
+  of_record : (rules : Rules) (row : Row) → spread_out nexts (lei_in row) (successors_in row) ≡ Walked.Ends
+      → Contains (record_walk rules cells row) key → Contains (fetched_keys cells (record_names row)) key
+  of_record Rules.First row ended walked = of_chain row (successor_in row) refl ended walked
+  of_record Rules.Second row ended walked =
+      let found = record_of (reached nexts (lei_in row) (successors_in row)) key walked in
+      of_near row found.lei found.is (reached_near nexts (lei_in row) (successors_in row) ended found.lei found.at)
 
   of_relation : (row : Row) → Contains (parent_walk cells (end_in row)) key → Contains (fetched_keys cells (relation_names row)) key
   of_relation row walked =
@@ -126,17 +156,19 @@ module _ (cells : Cells) (key : CellKey) where
       ++ exception_keys (start_in row) (parent_category (kind_in row)) in
       of_brought (relation_names row) (CellKey.Rec (end_in row))
       (later (CellKey.Rec (start_in row)) (CellKey.Rec (end_in row) ∷ others) (CellKey.Rec (end_in row)) (first_of (CellKey.Rec (end_in row)) others))
-      (Contains-append_right (successor_walk cells (held (next_successor cells (end_in row)))) (parent_walk cells (end_in row)) key walked)
+      (Contains-append_right (nearest_records cells (end_in row)) (parent_walk cells (end_in row)) key walked)
 
-  of_walk : (item : Readied) → Contains (walk_cells Rules.First cells item) key → Contains (fetched_keys cells (names item)) key
-  of_walk (Readied.Bad check) at = absurd (none_at key at)
-  of_walk (Readied.Good (Item.Record row)) at = of_record row (successor_in row) refl at
-  of_walk (Readied.Good (Item.Relation row)) at =
+  of_walk : (rules : Rules) (item : Readied) → LevelsEnd cells item → Contains (walk_cells rules cells item) key
+      → Contains (fetched_keys cells (names item)) key
+  of_walk rules (Readied.Bad check) ended at = absurd (none_at key at)
+  of_walk rules (Readied.Good (Item.Record row)) ended at = of_record rules row ended at
+  of_walk rules (Readied.Good (Item.Relation row)) ended at =
       of_relation row (chosen (is_direct_parent row) (parent_walk cells (end_in row)) key at)
-  of_walk (Readied.Good (Item.Exception item)) at = absurd (none_at key at)
+  of_walk rules (Readied.Good (Item.Exception item)) ended at = absurd (none_at key at)
 
-  pub needed_fetched : (item : Readied) → Contains (needs Rules.First cells item) key → Contains (fetched_keys cells (names item)) key
-  needed_fetched item at = elim (Contains-append_cases (names item) (walk_cells Rules.First cells item) key at) [
+  pub needed_fetched : (rules : Rules) (item : Readied) → LevelsEnd cells item → Contains (needs rules cells item) key
+      → Contains (fetched_keys cells (names item)) key
+  needed_fetched rules item ended at = elim (Contains-append_cases (names item) (walk_cells rules cells item) key at) [
     | inl named ↦ of_names (names item) named
-    | inr walked ↦ of_walk item walked
+    | inr walked ↦ of_walk rules item ended walked
   ]

@@ -2,4 +2,8 @@ mod MapLemmas
 mod CopyLemmas
 mod FillLemmas
 mod WalkLemmas
+mod NearestLemmas
+mod OrderLemmas
+mod CloseLemmas
+mod SpreadLemmas
 mod LawLemmas

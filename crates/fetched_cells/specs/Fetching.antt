@@ -1,26 +1,40 @@
 -- Which cells are fetched for keys, and what a view of them alone answers. This project's profile.
-use Rattle.std.specs.Prelude.{◌≡◌, List, [], ◌∷◌, ◌++◌, IsTrue}
+use Rattle.std.specs.Prelude.{◌≡◌, List, [], ◌∷◌, ◌++◌, IsTrue, map, ⊤}
 use Rattle.std.specs.List.{Contains, flat_map}
+use Rattle.lei_code.specs.Texts.{Lei}
+use Rattle.lei_records.specs.declared.item.Item.{Item}
+use Rattle.lei_records.specs.declared.item.Readied.{Readied}
 use Rattle.lei_records.specs.declared.view.CellKey.{CellKey}
-use Rattle.lei_records.specs.Cells.{Cells}
-use Rattle.successor_rules.specs.Walks.{held}
+use Rattle.lei_records.specs.Cells.{Cells, lei_in, successors_in}
+use Rattle.successor_rules.specs.declared.walks.Walked.{Walked}
+use Rattle.successor_rules.specs.Levels.{known_nexts, spread_out}
 use Rattle.relation_rules.specs.Needs.{lacks}
-use Rattle.cell_reads.specs.Needs.{parent_walk, successor_walk, next_successor}
+use Rattle.cell_reads.specs.Needs.{next_successors, parent_walk}
+use Rattle.fetched_cells.specs.Nearest.{nearest}
 
 -- ---- which cells are fetched
 
--- The cells that a key brings with it. That of a record brings the records of the walk of successors after it, and the
--- direct parents of the walk of parents from it on, each as far as the view knows it and to 200 members. No other key
--- brings any.
+-- The records of the first 201 different LEIs that the walk by levels reaches from the record of an LEI, as far as the
+-- view knows it: level by level, and in byte order within a level.
+abbrev pub nearest_records : Cells → Lei → List CellKey
+nearest_records cells lei = map CellKey.Rec (nearest (known_nexts (next_successors cells)) lei)
+
+-- The cells that a key brings with it. That of a record brings the records of its levels of successors, and the direct
+-- parents of the walk of parents from it on, to 200 members and as far as the view knows it. No other key brings any.
 abbrev pub brought : Cells → CellKey → List CellKey
-brought cells (CellKey.Rec lei) =
-    successor_walk cells (held (next_successor cells lei)) ++ parent_walk cells lei
+brought cells (CellKey.Rec lei) = nearest_records cells lei ++ parent_walk cells lei
 brought cells key = []
 
 -- The cells that are fetched for keys, in their order: each key, and then the cells that it brings. A cell stands here
 -- as often as it is named or walked to.
 abbrev pub fetched_keys : Cells → List CellKey → List CellKey
 fetched_keys cells keys = flat_map (λ key. key ∷ brought cells key) keys
+
+-- The walk by levels of an item ends, as far as the view knows it. Only a record has one.
+abbrev pub LevelsEnd : Cells → Readied → Type 0
+LevelsEnd cells (Readied.Good (Item.Record row)) =
+    spread_out (known_nexts (next_successors cells)) (lei_in row) (successors_in row) ≡ Walked.Ends
+LevelsEnd cells item = ⊤
 
 -- ---- a part of a view
 

@@ -1,3 +1,4 @@
 pub mod Maps
+pub mod Nearest
 pub mod Fetching
 pub mod Filling

@@ -1,17 +1,18 @@
 //! A fetched view while cells are copied to it.
-ghost use Rattle.std.specs.Prelude.{◌≡◌, [], ◌∷◌, OnOk};
+ghost use Rattle.std.specs.Prelude.{◌≡◌, [], ◌∷◌, map, OnOk};
 ghost use Rattle.lei_records.specs.declared.view.CellKey.{CellKey};
-ghost use Rattle.successor_rules.specs.Walks.{held};
-ghost use Rattle.cell_reads.specs.Needs.{parent_walk, successor_walk, next_successor};
-ghost use Rattle.fetched_cells.specs.Fetching.{brought, fetched_keys};
+ghost use Rattle.cell_reads.specs.Needs.{parent_walk};
+ghost use Rattle.fetched_cells.specs.Fetching.{brought, fetched_keys, nearest_records};
 ghost use Rattle.fetched_cells.specs.Filling.{Adds, member_keys};
 
 use crate::fetched::Fetched;
+use crate::nearest::nearest;
 use lei_code::Lei;
 use lei_outside::NoMemory;
 use lei_records::{CellKey, Seen, View};
 use relation_rules::ParentChain;
-use successor_rules::{Chain, SuccessorChain};
+use std::alloc::Global;
+use successor_rules::{Chain, SuccessorBranches};
 
 // The members of a walk that are looked at.
 const MOST_MEMBERS: u8 = 200;
@@ -19,6 +20,7 @@ const MOST_MEMBERS: u8 = 200;
 /// A view, and for how many cells more there is room. A cell that is copied twice takes room twice.
 #[derive(Drop)]
 pub struct Filling {
+    pub alloc: Global,
     pub fetched: Fetched,
     pub left: u32,
 }
@@ -58,16 +60,28 @@ impl Filling {
         self.add_parents(view, lei)
     }
 
+    // The records of the LEIs that are nearest by levels.
     fn add_successors<V: View>(&mut self, view: &V, lei: &Lei) -> Result<(), NoMemory>
         ensures { OnOk result (Adds (V.cells view.now) self.old self.new
-            (successor_walk (V.cells view.now) (held (next_successor (V.cells view.now) lei.now)))) }
+            (nearest_records (V.cells view.now) lei.now)) }
     {
-        let chain = SuccessorChain { view };
-        match chain.next(lei) {
-            Seen::Held(successor) => self.add_walk(view, &chain, &successor),
-            Seen::Empty => Ok(()),
-            Seen::Missing => Ok(()),
+        if self.left == 0 {
+            return Ok(());
         }
+        let met = nearest(self.alloc, &SuccessorBranches { view }, lei)?;
+        self.add_records(view, &met.as_slice()[1..])
+    }
+
+    fn add_records<V: View>(&mut self, view: &V, leis: &[Lei]) -> Result<(), NoMemory>
+        ensures { OnOk result (Adds (V.cells view.now) self.old self.new (map CellKey.Rec leis.now)) }
+    {
+        for lei in leis {
+            if self.left == 0 {
+                return Ok(());
+            }
+            self.add(view, &CellKey::Rec(*lei))?;
+        }
+        Ok(())
     }
 
     fn add_parents<V: View>(&mut self, view: &V, lei: &Lei) -> Result<(), NoMemory>

@@ -6,6 +6,7 @@ mod fetched;
 mod fetching;
 mod filling;
 mod laws;
+mod nearest;
 
 pub use fetched::Fetched;
 pub use fetching::fetch;
