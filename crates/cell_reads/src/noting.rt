@@ -127,9 +127,9 @@ fn set_end(
     }
 }
 
-/// Notes the cells that an item needs by the rules and the answers of `over`, as `below` has them. So where accepted items lie over a
-/// view, what is noted is what the view itself has. A cell that `below` lacks isn't noted. After an `Err` some of them
-/// may be noted.
+/// Notes the cells that an item needs by the rules and the answers of `over`, as `below` has them. So where accepted
+/// items lie over a view, what is noted is what the view itself has. A cell that `below` lacks isn't noted. After an
+/// `Err` some of them may be noted.
 pub fn note_needs<V: View, W: View>(
     alloc: Global,
     rules: Rules,

@@ -38,8 +38,8 @@ struct Progress {
     noted: Option<Noted>,
 }
 
-/// Judges the items of an upload by the newest rules from left to right, each on what the view answers with the accepted items
-/// before it put. `room` is the number of further records that fit, `issuer` uploads them, and `today` is the day,
+/// Judges the items of an upload by the newest rules from left to right, each on what the view answers with the
+/// accepted items before it put. `room` is the number of further records that fit, `issuer` uploads them, and `today` is the day,
 /// counted from 1970-01-01. The outcome lists the cells that the items needed, as the view has them: on a table that
 /// agrees with them the items come to the same.
 pub fn judge_all<V: View>(

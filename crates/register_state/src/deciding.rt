@@ -36,8 +36,8 @@ use upload_format::{Reader, UploadFault};
 use upload_ledger::Place;
 
 impl Books {
-    // Decides a request, where an entry that is added has these rules and this moment. A publication that is made stands on the shelf
-    // then, and can be taken back.
+    // Decides a request, where an entry that is added has these rules and this moment. A publication that is made
+    // stands on the shelf then, and can be taken back.
     pub fn decide<R: Threads + Sync>(
         &self,
         rt: &R,
