@@ -61,7 +61,8 @@ pub fn clear_levels_keep_held_ends()
 {}
 
 /// A view that agrees with what LEIs name reports what becomes of the walk by levels, or the key of a cell that it
-/// lacks, of an LEI in the levels that it knows. One that lacks nothing reports what becomes of the walk by its answers.
+/// lacks, of an LEI in the levels that it knows. One that lacks nothing reports what becomes of the walk along its
+/// answers.
 pub fn agreeing_views_tell_the_levels()
     ensures agreeing { (answers : SeenNexts) (nexts : Nexts) (key : Lei → CellKey) (own : Lei) (first : List Lei)
         → Agree answers nexts
