@@ -1,4 +1,4 @@
-//! Laws of chains, each as the contract of an empty function.
+//! Laws of chains and of levels, each as the contract of an empty function.
 ghost use Rattle.std.specs.Prelude.{◌≡◌, ◌↔◌, ◌∷◌, [], ◌&&◌, ◌⊎◌, if◌then◌else◌, not, Bool, IsTrue, true, false, ℕ, suc, List};
 ghost use Rattle.lei_code.specs.Texts.{Lei};
 ghost use Rattle.std.specs.Option.{option_to_list};
@@ -49,7 +49,8 @@ pub fn clear_levels_keep_ends()
 {}
 
 /// A view that agrees with what LEIs name reports what becomes of the walk by levels, or the key of a cell that it
-/// lacks, of an LEI in the levels that it knows. One that lacks nothing reports what becomes of the walk by its answers.
+/// lacks, of an LEI in the levels that it knows. One that lacks nothing reports what becomes of the walk along its
+/// answers.
 pub fn agreeing_views_tell_the_levels()
     ensures agreeing { (answers : SeenNexts) (nexts : Nexts) (key : Lei → CellKey) (own : Lei) (first : List Lei)
         → Agree answers nexts
@@ -62,8 +63,8 @@ pub fn agreeing_views_tell_the_levels()
         → spread_over answers key own first ≡ spread_out (known_nexts answers) own first }
 {}
 
-/// If each LEI names at most one next one and each way ends, the walk by levels comes to what the walk of a chain comes to,
-/// except that it is also `Meets` if the 201st member is the entity itself, which is `Long` for a chain.
+/// If each LEI names at most one next one and each way ends, the walk by levels comes to what the walk of a chain comes
+/// to, except that it is also `Meets` if the 201st member is the entity itself, which is `Long` for a chain.
 pub fn single_levels_are_chains()
     ensures { (next : Next) (own first : Lei) → AllEnd (λ lei. option_to_list (next lei))
         → spread_out (λ lei. option_to_list (next lei)) own (first ∷ [])
