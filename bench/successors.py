@@ -1,0 +1,77 @@
+#!/usr/bin/env python3
+"""Measures uploads of 5,000 retired records that name successors. The records make 25 groups of 200. Where a record names
+one, it is the record before it in its group, and where it names up to five, the up to five records before it: what
+follows it are all records before it in both cases, 100 of them on the average. An upload is taken, and its store is opened
+again: where one successor is named also after its entries have got the rules 1 by Python's sqlite3. Each time is the
+least of three runs, less that of the same without the upload."""
+import contextlib
+import pathlib
+import shutil
+import sqlite3
+import subprocess
+import tempfile
+
+from relations import OFFICE, PROGRAM, RECORDS, ROOT, code, compact, record
+from timing import least
+
+GROUP = 200
+SUCCESSORS = "Entity.SuccessorEntity.1.SuccessorLEI"
+RETIRED = {"Entity.EntityStatus": "INACTIVE", "Registration.RegistrationStatus": "RETIRED"}
+
+
+def retired(number, most):
+    """A record that names at most so many of those before it in its group; the first of a group stays as it is."""
+    place = number % GROUP
+    if place == 0:
+        return record(number)
+    before = range(number - 1, number - 1 - min(most, place), -1)
+    return {**record(number), **RETIRED, SUCCESSORS: " ".join(map(code, before))}
+
+
+def run(words, lines, accepted):
+    """The seconds of a run over these lines, whose replies accept so many items."""
+    def once():
+        with tempfile.TemporaryFile() as sent:
+            sent.write(lines)
+            sent.seek(0)
+            replies = subprocess.run([PROGRAM, "lines", *words], stdin=sent, stdout=subprocess.PIPE, check=True).stdout
+        assert replies.count(b"ACCEPTED") == accepted, replies[-200:]
+
+    return least(once)
+
+
+def opening(store):
+    return run(["--store", store], b"STATUS\n", 0)
+
+
+def entries_get_rules_1(store):
+    with contextlib.closing(sqlite3.connect(store)) as database, database:
+        database.execute("UPDATE entry SET rules = 1")
+
+
+def main():
+    subprocess.run([ROOT / "leireg", "lines"], stdin=subprocess.DEVNULL, check=True)
+    half = RECORDS // 2
+    held = f"ACCREDIT {OFFICE}\n".encode()
+    for number, numbers in enumerate((range(half), range(half, RECORDS)), 1):
+        held += f"UPLOAD {OFFICE} {number} ".encode() + compact({"records": list(map(record, numbers))}) + b"\n"
+    taken = run([], held, RECORDS)
+    with tempfile.TemporaryDirectory() as folder:
+        plain = pathlib.Path(folder, "plain.db")
+        subprocess.run([PROGRAM, "lines", "--store", plain], input=held, stdout=subprocess.DEVNULL, check=True)
+        opened = opening(plain)
+        for most in (1, 5):
+            body = compact({"records": [retired(number, most) for number in range(RECORDS)]})
+            lines = f"UPLOAD {OFFICE} 3 ".encode() + body + b"\n"
+            print(f"at most {most}: taken by rules 2     {run([], held + lines, 2 * RECORDS) - taken:8.3f} s")
+            store = pathlib.Path(folder, f"{most}.db")
+            shutil.copy(plain, store)
+            subprocess.run([PROGRAM, "lines", "--store", store], input=lines, stdout=subprocess.DEVNULL, check=True)
+            print(f"at most {most}: replayed by rules 2  {opening(store) - opened:8.3f} s")
+            if most == 1:
+                entries_get_rules_1(store)
+                print(f"at most {most}: replayed by rules 1  {opening(store) - opened:8.3f} s")
+
+
+if __name__ == "__main__":
+    main()
