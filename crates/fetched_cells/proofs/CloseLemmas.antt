@@ -78,7 +78,7 @@ module _ (nexts : Nexts) where
         | inr is ↦ (or_parts (has met y) (has level y) (sym (has-append met level y) ∙ levels_apart n (met ++ level) level y is)).0
       ]
 
-  levels_distinct : (n : ℕ) (met before : List (List ℕ)) → IsDistinct bytes_eq (by_levels n nexts met before)
+  pub levels_distinct : (n : ℕ) (met before : List (List ℕ)) → IsDistinct bytes_eq (by_levels n nexts met before)
   unfolding by_levels IsDistinct
   levels_distinct zero met before = tt
   levels_distinct (suc n) met before =

@@ -6,4 +6,5 @@ mod NearestLemmas
 mod OrderLemmas
 mod CloseLemmas
 mod SpreadLemmas
+mod SameLemmas
 mod LawLemmas

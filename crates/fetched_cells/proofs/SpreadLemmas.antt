@@ -26,7 +26,7 @@ ended_parts false false is = (refl, refl)
 abbrev pub near : Nexts → Nexts
 near nexts lei = lei ∷ nearest nexts lei
 
-onward_names : (nexts : Nexts) (own x y : List ℕ) → has (onward nexts own x) y ≡ true → has (nexts x) y ≡ true
+pub onward_names : (nexts : Nexts) (own x y : List ℕ) → has (onward nexts own x) y ≡ true → has (nexts x) y ≡ true
 onward_names nexts own x y at = by (bytes_eq x own) at
   where
     by : (b : Bool) → has (cond b [] (nexts x)) y ≡ true → has (nexts x) y ≡ true

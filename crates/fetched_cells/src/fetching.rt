@@ -10,8 +10,9 @@ use lei_records::{CellKey, View};
 use std::alloc::Global;
 
 /// A view of the cells of these keys and, for each record among them, of the first 201 different LEIs of its levels
-/// of successors and of the walk of direct parents from it, to 200 members, in this order. Of them all the first `most`
-/// are copied, and one that comes twice counts twice.
+/// of successors and of the walk of direct parents from it, to 200 members, in this order. The LEIs of levels come
+/// level by level, and in byte order within a level. Of all these cells the first `most` are copied, and one that comes
+/// twice counts twice.
 pub fn fetch<V: View>(
     alloc: Global,
     view: &V,

@@ -1,11 +1,21 @@
-//! A law of what is fetched, as the contract of an empty function.
-ghost use Rattle.std.specs.List.{Contains};
+//! Laws of what is fetched, each as the contract of an empty function.
+ghost use Rattle.std.specs.Prelude.{◌≡◌, ◌∷◌, [], ℕ, List};
+ghost use Rattle.std.specs.Cmp.Lexicographic.{slice_cmp};
+ghost use Rattle.std.specs.List.{Contains, IsDistinct};
+ghost use Rattle.std.specs.List.Sorted.{IsStrictlySortedBy};
+ghost use Rattle.std.specs.Ordering.{nat_cmp};
+ghost use Rattle.std.specs.Set.{is_member};
+ghost use Rattle.std.specs.Str.{bytes_eq};
+ghost use Rattle.lei_code.specs.Texts.{Lei};
 ghost use Rattle.lei_records.specs.declared.item.Readied.{Readied};
 ghost use Rattle.lei_records.specs.declared.rules.Rules.{Rules};
 ghost use Rattle.lei_records.specs.declared.view.CellKey.{CellKey};
 ghost use Rattle.lei_records.specs.Cells.{Cells};
+ghost use Rattle.successor_rules.specs.Chains.{Nexts};
+ghost use Rattle.successor_rules.specs.Levels.{others};
 ghost use Rattle.cell_reads.specs.Needs.{names, needs};
 ghost use Rattle.fetched_cells.specs.Fetching.{LevelsEnd, fetched_keys};
+ghost use Rattle.fetched_cells.specs.Nearest.{by_levels, in_order};
 
 /// Each cell that an item needs over a view, by whichever rules, is fetched from that view for the cells that the item
 /// names, if the walk by levels of a record ends there: it has at most 200 LEIs, and the record's own is none of them.
@@ -16,4 +26,15 @@ ghost use Rattle.fetched_cells.specs.Fetching.{LevelsEnd, fetched_keys};
 pub fn needed_cells_are_fetched()
     ensures { (rules : Rules) (cells : Cells) (item : Readied) (key : CellKey) → LevelsEnd cells item
         → Contains (needs rules cells item) key → Contains (fetched_keys cells (names item)) key }
+{}
+
+/// The LEIs of so many levels from what an entity names are those of the walk by levels other than its own, and each of
+/// them stands there once. Those of a level stand in the order of their bytes.
+pub fn nearest_leis_are_those_of_levels()
+    ensures members { (n : ℕ) (nexts : Nexts) (own lei : Lei)
+        → is_member bytes_eq (by_levels n nexts (own ∷ []) (own ∷ [])) lei
+        ≡ is_member bytes_eq (others n nexts own (nexts own)) lei }
+    ensures distinct { (n : ℕ) (nexts : Nexts) (own : Lei)
+        → IsDistinct bytes_eq (by_levels n nexts (own ∷ []) (own ∷ [])) }
+    ensures ordered { (leis : List Lei) → IsStrictlySortedBy (slice_cmp nat_cmp) (in_order leis) }
 {}

@@ -10,4 +10,4 @@ mod nearest;
 
 pub use fetched::Fetched;
 pub use fetching::fetch;
-pub use laws::needed_cells_are_fetched;
+pub use laws::{nearest_leis_are_those_of_levels, needed_cells_are_fetched};
