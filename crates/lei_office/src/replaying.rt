@@ -1,7 +1,8 @@
-//! Stored entries are replayed: each is asked again as its own request, at its own moment.
+//! Stored entries are replayed: each is asked again as its own request, by its own rules and at its own moment.
 ghost use Rattle.std.specs.Prelude.{◌≡◌, IfOk, IfSome, Some, option_map};
 ghost use Rattle.lei_shapes.specs.Moment.{IsMoment};
 ghost use Rattle.register_history.specs.Damage.{accreditation_in, asked_by, missing, publication_in, request_in, upload_in};
+ghost use Rattle.register_history.specs.Legal.{may_follow};
 ghost use Rattle.register_words.specs.Refusals.{reply_words};
 ghost use Rattle.register_words.specs.Requests.{IsNumbered};
 ghost use Rattle.lei_office.specs.Opening.{PageReplays, Replays, decision_text};
@@ -11,11 +12,14 @@ use lei_code::Lei;
 use lei_outside::{Bytes, KeptEntry, NoMemory};
 use lei_shapes::Moment;
 use register_history::Damage;
-use register_state::{Decision, Register};
+use register_state::{Decision, RULES, Register};
 use register_words::{Call, Reply, Request, is_upload_number};
 use std::alloc::Global;
 use std::thread::Threads;
 use upload_ledger::{ACCREDIT, PUBLISH, UPLOAD};
+
+// The number of the first rules.
+const FIRST_RULES: u16 = 1;
 
 /// Replays the stored entries of a page, which are to be those up to the number `upto`. Says the first that differs.
 pub fn replay_page<R: Threads + Sync>(
@@ -71,13 +75,13 @@ fn replay<R: Threads + Sync>(
 ) -> Result<Option<Bytes>, NoMemory>
     ensures { IfOk result (Replays register.old stored.now register.new) }
 {
-    match asked_by(alloc, stored)? {
+    match asked_by(alloc, register.entries(), stored)? {
         Some((request, moment)) => replay_request(rt, alloc, register, &request, moment, stored),
         None => Ok(Some(Bytes::copy_of(alloc, b"NOT_AN_ENTRY")?)),
     }
 }
 
-// Replays a stored entry that was taken for this request, at its moment.
+// Replays a stored entry that was taken for this request, by its rules and at its moment.
 fn replay_request<R: Threads + Sync>(
     rt: &R,
     alloc: Global,
@@ -88,7 +92,7 @@ fn replay_request<R: Threads + Sync>(
 ) -> Result<Option<Bytes>, NoMemory>
     requires numbered { IsNumbered request.now }
     requires moment { moment ≡ stored.now.moment }
-    requires asked { asked_by stored.now ≡ Some request.now }
+    requires asked { asked_by register.old.history stored.now ≡ Some request.now }
     ensures { IfOk result (Replays register.old stored.now register.new) }
 {
     match register.replay(rt, request, moment, stored)? {
@@ -120,11 +124,15 @@ fn reply_words(alloc: Global, reply: Reply) -> Result<Bytes, NoMemory>
     }
 }
 
-// The request that a stored entry was taken for, with its moment. None where its values are those of no request, or its
-// moment isn't one.
+// The request that a stored entry was taken for, with its moment. None where its values are those of no request, its
+// moment isn't one, or its rules may not follow those of the entries before it.
 #[tactic(auto, unfolding(register_history::specs::Damage::asked_by))]
-fn asked_by(alloc: Global, stored: &KeptEntry) -> Result<Option<(Request, Moment)>, NoMemory>
-    ensures request { IfOk result (λ asked. option_map (λ one. one.0) asked ≡ asked_by stored.now) }
+fn asked_by(
+    alloc: Global,
+    before: &[KeptEntry],
+    stored: &KeptEntry,
+) -> Result<Option<(Request, Moment)>, NoMemory>
+    ensures request { IfOk result (λ asked. option_map (λ one. one.0) asked ≡ asked_by before.now stored.now) }
     ensures moment { IfOk result (λ asked. IfSome asked (λ one. one.1 ≡ stored.now.moment)) }
     ensures in_range { IfOk result (λ asked. IfSome asked (λ one. IsMoment stored.now.moment)) }
     ensures numbered { IfOk result (λ asked. IfSome asked (λ one. IsNumbered one.0)) }
@@ -132,10 +140,25 @@ fn asked_by(alloc: Global, stored: &KeptEntry) -> Result<Option<(Request, Moment
     let Some(moment) = Moment::of(stored.moment) else {
         return Ok(None);
     };
+    if !may_follow(before, stored.rules) {
+        return Ok(None);
+    }
     match request_in(alloc, stored)? {
         Some(request) => Ok(Some((request, moment))),
         None => Ok(None),
     }
+}
+
+// Whether an entry after these may have the rules of this number: there are such, and they aren't lower than those of
+// the last entry.
+fn may_follow(before: &[KeptEntry], rules: u16) -> bool
+    ensures { result ≡ may_follow before.now rules }
+{
+    let last = match before.last() {
+        Some(entry) => entry.rules,
+        None => FIRST_RULES,
+    };
+    FIRST_RULES <= rules && rules <= RULES && last <= rules
 }
 
 // The request that an entry of its kind was taken for.

@@ -1,4 +1,5 @@
 use Rattle.std.proofs.Common.{subst}
+use Rattle.register_history.proofs.Chained.{legal-chained}
 use Rattle.register_history.proofs.Orders.{never_fall, numbered}
 use Rattle.register_history.proofs.Passing.{all_permitted}
 use Rattle.register_history.proofs.Registers.{after-fit}
@@ -10,7 +11,7 @@ pub returns-clause-sound : goal.returns-clause-sound
 returns-clause-sound g c = let office = c.answer.new.self in (after-fit office.limits office.history).sound
 
 pub returns-clause-chained : goal.returns-clause-chained
-returns-clause-chained g c = let office = c.answer.new.self in (after-fit office.limits office.history).chains
+returns-clause-chained g c = legal-chained c.answer.new.self c.answer.ensures.legal
 
 pub returns-clause-parents : goal.returns-clause-parents
 returns-clause-parents g c = let office = c.answer.new.self in (after-fit office.limits office.history).parents

@@ -1,4 +1,5 @@
 use Rattle.std.proofs.Common.{subst}
+use Rattle.register_history.proofs.Chained.{legal-chained}
 use Rattle.register_history.proofs.Orders.{never_fall, numbered}
 use Rattle.register_history.proofs.Passing.{all_permitted}
 use Rattle.register_history.proofs.Registers.{after-fit}
@@ -9,7 +10,9 @@ pub returns-in-Ok-Sound-clause-sound : goal.returns-in-Ok-Sound-clause-sound
 returns-in-Ok-Sound-clause-sound g c = let office = c.in-Ok-Sound.register in (after-fit office.limits office.history).sound
 
 pub returns-in-Ok-Sound-clause-chained : goal.returns-in-Ok-Sound-clause-chained
-returns-in-Ok-Sound-clause-chained g c = let office = c.in-Ok-Sound.register in (after-fit office.limits office.history).chains
+returns-in-Ok-Sound-clause-chained g c =
+    let found = subst (IsFound c.args.limits (g.K.Keeper.tables c.read_store.new.keeper)) c.in-Ok-Sound.field-0-is c.in-Ok-Sound.ensures.found in
+    legal-chained c.in-Ok-Sound.register found.1
 
 pub returns-in-Ok-Sound-clause-parents : goal.returns-in-Ok-Sound-clause-parents
 returns-in-Ok-Sound-clause-parents g c = let office = c.in-Ok-Sound.register in (after-fit office.limits office.history).parents
