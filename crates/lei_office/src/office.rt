@@ -152,9 +152,10 @@ impl<K: Keeper> Office<K> {
         reply_or(self.register.answer(rt, &mut self.keeper, request, moment))
     }
 
-    /// The cells of these keys and, for each record among them, those of the successors after it and of the direct
-    /// parents from it on, to 200 members each. Of them all, the first 50,000 are fetched, and one that comes twice
-    /// counts twice. This project's profile.
+    /// The cells of these keys and, for each record among them, those of the first 201 different LEIs of its levels of
+    /// successors, level by level and in byte order within a level, and of the direct parents from it on, to 200
+    /// members. Of them all, the first 50,000 are fetched, and one that comes twice counts twice. This project's
+    /// profile.
     pub fn fetch(&self, keys: &[CellKey]) -> Result<Fetched, NoMemory>
         ensures cells { IfOk result (λ fetched. HasJust (cells_in fetched)
             (cells_of (after self.now.office.limits self.now.office.history)) (take 50_000

@@ -202,9 +202,9 @@ impl Table {
         cell_reads::agrees(self, reads)
     }
 
-    /// The cells of these keys and, for each record among them, those of the successors after it and of the direct
-    /// parents from it on, to 200 members each. Of them all the first `most` are fetched, and one that comes twice
-    /// counts twice.
+    /// The cells of these keys and, for each record among them, those of the first 201 different LEIs of its levels of
+    /// successors, level by level and in byte order within a level, and of the direct parents from it on, to 200
+    /// members. Of them all the first `most` are fetched, and one that comes twice counts twice.
     pub fn fetch(&self, keys: &[CellKey], most: u32) -> Result<Fetched, NoMemory>
         ensures { IfOk result (λ fetched. HasJust (cells_in fetched) (cells_of (rows self.now.held))
             (take most (fetched_keys (cells_of (rows self.now.held)) keys.now))) }
