@@ -96,18 +96,14 @@ NAMED = re.compile(r"`([\w:]+)`: (—|`\w+`(?:, `\w+`)*)")
 
 
 class Call:
-    """An exported call: its name, its signature, whether its block or itself may wait, and its clauses."""
+    """An exported call: its name, the line that opens its block, and its signature, without its clauses."""
 
     def __init__(self, name, block, line):
-        self.name, self.block, self.signature, self.clauses, self.open = name, block, line, [], True
+        self.name, self.block, self.signature, self.is_open = name, block, line, True
 
     def add(self, line):
-        found = CLAUSE.match(line)
-        if found:
-            self.clauses.append([found[1], found[2], line])
-        elif self.clauses:
-            self.clauses[-1][2] += " " + line.strip()
-        else:
+        self.is_open = self.is_open and not CLAUSE.match(line)
+        if self.is_open:
             self.signature += " " + line.strip()
 
     @property
@@ -154,7 +150,7 @@ def calls_of(crate):
                     call = Call(f"{owner}::{name}" if inside else name, block if inside else "", line.strip())
                     yield call
                     call = None if line.endswith((";", "{")) and not CLAUSE.match(line) else call
-            elif call and (line.strip() in ("{", "{}") or line.startswith(("    {", ") -> "))  and line.endswith(" {")):
+            elif call and (line.strip() in ("{", "{}") or line.startswith(") -> ") and line.endswith(" {")):
                 call = None
             elif call:
                 call.add(line)
