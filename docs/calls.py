@@ -1,0 +1,272 @@
+#!/usr/bin/env python3
+"""Makes the tables of docs/CALLS.md from the sources and from the READMEs of the crates: of each call that a library crate
+exports what it may answer in the place of its result, what is left then, whether it may wait and whether it may want
+memory. What stands above the tables is written by hand, and each clause that it names has to be there.
+
+A call may wait if it has the bound `Wait`, or the block that it stands in. It may want memory if its answer can say so.
+What is left is said by the sentences that the README has for the clauses on a refusal; a call to which nothing is lent that
+it could change leaves everything.
+
+usage: docs/calls.py          writes docs/CALLS.md
+       docs/calls.py --check  writes nothing, and ends with status 1 if the page is stale
+Both end with status 1 if a clause that the page names isn't there.
+"""
+import pathlib
+import re
+import sys
+
+import readmes
+from readmes import CALL, CLAUSE, ROOT, block_name, crates, exports
+
+PAGE = ROOT / "docs" / "CALLS.md"
+MARK = "<!-- what follows is made by docs/calls.py -->"
+APART = {"example_sessions", "worked_examples", "register_tests", "leireg"}
+VARIANT = re.compile(r"^    (\w+)(?:\((.*)\)|(?: \{.*)?),?$")
+# The types of answers whose variants say how it went.
+OUTCOMES = ["Came", "Checked", "DeskEnd", "Ended", "HeadRead", "HttpRead", "JudgeStop", "Place", "Readied", "Seen", "Walked"]
+# What a call that may be refused leaves, of those to which something is lent: the clauses of its README that say so.
+LEFT = {
+    "lei_outside.Keeper::last": "same crash",
+    "lei_outside.Keeper::entries": "same crash",
+    "lei_outside.Keeper::cells": "same crash",
+    "lei_outside.Keeper::commit": "tables crash",
+    "lei_outside.Link::read": "bytes written write_count",
+    "lei_outside.Link::write": "bytes left read_count",
+    "lei_outside.send_all": "front failed left read_count",
+    "lei_outside.Sink::write": "bytes",
+    "lei_outside.write_all": "front failed",
+    "lei_outside.Source::read": "bytes",
+    "lei_outside.Door::next": "lines out back",
+    "lei_outside.Texts::push": "err",
+    "keeper_sqlite.Cause::note": "",
+    "keeper_sqlite.SqliteKeeper::into_connection": "—",
+    "request_loop.Answers::answer": "—",
+    "request_loop.Framing::front": "—",
+    "request_loop.Framing::last": "—",
+    "request_loop.Framing::send": "sent left read_count holds waiting",
+    "request_loop.Framing::send_refused": "sent left read_count holds",
+    "request_loop.serve": "serves read_fault write_fault",
+    "request_loop.Wire::read": "bytes written write_count",
+    "request_loop.Wire::write": "bytes left read_count",
+    "request_loop.send_piece": "sent left read_count",
+    "register_words.Refusal::number": "—",
+    "lei_records.FieldTexts::push": "err",
+    "lei_records.Fields::with": "",
+    "cell_reads.note_needs": "",
+    "fetched_cells.Fetched::copy_cell": "err",
+    "register_table.Table::apply": "err",
+    "upload_format.Reader::read": "—",
+    "upload_ledger.Ledger::reserve": "unchanged",
+    "copy_csv.Reader::part": "—",
+    "copy_csv.Reader::line": "read",
+    "copy_csv.read_row": "read",
+    "copy_csv.put_row": "",
+    "copy_csv.Ends::push": "kept",
+    "copy_csv.Texts::push": "kept",
+    "worker_pool.map_list": "steps",
+    "turnstile.Turnstile::open": "back",
+    "turnstile.Turnstile::enter": "turn",
+    "turnstile.Turnstile::meet": "first second",
+    "golden_shelf.Shelf::publish": "err steps",
+    "http_heads.put_head": "",
+    "register_state.Register::answer": "step kept crash",
+    "register_state.Register::settle": "step kept crash",
+    "register_state.Register::replay": "stays",
+    "lei_office.Office::open": "back back_crash",
+    "lei_office.Office::answer": "step kept crash",
+    "lei_office.Office::settle": "step kept crash",
+    "lei_hall.Hall::open": "back",
+    "lei_hall.Hall::ask": "—",
+    "lei_hall.Hall::look": "—",
+    "lei_hall.Hall::submit": "—",
+    "lei_hall.Hall::put": "—",
+    "lei_hall.Hall::meet": "first second",
+    "issuer_http.serve_connection": "serves",
+    "issuer_http.serve_caller": "serves",
+    "issuer_http.send_response": "sent left read_count",
+    "issuer_http.serve_alone": "serves",
+    "issuer_http.serve_with": "serves",
+    "register_demo.demo": "",
+    "leireg_run.run": "untouched unopened does read_fault write_fault damage_fault",
+    "leireg_serve.serve_desk": "—",
+    "leireg_serve.serve": "unserved unkept serves",
+    "leireg_commands.run_command": "unkept",
+}
+NAMED = re.compile(r"`([\w:]+)`: (—|`\w+`(?:, `\w+`)*)")
+
+
+class Call:
+    """An exported call: its name, the line that opens its block, and its signature, without its clauses."""
+
+    def __init__(self, name, block, line):
+        self.name, self.block, self.signature, self.is_open = name, block, line, True
+
+    def add(self, line):
+        self.is_open = self.is_open and not CLAUSE.match(line)
+        if self.is_open:
+            self.signature += " " + line.strip()
+
+    @property
+    def answer(self):
+        """The type of the answer, as it stands there."""
+        rest = self.signature[self.signature.index(f"fn {self.name.rsplit('::')[-1]}"):]
+        depth, start = 0, None
+        for at, letter in enumerate(rest):
+            depth += (letter in "(<[") - (letter in ")]" or letter == ">" and rest[at - 1] not in "-=")
+            if depth == 0 and rest[at:at + 2] == "->":
+                start = at + 2
+                break
+        return re.split(r" where\b| \{|;$", rest[start:])[0].strip() if start else ""
+
+    @property
+    def waits(self):
+        return bool(re.search(r"\bWait\b", self.block + self.signature))
+
+    @property
+    def lends(self):
+        """Whether something is lent or handed to it that it could change."""
+        return "&mut" in self.signature or bool(re.search(r"\((?:mut )?self\b", self.signature))
+
+
+def calls_of(crate):
+    """The calls that a crate exports, in the order of its sources."""
+    folder = ROOT / "crates" / crate / "src"
+    source = (folder / "lib.rt").read_text()
+    named, whole = exports(source)
+    types = set().union(*named.values()) if named else set()
+    for module in ["lib", *re.findall(r"^(?:pub )?mod (\w+);", source, re.M)]:
+        owner, is_trait, block, call = None, False, "", None
+        for line in (folder / f"{module}.rt").read_text().splitlines():
+            if re.match(r"impl\b|pub trait\b", line):
+                owner, is_trait, block, call = block_name(line), line.startswith("pub trait"), line, None
+            elif line == "}":
+                owner, block, call = None, "", None
+            elif found := CALL.match(line):
+                inside, public, name = found.groups()
+                holder = owner if inside else name
+                shown = holder and (module in whole or module == "lib" or holder in (types if inside else named.get(module, ())))
+                call = None
+                if shown and (public or (inside and is_trait)):
+                    call = Call(f"{owner}::{name}" if inside else name, block if inside else "", line.strip())
+                    yield call
+                    call = None if line.endswith((";", "{")) and not CLAUSE.match(line) else call
+            elif call and (line.strip() in ("{", "{}") or line.startswith(") -> ") and line.endswith(" {")):
+                call = None
+            elif call:
+                call.add(line)
+                if line.endswith(";"):
+                    call = None
+
+
+def variants():
+    """The variants of each enum of the crates, each with what it holds."""
+    found = {}
+    for path in ROOT.glob("crates/*/src/**/*.rt"):
+        for name, body in re.findall(r"^pub enum (\w+)(?:<.*>)? \{\n(.*?)^\}", path.read_text(), re.M | re.S):
+            found[name] = [match.groups(default="") for line in body.splitlines() if (match := VARIANT.match(line))]
+    return found
+
+
+def says_no_memory(kind, enums, seen=()):
+    """Whether a value of this type can say that memory ran out."""
+    for name in re.findall(r"\w+", kind):
+        if name in ("NoMemory", "AllocError"):
+            return True
+        if name in enums and name not in seen:
+            if any(variant == "NoMemory" or says_no_memory(held, enums, (*seen, name)) for variant, held in enums[name]):
+                return True
+    return False
+
+
+def refusals(call, enums):
+    """What a call may answer in the place of its result, but for want of memory."""
+    if re.match(r"Option<", call.answer):
+        return ["None"]
+    for name in re.findall(r"\w+", call.answer):
+        if name in OUTCOMES:
+            return [variant for variant, _ in enums[name] if variant != "NoMemory"]
+    if not (found := re.match(r"(?:\(.*, )?(?:io::)?Result<.*, ([^,]+?)>\)?$", call.answer)):
+        return []
+    kind = re.match(r"(?:\w+::)*(\w+)", found[1])
+    if kind[1] in enums:
+        return [variant for variant, _ in enums[kind[1]] if variant != "NoMemory"]
+    return [kind[1]] if kind[1] == "Failed" else []
+
+
+def wants_memory(call, enums):
+    """Whether the answer can say that memory ran out, be it by a status or by what was handed in, which comes back."""
+    return says_no_memory(call.answer, enums) or "u8" in call.answer and "alloc" in call.signature or bool(
+        re.search(r", (T|Office<K>|u8)>$", call.answer))
+
+
+def sentences(crate):
+    """The sentence of the README for each clause of each call."""
+    page = ROOT / "crates" / crate / "README.md"
+    rows = [readmes.ROW.match(line) for line in page.read_text().splitlines()]
+    return {(row[1], row[2]): row[3] for row in rows if row}
+
+
+def row_of(crate, call, enums, said):
+    """The row of a call that may answer otherwise, wait or want memory, or nothing."""
+    others, memory = refusals(call, enums), wants_memory(call, enums)
+    if not (others or memory or call.waits):
+        return None
+    named = LEFT.get(f"{crate}.{call.name}")
+    if named is None and call.lends and (others or memory):
+        raise SystemExit(f"docs/calls.py doesn't say what {call.name} of {crate} leaves")
+    if named:
+        left = " ".join(with_links(crate, said[call.name, name if name == "—" else f"`{name}`"]) for name in named.split())
+    else:
+        left = "no clause speaks of it" if call.lends else "nothing is lent that could change"
+    others = ", ".join(f"`{name}`" for name in others) or "—"
+    return f"| `{call.name}` | {others} | {left} | {'yes' if call.waits else 'no'} | {'yes' if memory else 'no'} |"
+
+
+def tables():
+    """The tables of all crates."""
+    enums, lines = variants(), []
+    for crate in crates():
+        calls = [] if crate in APART else list(calls_of(crate))
+        if not calls:
+            continue
+        said = sentences(crate)
+        rows = {call.name: row_of(crate, call, enums, said) for call in calls}
+        lines += ["", f"### [`{crate}`](../crates/{crate}/README.md)", ""]
+        if any(rows.values()):
+            lines += ["| Call | Other answers | What is left then | May wait | May want memory |", "|---|---|---|---|---|"]
+            lines += [row for row in rows.values() if row] + [""]
+        plain = [f"`{name}`" for name, row in rows.items() if not row]
+        if plain:
+            lines.append(f"These answer with a value whose type names no refusal and no want of memory, and wait for nobody: {', '.join(plain)}.")
+    return lines
+
+
+def with_links(crate, text):
+    """A sentence of a crate's README, with its links as they are from docs/."""
+    def moved(found):
+        target = found[1]
+        return f"](../crates/{target[3:]})" if target.startswith("../") else f"](../crates/{crate}/{target})"
+    return re.sub(r"\]\(([^)]+)\)", moved, text)
+
+
+def main():
+    if sys.argv[1:] not in ([], ["--check"]):
+        print(__doc__, file=sys.stderr)
+        return 2
+    page = PAGE.read_text()
+    above = page[:page.index(MARK)]
+    known = {row for crate in crates() for row in readmes.rows_of(crate)}
+    named = [(call, clause) for call, clauses in NAMED.findall(above) for clause in clauses.split(", ")]
+    faults = [f"docs/CALLS.md: {call} has no clause {clause}" for call, clause in named if (call, clause) not in known]
+    made = above + MARK + "\n" + "\n".join(tables()) + "\n"
+    if sys.argv[1:]:
+        faults += ["docs/CALLS.md is stale: docs/calls.py makes it anew"] * (made != page)
+    else:
+        PAGE.write_text(made)
+    for fault in faults:
+        print(fault, file=sys.stderr)
+    return 1 if faults else 0
+
+
+if __name__ == "__main__":
+    sys.exit(main())
