@@ -8,15 +8,17 @@ use Rattle.example_sessions.specs.Numbers.{number, code_of}
 use Rattle.example_sessions.specs.Texts.{filled}
 use Rattle.example_sessions.specs.Filling.{text_parts}
 use Rattle.example_sessions.specs.declared.run.Change.{Change}
+use Rattle.example_sessions.specs.declared.run.RulesChange.{RulesChange}
 use Rattle.example_sessions.specs.declared.texts.Part.{Part}
 use Rattle.example_sessions.specs.declared.texts.Named.{Named}
 
--- A run of the program: its words, what is changed of its store before it, the moments of its clock, the numbers of the
+-- A run of the program: its words, what is changed of its store before it, answers and rules, the moments of its clock, the numbers of the
 -- calls that its keeper refuses, the bytes that are sent, those of a second file, the bytes that must come back, and
 -- the status that it must end with.
 pub record RunState : Type 0 where
   pub words : List (List ℕ)
   pub changes : List Change
+  pub rules : List RulesChange
   pub moments : List ℤ
   pub refused : List ℕ
   pub sent : List ℕ
@@ -47,6 +49,7 @@ run_of_words (program ∷ words) = if bytes_eq program (codes "./leireg")
     then Some (record {
       words = map word_of words;
       changes = [];
+      rules = [];
       moments = [];
       refused = [];
       sent = [];
@@ -66,6 +69,12 @@ abbrev pub with_change : RunState → List ℕ → Option RunState
 with_change run rest = option_and_then (λ parts.
     option_map (λ n. record run { changes = run.changes ++ record { entry = n; answer = parts.1 } ∷ [] })
     (number 1000000 parts.0)) (cut 32 rest)
+
+-- `rules N R`: before the run, the entry of this number in the store is made one of these rules
+abbrev pub with_rules : RunState → List ℕ → Option RunState
+with_rules run rest = option_and_then (λ parts. option_and_then (λ n.
+    option_map (λ rules. record run { rules = run.rules ++ record { entry = n; rules = rules } ∷ [] })
+    (number 255 parts.1)) (number 1000000 parts.0)) (cut 32 rest)
 
 -- `at MOMENT`: the next moment of the clock
 abbrev pub with_moment : RunState → List ℕ → Option RunState
@@ -137,11 +146,12 @@ with_each known run range =
 -- a line of a run that has begun
 unfoldable pub with_line : List Named → RunState → List ℕ → List ℕ → Option RunState
 with_line known run word rest = if bytes_eq word (codes "changed") then with_change run rest
+    else (if bytes_eq word (codes "rules") then with_rules run rest
     else (if bytes_eq word (codes "at") then with_moment run rest
     else (if bytes_eq word (codes "refuses") then with_refused run rest
     else (if bytes_eq word (codes "status") then with_status run rest
     else (if bytes_eq word (codes "each") then with_each known run rest
-    else with_text known run word rest))))
+    else with_text known run word rest)))))
 
 -- ---- the lines of a session
 

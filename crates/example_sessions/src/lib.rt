@@ -16,7 +16,7 @@ mod texts;
 pub use came::Came;
 pub use document::{Document, LineFault};
 pub use fault::Fault;
-pub use run::{Change, Run};
+pub use run::{Change, RulesChange, Run};
 pub use session::Session;
 pub use telling::{Trial, is_wanted};
 pub use texts::Named;

@@ -24,6 +24,13 @@ pub struct Change {
     pub answer: Bytes,
 }
 
+/// What is changed of a store: the rules of the entry of this number.
+#[derive(Clone, Copy)]
+pub struct RulesChange {
+    pub entry: u32,
+    pub rules: u16,
+}
+
 // The numbers that a line is repeated for: from the first to the last, which is at most 1,000,000.
 #[derive(Drop)]
 struct NumberRange {
@@ -42,13 +49,14 @@ impl Model for NumberRange {
     ghost invariant = { λ r. r.last ≤ 1000000 };
 }
 
-/// A run of the program: its words, what is changed of its store before it, the moments of its clock, the numbers of
-/// the calls that its keeper refuses, the bytes that are sent, those of a second file, the bytes that must come back,
-/// and the status that it must end with.
+/// A run of the program: its words, what is changed of its store before it, answers and rules, the moments of its
+/// clock, the numbers of the calls that its keeper refuses, the bytes that are sent, those of a second file, the bytes
+/// that must come back, and the status that it must end with.
 #[derive(Drop)]
 pub struct Run {
     words: Vec<String>,
     changes: Vec<Change>,
+    rules: Vec<RulesChange>,
     moments: Vec<i64>,
     refused: Vec<u64>,
     sent: Vec<u8>,
@@ -67,6 +75,7 @@ impl Model for Run {
     ghost view = { λ r. record {
       words = map string_bytes r.words.items;
       changes = r.changes.items;
+      rules = r.rules.items;
       moments = r.moments.items;
       refused = r.refused.items;
       sent = r.sent.items;
@@ -93,6 +102,7 @@ impl Run {
         Ok(Run {
             words: words_of(alloc, words)?,
             changes: Vec::new(alloc),
+            rules: Vec::new(alloc),
             moments: Vec::new(alloc),
             refused: Vec::new(alloc),
             sent: Vec::new(alloc),
@@ -116,11 +126,18 @@ impl Run {
         Ok(ListClock::new(List::from(self.moments.as_slice().to_vec(alloc)?)))
     }
 
-    /// What is changed of its store before it.
+    /// Which answers of its store are changed before it.
     pub fn changes(&self) -> &[Change]
         ensures { result.now ≡ self.now.changes }
     {
         self.changes.as_slice()
+    }
+
+    /// Which rules of its store's entries are changed before it.
+    pub fn rules(&self) -> &[RulesChange]
+        ensures { result.now ≡ self.now.rules }
+    {
+        self.rules.as_slice()
     }
 
     /// Whether its keeper refuses a call.
@@ -189,6 +206,9 @@ impl Run {
         if word == "changed" {
             return self.with_change(alloc, rest);
         }
+        if word == "rules" {
+            return self.with_rules(rest);
+        }
         if word == "at" {
             return self.with_moment(rest);
         }
@@ -217,6 +237,25 @@ impl Run {
         self.changes.push(Change {
             entry: number,
             answer,
+        })?;
+        Ok(self)
+    }
+
+    fn with_rules(mut self, rest: &str) -> Result<Self, Fault>
+        ensures { Gives (λ run. run) result (Sessions.with_rules self rest.now) }
+    {
+        let Some((number, rules)) = cut(rest, ' ') else {
+            return Err(Fault::Form);
+        };
+        let Some(number) = number_of(number, 1_000_000) else {
+            return Err(Fault::Form);
+        };
+        let Some(rules) = number_of(rules, 255) else {
+            return Err(Fault::Form);
+        };
+        self.rules.push(RulesChange {
+            entry: number,
+            rules: rules as u16,
         })?;
         Ok(self)
     }

@@ -1,5 +1,5 @@
 //! Stores in memory, which the runs of a session leave to later ones.
-use example_sessions::{Change, Run};
+use example_sessions::{Change, RulesChange, Run};
 use lei_outside::{
     Bytes, KeepFault, Keeper, KeptCell, KeptEntry, List, MapKeeper, NoMemory, Text, may_be_kept,
 };
@@ -36,7 +36,7 @@ pub fn path_of<'a>(alloc: Global, run: &'a Run) -> Option<&'a str> {
 /// The keeper of a run: what the last run with its path left among these, with what is changed of it, or nothing.
 pub fn keeper_of(alloc: Global, stores: &[Store], run: &Run) -> Result<MapKeeper, KeepFault> {
     let store = store_of(alloc, stores, run);
-    let entries = entries_with(alloc, entries_in(store), run.changes())?;
+    let entries = entries_with(alloc, entries_in(store), run)?;
     let cells = copies(alloc, cells_in(store))?;
     if !may_be_kept(entries.as_slice(), cells.as_slice()) {
         return Err(KeepFault::Failed);
@@ -69,11 +69,13 @@ fn cells_in<'a>(store: Option<&'a Store>) -> &'a [KeptCell] {
 fn entries_with(
     alloc: Global,
     entries: &[KeptEntry],
-    changes: &[Change],
+    run: &Run,
 ) -> Result<List<KeptEntry>, NoMemory> {
     let mut list = Vec::new(alloc);
     for entry in entries {
-        list.push(changed(alloc, entry.copy(alloc)?, changes)?)?;
+        let mut entry = changed(alloc, entry.copy(alloc)?, run.changes())?;
+        entry.rules = rules_with(entry.seq, entry.rules, run.rules());
+        list.push(entry)?;
     }
     Ok(List::from(list))
 }
@@ -85,6 +87,16 @@ fn changed(alloc: Global, mut entry: KeptEntry, changes: &[Change]) -> Result<Ke
         }
     }
     Ok(entry)
+}
+
+// The rules of the entry of this number after these changes.
+fn rules_with(seq: u64, mut rules: u16, changes: &[RulesChange]) -> u16 {
+    for change in changes {
+        if u64::from(change.entry) == seq {
+            rules = change.rules;
+        }
+    }
+    rules
 }
 
 fn copies(alloc: Global, cells: &[KeptCell]) -> Result<List<KeptCell>, NoMemory> {
