@@ -22,10 +22,10 @@ use std::alloc::Global;
 use std::sync::Wait;
 use std::thread::Threads;
 
-/// Serves the register that a keeper has, if the words ask for it. Each desk has a worker, and all workers serve at once,
-/// each the lines of its door, one after the other, until the door is closed or fails. Returns the status to end with,
-/// and gives the keeper and the desks back, in order. It writes nothing but what goes to the lines. Uploads pass the
-/// gate before their turns. All memory that workers need beside what requests take is taken before they start.
+/// Serves the register that a keeper has, if the words ask for it. Each desk has a worker, and all workers serve at
+/// once, each the lines of its door, one after the other, until the door is closed or fails. Returns the status to end
+/// with, and gives the keeper and the desks back, in order. It writes nothing but what goes to the lines. Uploads pass
+/// the gate before their turns. All memory that workers need beside what requests take is taken before they start.
 pub fn serve<
     R: Threads + Wait + Sync,
     K: Keeper + Send,

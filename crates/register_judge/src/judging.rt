@@ -39,9 +39,9 @@ struct Progress {
 }
 
 /// Judges the items of an upload by the newest rules from left to right, each on what the view answers with the
-/// accepted items before it put. `room` is the number of further records that fit, `issuer` uploads them, and `today` is the day,
-/// counted from 1970-01-01. The outcome lists the cells that the items needed, as the view has them: on a table that
-/// agrees with them the items come to the same.
+/// accepted items before it put. `room` is the number of further records that fit, `issuer` uploads them, and `today`
+/// is the day, counted from 1970-01-01. The outcome lists the cells that the items needed, as the view has them: on a
+/// table that agrees with them the items come to the same.
 pub fn judge_all<V: View>(
     alloc: Global,
     view: &V,
@@ -78,8 +78,8 @@ pub fn judge_all<V: View>(
     judge_each(alloc, view, Some(Noted::new(alloc)), &sitting, items)
 }
 
-/// The same by the rules of a sitting, whose limit is the number of further records that fit. It lists no cells as read,
-/// which an upload that is judged in its turn doesn't need.
+/// The same by the rules of a sitting, whose limit is the number of further records that fit. It lists no cells as
+/// read, which an upload that is judged in its turn doesn't need.
 pub fn judge_by<V: View>(
     alloc: Global,
     view: &V,

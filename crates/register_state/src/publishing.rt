@@ -34,7 +34,8 @@ use upload_ledger::PUBLISH;
 use worker_pool::Steps;
 
 impl Books {
-    // Decides a publication of this number, whose entry has these rules and this moment if it is made, and publishes it on the shelf then.
+    // Decides a publication of this number, whose entry has these rules and this moment if it is made, and publishes it
+    // on the shelf then.
     pub fn publish<R: Threads + Sync>(
         &self,
         rt: &R,
