@@ -20,10 +20,11 @@ pub const OTHER: &str = "HWUPKR0MPOU8FGXBT394";
 pub const MOMENT: i64 = 1_736_553_600;
 
 // An upload of records in their compact form, with their names in byte order. Each has its name, its number at its
-// authority, its LEI and the manager of its record, its state, as `issued` or as `retired` with the LEI of its successor,
-// and what stands after it.
+// authority, its LEI and the manager of its record, its state, as `issued` or as `retired` with the LEI of its
+// successor, and what stands after it.
 macro_rules! upload {
-    ($([$name:literal $number:literal $lei:literal $manager:literal $entity:literal $successor:literal $status:literal $after:literal])*) => {
+    ($([$name:literal $number:literal $lei:literal $manager:literal
+        $entity:literal $successor:literal $status:literal $after:literal])*) => {
         concat!(
             r#"{"records":["#,
             $(

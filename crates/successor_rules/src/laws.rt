@@ -71,8 +71,8 @@ pub fn single_levels_are_chains()
         ≡ (if is_member bytes_eq (members 201 next first) own then Walked.Meets else walked next own first) }
 {}
 
-/// Of two views, of which the one answers as the other for the first 200 LEIs that the walk by levels reaches, unless it
-/// lacks the cell, the one reports what the other does, or the key of such a cell that it lacks.
+/// Of two views, of which the one answers as the other for the first 200 LEIs that the walk by levels reaches, unless
+/// it lacks the cell, the one reports what the other does, or the key of such a cell that it lacks.
 pub fn levels_go_by_what_is_reached()
     ensures { (answers more : SeenNexts) (key : Lei → CellKey) (own : Lei) (first : List Lei)
         → ((lei : Lei) → is_member bytes_eq (reached (known_nexts answers) own first) lei ≡ true

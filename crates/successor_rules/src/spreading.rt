@@ -59,8 +59,8 @@ pub fn spread_from<B: Branches>(branches: &B, own: &Lei, from: &Successors) -> W
     }
 }
 
-/// The different LEIs other than `own` that a walk by levels reaches, in the order of the levels. Of more than 200 it has
-/// the first 200, which show that there are more.
+/// The different LEIs other than `own` that a walk by levels reaches, in the order of the levels. Of more than 200 it
+/// has the first 200, so a list of 200 may not be all of them.
 pub fn reach<B: Branches>(branches: &B, own: &Lei, from: &Successors) -> Found
     ensures { result ≡ reached (known_nexts (B.answers branches.now)) own.now from.now }
 {
@@ -88,7 +88,8 @@ fn ended(is_met: bool) -> Walked
 // Adds the LEIs that are named there, and answers whether there was room for all of them.
 fn add_named(found: &mut Found, own: &Lei, seen: &Seen<Successors>) -> bool
     ensures added { OnTrue result (found.new ≡ found.old ++ each_once (own.now ∷ found.old) (held_nexts seen.now)) }
-    ensures full { OnFalse result (200 < length (found.old ++ each_once (own.now ∷ found.old) (held_nexts seen.now))) }
+    ensures full { OnFalse result
+        (200 < length (found.old ++ each_once (own.now ∷ found.old) (held_nexts seen.now))) }
     ensures cut { OnFalse result
         (found.new ≡ take 200 (found.old ++ each_once (own.now ∷ found.old) (held_nexts seen.now))) }
 {
