@@ -4,8 +4,6 @@ ghost use Rattle.std.specs.BTreeSet.{insert_key};
 ghost use Rattle.std.specs.Cmp.Lexicographic.{slice_cmp};
 ghost use Rattle.std.specs.List.{fold};
 ghost use Rattle.std.specs.Ordering.{nat_cmp};
-ghost use Rattle.std.specs.Set.{is_member};
-ghost use Rattle.std.specs.Str.{bytes_eq};
 ghost use Rattle.successor_rules.specs.Levels.{held_nexts, known_nexts};
 ghost use Rattle.fetched_cells.specs.Nearest;
 ghost use Rattle.fetched_cells.specs.Nearest.{new_ones, unmet};
@@ -15,7 +13,7 @@ use lei_outside::NoMemory;
 use lei_records::{Seen, Successors};
 use std::alloc::Global;
 use std::collections::BTreeSet;
-use successor_rules::Branches;
+use successor_rules::{Branches, is_among};
 
 // How many LEIs are looked for. So many levels have them if there are so many.
 const MOST_LEIS: usize = 201;
@@ -111,11 +109,4 @@ fn add(level: &mut BTreeSet<Lei>, lei: Lei) -> Result<(), NoMemory>
         Ok(_) => Ok(()),
         Err(_) => Err(NoMemory),
     }
-}
-
-// Whether the LEI is one of these.
-fn is_among(lei: &Lei, leis: &[Lei]) -> bool
-    ensures { result ≡ is_member bytes_eq leis.now lei.now }
-{
-    leis.iter().any(|other| lei == other)
 }

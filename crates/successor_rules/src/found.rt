@@ -56,7 +56,7 @@ impl Found {
         self.as_slice()[index]
     }
 
-    /// They as a slice.
+    /// All of them, as a slice.
     pub fn as_slice(&self) -> &[Lei]
         ensures { result.now ≡ self.now }
     {
@@ -112,8 +112,8 @@ impl Found {
     }
 }
 
-// Whether the LEI is one of these.
-pub(crate) fn is_among(lei: &Lei, leis: &[Lei]) -> bool
+/// Whether the LEI is one of these.
+pub fn is_among(lei: &Lei, leis: &[Lei]) -> bool
     ensures { result ≡ is_member bytes_eq leis.now lei.now }
 {
     leis.iter().any(|other| lei == other)

@@ -10,7 +10,7 @@ mod successors;
 mod walks;
 
 pub use branches::{SuccessorBranches, spread};
-pub use found::Found;
+pub use found::{Found, is_among};
 pub use laws::{
     agreeing_views_tell_the_levels, clear_levels_keep_ends, clear_ways_keep_ends,
     ending_walks_keep_ends, ending_ways_never_return, levels_go_by_what_is_reached,
