@@ -28,10 +28,10 @@ from operating import ROOT, Server
 from store import record
 
 TRACING = pathlib.Path("/sys/kernel/tracing")
-# The functions that are watched, by how their names begin: judging ahead, with the look at the office; waiting for a turn;
-# deciding an upload in its turn, and adding its entry; reading a body.
+# The functions that are watched, by how their names begin: putting a request to the hall; waiting for a turn; deciding an
+# upload in its turn, and adding its entry; reading a body.
 WATCHED = {
-    "plan": "lei_hall::hall::Hall::plan::<",
+    "put": "lei_hall::hall::Hall::put::<",
     "wait": "turnstile::turnstile::Turnstile::wait_turn::<",
     "decide": "register_state::books::Books::upload::<",
     "add": "register_state::books::Books::add::<",
@@ -110,12 +110,13 @@ def spans(noted):
 
 
 def looks(noted):
-    """How long the turn of each look took: from the end of the wait in a plan to the first item that is judged."""
-    plans, waited = set(), {}
+    """How long the turn of each look took: from the end of the first wait of an upload to the first item that is judged."""
+    fresh, waited = set(), {}
     for thread, event, kind, moment in noted:
-        if event == "plan":
-            (plans.add if kind == "begins" else plans.discard)(thread)
-        elif event == "wait" and kind == "returns" and thread in plans:
+        if event == "put" and kind == "begins":
+            fresh.add(thread)
+        elif event == "wait" and kind == "returns" and thread in fresh:
+            fresh.discard(thread)
             waited[thread] = moment
         elif event == "note" and thread in waited:
             yield moment - waited.pop(thread)

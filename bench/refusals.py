@@ -230,6 +230,8 @@ def damaged_store(board, program, folder):
     with contextlib.closing(sqlite3.connect(store)) as database:
         for entry, answer in second.changed.items():
             database.execute("UPDATE entry SET answer = ? WHERE seq = ?", (answer.encode(), entry))
+        for entry, rules in second.rules.items():
+            database.execute("UPDATE entry SET rules = ? WHERE seq = ?", (rules, entry))
         database.commit()
     outcomes_at_once(board, [program, "lines", "--store", store], second.expected, second.status, DAMAGED[1])
 

@@ -15,13 +15,14 @@ NAME = re.compile(r"<([^<>]+)>")
 @dataclasses.dataclass
 class Run:
     """A run of the program: its words, the moments of its clock in seconds, the lines that are sent, the bytes that come
-    back, the status, and the answers that are changed in its store before it, by the number of the entry."""
+    back, the status, and the answers and the rules that are changed in its store before it, by the number of the entry."""
     words: list[str]
     moments: list[int] = dataclasses.field(default_factory=list)
     sent: bytes = b""
     expected: bytes = b""
     status: int = 0
     changed: dict[int, str] = dataclasses.field(default_factory=dict)
+    rules: dict[int, int] = dataclasses.field(default_factory=dict)
 
     def moment(self, place):
         """The moment of the request at a place, counted from 0."""
@@ -64,6 +65,9 @@ def add_line(runs, line, known):
     elif word == "changed":
         entry, answer = rest.split(" ", 1)
         runs[-1].changed[int(entry)] = answer
+    elif word == "rules":
+        entry, rules = rest.split(" ")
+        runs[-1].rules[int(entry)] = int(rules)
     elif word in (">", "<"):
         text = filled(rest.removesuffix("\\"), known).encode() + (b"" if rest.endswith("\\") else b"\n")
         if word == ">":

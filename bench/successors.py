@@ -6,7 +6,6 @@ and its store is opened again. If one successor is named, it is opened once more
 Python's sqlite3. Each time is the least of three runs, less that of the same without the upload."""
 import contextlib
 import pathlib
-import shutil
 import sqlite3
 import subprocess
 import tempfile
@@ -29,20 +28,33 @@ def retired(number, most):
     return {**record(number), **RETIRED, SUCCESSORS: " ".join(map(code, before))}
 
 
-def run(words, lines, accepted):
-    """The seconds of a run over these lines, whose replies accept so many items."""
+def answer(words, lines, accepted):
+    """A run over these lines, whose replies accept so many items."""
+    with tempfile.TemporaryFile() as sent:
+        sent.write(lines)
+        sent.seek(0)
+        replies = subprocess.run([PROGRAM, "lines", *words], stdin=sent, stdout=subprocess.PIPE, check=True).stdout
+    assert replies.count(b"ACCEPTED") == accepted, replies[-200:]
+    return replies
+
+
+def run(lines, accepted):
+    """The seconds of such a run without a store."""
+    return least(lambda: answer([], lines, accepted))
+
+
+def opening(store, entries):
+    """The seconds in which a store of so many entries is opened."""
     def once():
-        with tempfile.TemporaryFile() as sent:
-            sent.write(lines)
-            sent.seek(0)
-            replies = subprocess.run([PROGRAM, "lines", *words], stdin=sent, stdout=subprocess.PIPE, check=True).stdout
-        assert replies.count(b"ACCEPTED") == accepted, replies[-200:]
+        assert b'"entries":%d,' % entries in answer(["--store", store], b"STATUS\n", 0)
 
     return least(once)
 
 
-def opening(store):
-    return run(["--store", store], b"STATUS\n", 0)
+def copy(store, to):
+    """Copies a store, with what stands in its log alone."""
+    with contextlib.closing(sqlite3.connect(store)) as source, contextlib.closing(sqlite3.connect(to)) as target:
+        source.backup(target)
 
 
 def entries_get_rules_1(store):
@@ -56,22 +68,22 @@ def main():
     held = f"ACCREDIT {OFFICE}\n".encode()
     for number, numbers in enumerate((range(half), range(half, RECORDS)), 1):
         held += f"UPLOAD {OFFICE} {number} ".encode() + compact({"records": list(map(record, numbers))}) + b"\n"
-    taken = run([], held, RECORDS)
+    taken = run(held, RECORDS)
     with tempfile.TemporaryDirectory() as folder:
         plain = pathlib.Path(folder, "plain.db")
-        subprocess.run([PROGRAM, "lines", "--store", plain], input=held, stdout=subprocess.DEVNULL, check=True)
-        opened = opening(plain)
+        answer(["--store", plain], held, RECORDS)
+        opened = opening(plain, 3)
         for most in (1, 5):
             body = compact({"records": [retired(number, most) for number in range(RECORDS)]})
             lines = f"UPLOAD {OFFICE} 3 ".encode() + body + b"\n"
-            print(f"at most {most}: taken by rules 2     {run([], held + lines, 2 * RECORDS) - taken:8.3f} s")
+            print(f"at most {most}: taken by rules 2     {run(held + lines, 2 * RECORDS) - taken:8.3f} s")
             store = pathlib.Path(folder, f"{most}.db")
-            shutil.copy(plain, store)
-            subprocess.run([PROGRAM, "lines", "--store", store], input=lines, stdout=subprocess.DEVNULL, check=True)
-            print(f"at most {most}: replayed by rules 2  {opening(store) - opened:8.3f} s")
+            copy(plain, store)
+            answer(["--store", store], lines, RECORDS)
+            print(f"at most {most}: replayed by rules 2  {opening(store, 4) - opened:8.3f} s")
             if most == 1:
                 entries_get_rules_1(store)
-                print(f"at most {most}: replayed by rules 1  {opening(store) - opened:8.3f} s")
+                print(f"at most {most}: replayed by rules 1  {opening(store, 4) - opened:8.3f} s")
 
 
 if __name__ == "__main__":
