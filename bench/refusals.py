@@ -1,7 +1,8 @@
 #!/usr/bin/env python3
 """Refuses the requests for memory of some sessions, each in turn, and says what the built program answers: each reply is
 the one without a refusal or `500 NO_MEMORY`, and what follows is as if the refused line hadn't come; if that line is sent
-again, all others are answered as ever. A program that can't go on ends with status 6, after a front of its output.
+again, all others are answered as ever. A program that can't go on ends with status 6, after a front of its output, or with
+status 5 if it couldn't open the file of its store.
 
 The sessions are worked examples: a realistic record, its copy, two publications with their copies and deltas, a copy and
 its delta by `apply`, a register without items, and a store with a changed answer. Requests over HTTP stand beside them. At
@@ -33,7 +34,7 @@ from operating import ROOT
 from sessions import runs_of, take_reply
 
 NO_MEMORY = (500, b"NO_MEMORY")
-SIX = 6
+FIVE, SIX = 5, 6
 SESSIONS = [
     ("uploads.md", "A realistic record, and the same upload again"),
     ("publications.md", "A record is published in CSV"),
@@ -201,9 +202,9 @@ def session(board, program, file, title):
 # ---- what is run at once
 
 
-def outcomes_at_once(board, words, output, status, what):
+def outcomes_at_once(board, words, output, status, what, has_store=False):
     """Runs words with each request for memory refused. Either all is as ever, or the program ends with status 6 after a
-    front of its output."""
+    front of its output, or with status 5 before any, if the file of its store couldn't be opened."""
     def run(refused):
         process = board.start(words, refused, stdin=subprocess.DEVNULL, stdout=subprocess.PIPE, stderr=subprocess.DEVNULL)
         return process.communicate()[0], process.returncode
@@ -216,6 +217,8 @@ def outcomes_at_once(board, words, output, status, what):
             outcomes["change nothing"] += 1
         elif came[1] == SIX and output.startswith(came[0]):
             outcomes["end the program"] += 1
+        elif has_store and came == (b"", FIVE):
+            outcomes["leave the store unopened"] += 1
         else:
             wrong.append((refused, came))
     tell(what, asked, outcomes, wrong[:3])
@@ -233,7 +236,8 @@ def damaged_store(board, program, folder):
         for entry, rules in second.rules.items():
             database.execute("UPDATE entry SET rules = ? WHERE seq = ?", (rules, entry))
         database.commit()
-    outcomes_at_once(board, [program, "lines", "--store", store], second.expected, second.status, DAMAGED[1])
+    outcomes_at_once(board, [program, "lines", "--store", store], second.expected, second.status, DAMAGED[1],
+                     has_store=True)
 
 
 def patched_copy(board, program, folder):

@@ -2,17 +2,19 @@
 """Measures uploads of 3,800 retired records that name successors, which is about what fits in a body. The records make 19
 groups of 200. If a record names one, it is the record before it in its group, and if it names up to five, they are the up
 to five records before it: in both cases all records before it follow it, 100 of them on the average. An upload is taken,
-and its store is opened again. If one successor is named, it is opened once more after its entries got the rules 1 by
-Python's sqlite3. Each time is the least of three runs, less that of the same without the upload."""
+and its store is opened again, by rules 2, and by rules 1 if one successor is named: Python's sqlite3 writes the rules of
+each entry before, in a copy of the store. Each time is that of one processor, the least of nine runs, less that of the same
+without the upload."""
 import contextlib
 import pathlib
+import resource
 import sqlite3
 import subprocess
 import tempfile
 
 from relations import OFFICE, PROGRAM, ROOT, code, compact, record
-from timing import least
 
+RUNS = 9
 RECORDS = 3800
 GROUP = 200
 SUCCESSORS = "Entity.SuccessorEntity.1.SuccessorLEI"
@@ -38,6 +40,17 @@ def answer(words, lines, accepted):
     return replies
 
 
+def least(run):
+    """The least time of one processor that the programs of a run take, in seconds."""
+    times = []
+    for _ in range(RUNS):
+        before = resource.getrusage(resource.RUSAGE_CHILDREN)
+        run()
+        after = resource.getrusage(resource.RUSAGE_CHILDREN)
+        times.append(after.ru_utime + after.ru_stime - before.ru_utime - before.ru_stime)
+    return min(times)
+
+
 def run(lines, accepted):
     """The seconds of such a run without a store."""
     return least(lambda: answer([], lines, accepted))
@@ -57,9 +70,13 @@ def copy(store, to):
         source.backup(target)
 
 
-def entries_get_rules_1(store):
-    with contextlib.closing(sqlite3.connect(store)) as database, database:
-        database.execute("UPDATE entry SET rules = 1")
+def opening_by(rules, store, folder, entries):
+    """The same of a copy of the store whose entries have these rules."""
+    other = folder / f"{store.stem} by {rules}.db"
+    copy(store, other)
+    with contextlib.closing(sqlite3.connect(other)) as database, database:
+        database.execute("UPDATE entry SET rules = ?", (rules,))
+    return opening(other, entries)
 
 
 def main():
@@ -69,21 +86,20 @@ def main():
     for number, numbers in enumerate((range(half), range(half, RECORDS)), 1):
         held += f"UPLOAD {OFFICE} {number} ".encode() + compact({"records": list(map(record, numbers))}) + b"\n"
     taken = run(held, RECORDS)
-    with tempfile.TemporaryDirectory() as folder:
-        plain = pathlib.Path(folder, "plain.db")
+    with tempfile.TemporaryDirectory() as name:
+        folder = pathlib.Path(name)
+        plain = folder / "plain.db"
         answer(["--store", plain], held, RECORDS)
-        opened = opening(plain, 3)
         for most in (1, 5):
             body = compact({"records": [retired(number, most) for number in range(RECORDS)]})
             lines = f"UPLOAD {OFFICE} 3 ".encode() + body + b"\n"
             print(f"at most {most}: taken by rules 2     {run(held + lines, 2 * RECORDS) - taken:8.3f} s")
-            store = pathlib.Path(folder, f"{most}.db")
+            store = folder / f"{most}.db"
             copy(plain, store)
             answer(["--store", store], lines, RECORDS)
-            print(f"at most {most}: replayed by rules 2  {opening(store, 4) - opened:8.3f} s")
-            if most == 1:
-                entries_get_rules_1(store)
-                print(f"at most {most}: replayed by rules 1  {opening(store, 4) - opened:8.3f} s")
+            for rules in (1, 2) if most == 1 else (2,):
+                took = opening_by(rules, store, folder, 4) - opening_by(rules, plain, folder, 3)
+                print(f"at most {most}: replayed by rules {rules}  {took:8.3f} s")
 
 
 if __name__ == "__main__":
