@@ -403,7 +403,8 @@ pub fn bytes_of(alloc: Global, text: &str) -> Result<Bytes, NoMemory> {
     Ok(Bytes::from(bytes))
 }
 
-fn none(alloc: Global) -> List<u64> {
+/// The list of no number.
+pub fn none(alloc: Global) -> List<u64> {
     List::from(Vec::new(alloc))
 }
 
@@ -417,17 +418,17 @@ pub fn link_of(alloc: Global, sent: Bytes, most: usize) -> ByteLink
     )
 }
 
-// Who serves a connection.
+/// Who serves a connection.
 #[derive(Clone, Copy)]
-enum Server {
-    // An office alone.
+pub enum Server {
+    /// An office alone.
     Office,
-    // The one caller of a hall.
+    /// The one caller of a hall.
     Hall,
 }
 
-// How serving a link over an office that has nothing ends.
-fn end_of<R: Threads + Wait + Sync>(
+/// How serving a link over an office that has nothing ends.
+pub fn end_of<R: Threads + Wait + Sync>(
     rt: &R,
     alloc: Global,
     server: Server,

@@ -6,11 +6,15 @@
 mod ahead;
 pub mod batches;
 #[cfg(test)]
+mod connections;
+#[cfg(test)]
 mod copies;
 #[cfg(test)]
 mod devices;
 #[cfg(test)]
 mod echoes;
+#[cfg(test)]
+mod exchanges;
 #[cfg(test)]
 mod fakes;
 #[cfg(test)]

@@ -1,7 +1,8 @@
-//! Runs of the program that fail: each read and each write in turn, and an input that doesn't end.
+//! Runs of the program over a source or a sink that fails, at each of its calls in turn, and over an endless input.
+use crate::exchanges::{Exchange, MOST, all_sent, only, reads_of, replies_within, whole_replies};
+use crate::limits::MOMENT;
 use lei_outside::{
-    ByteSink, ByteSource, Bytes, Failed, List, ListClock, NoMemory, Sink, Source, SureKeeper,
-    SureSink, SureSource,
+    ByteSink, ByteSource, Clock, Failed, NoMemory, Sink, Source, SureKeeper, SureSink, SureSource,
 };
 use leireg_run::{Untold, no_file, run};
 use register_words::ExitStatus;
@@ -9,15 +10,88 @@ use std::alloc::Global;
 use std::test::Fail;
 use std::thread::Threads;
 
-const LINES: &str = "ACCREDIT 506700GE1G29325QX363
-SHOW 00000000000000000195
-ACCREDIT 5493001KJTIIGC8Y1R12
-";
+// The upload of a realistic record.
+const UPLOAD: &str = concat!(
+    r#"UPLOAD 506700GE1G29325QX363 1 {"records":[{"Entity.EntityCategory":"GENERAL","#,
+    r#""Entity.EntityCreationDate":"1998-03-02T00:00:00+01:00","Entity.EntityStatus":"ACTIVE","#,
+    r#""Entity.HeadquartersAddress.City":"Lyon","Entity.HeadquartersAddress.Country":"FR","#,
+    r#""Entity.HeadquartersAddress.FirstAddressLine":"3 rue de l'Arbre","#,
+    r#""Entity.HeadquartersAddress.PostalCode":"69001","Entity.LegalAddress.City":"Lyon","#,
+    r#""Entity.LegalAddress.Country":"FR","Entity.LegalAddress.FirstAddressLine":"3 rue de l'Arbre","#,
+    r#""Entity.LegalAddress.PostalCode":"69001","Entity.LegalAddress.Region":"FR-ARA","#,
+    r#""Entity.LegalForm.EntityLegalFormCode":"AB12","Entity.LegalJurisdiction":"FR","#,
+    r#""Entity.LegalName":"Société \"Bleue\", S.A.","Entity.LegalName.xmllang":"fr","#,
+    r#""Entity.RegistrationAuthority.RegistrationAuthorityEntityID":"400000001","#,
+    r#""Entity.RegistrationAuthority.RegistrationAuthorityID":"RA000001","LEI":"00000000000000000195","#,
+    r#""Registration.InitialRegistrationDate":"2025-01-10T10:00:00.250+01:00","#,
+    r#""Registration.LastUpdateDate":"2025-01-10T10:00:00.250+01:00","#,
+    r#""Registration.ManagingLOU":"506700GE1G29325QX363","#,
+    r#""Registration.NextRenewalDate":"2026-01-10T09:00:00Z","Registration.RegistrationStatus":"ISSUED","#,
+    r#""Registration.ValidationSources":"FULLY_CORROBORATED"}]}&"#,
+);
 
-const REPLIES: &str = r#"200 {"entry":1,"issuer":"506700GE1G29325QX363"}
-404 LEI_UNKNOWN
-200 {"entry":2,"issuer":"5493001KJTIIGC8Y1R12"}
-"#;
+// The golden copy that has it.
+const COPY: &str = concat!(
+    r#"200 1266&"LEI","Entity.LegalName","Entity.LegalName.xmllang","Entity.LegalAddress.FirstAddressLine","#,
+    r#""Entity.LegalAddress.City","Entity.LegalAddress.Region","Entity.LegalAddress.Country","#,
+    r#""Entity.LegalAddress.PostalCode","Entity.HeadquartersAddress.FirstAddressLine","#,
+    r#""Entity.HeadquartersAddress.City","Entity.HeadquartersAddress.Region","#,
+    r#""Entity.HeadquartersAddress.Country","Entity.HeadquartersAddress.PostalCode","#,
+    r#""Entity.RegistrationAuthority.RegistrationAuthorityID","#,
+    r#""Entity.RegistrationAuthority.RegistrationAuthorityEntityID","Entity.LegalJurisdiction","#,
+    r#""Entity.EntityCategory","Entity.LegalForm.EntityLegalFormCode","Entity.EntityStatus","#,
+    r#""Entity.EntityCreationDate","Entity.SuccessorEntity.1.SuccessorLEI","#,
+    r#""Registration.InitialRegistrationDate","Registration.LastUpdateDate","#,
+    r#""Registration.RegistrationStatus","Registration.NextRenewalDate","Registration.ManagingLOU","#,
+    r#""Registration.ValidationSources","Register.TransferTo"&"00000000000000000195","Société ""Bleue"","#,
+    r#" S.A.","fr","3 rue de l'Arbre","Lyon","FR-ARA","FR","69001","3 rue de l'Arbre","Lyon","","FR","#,
+    r#""69001","RA000001","400000001","FR","GENERAL","AB12","ACTIVE","1998-03-01T23:00:00Z","","#,
+    r#""2025-01-10T09:00:00Z","2025-01-10T09:00:00Z","ISSUED","2026-01-10T09:00:00Z","506700GE1G29325QX363","#,
+    r#""FULLY_CORROBORATED",""&&"#,
+);
+
+// A realistic session, line by line.
+const LINES: [Exchange; 6] = [
+    (
+        "ACCREDIT 506700GE1G29325QX363&",
+        "200 {\"entry\":1,\"issuer\":\"506700GE1G29325QX363\"}&",
+    ),
+    (UPLOAD, TAKEN),
+    (UPLOAD, TAKEN),
+    (
+        "STATUS&",
+        concat!(
+            r#"200 {"entries":2,"exceptions":0,"issuers":1,"keptBytes":1197,"#,
+            r#""publications":0,"records":1,"relationships":0}&"#
+        ),
+    ),
+    (
+        "PUBLISH 1&",
+        r#"201 {"contentDate":"2025-01-11T00:00:00Z","entry":3,"lei":1,"publication":1,"repex":0,"rr":0}&"#,
+    ),
+    ("COPY lei csv&", COPY),
+];
+
+// What is answered to the upload.
+const TAKEN: &str =
+    r#"200 {"entry":2,"issuer":"506700GE1G29325QX363","items":["ACCEPTED"],"number":1}&"#;
+
+// A clock that stands still, and counts how often it was asked. It tells nothing of its moments.
+#[derive(Drop)]
+struct Asked {
+    calls: u64,
+}
+
+impl Clock for Asked {
+    ghost use Rattle.std.specs.Prelude.{None};
+
+    ghost given = { λ _. None };
+
+    fn now(&mut self) -> i64 {
+        self.calls = self.calls.saturating_add(1);
+        MOMENT
+    }
+}
 
 /// The words of the command that answers lines.
 pub fn words(alloc: Global) -> Result<Vec<String>, NoMemory> {
@@ -26,8 +100,7 @@ pub fn words(alloc: Global) -> Result<Vec<String>, NoMemory> {
     Ok(words)
 }
 
-// The status of a run with these words, whose clock gives the same moment always, and how often the clock was
-// asked.
+// The status of a run with these words, and how many moments it took.
 fn status_of<R: Threads + Sync, S: Source, W: Sink>(
     rt: &R,
     alloc: Global,
@@ -35,7 +108,7 @@ fn status_of<R: Threads + Sync, S: Source, W: Sink>(
     source: &mut S,
     sink: &mut W,
 ) -> (u8, u64) {
-    let mut clock = ListClock::new(List::from(Vec::new(alloc)));
+    let mut clock = Asked { calls: 0 };
     let mut second = no_file(alloc);
     let (status, _) = run(
         rt,
@@ -48,85 +121,75 @@ fn status_of<R: Threads + Sync, S: Source, W: Sink>(
         &mut clock,
         &mut Untold,
     );
-    (status, clock.calls())
+    (status, clock.calls)
 }
 
-// The list of one number.
-fn only(alloc: Global, number: u64) -> Result<List<u64>, NoMemory> {
-    let mut numbers = Vec::new(alloc);
-    numbers.push(number)?;
-    Ok(List::from(numbers))
-}
-
-fn line_ends(bytes: &[u8]) -> usize {
-    bytes.iter().filter(|byte| **byte == b'\n').count()
-}
-
-// The lines, of which the read of this number fails.
-fn failing_source(alloc: Global, call: u64) -> Result<ByteSource, NoMemory> {
-    let bytes = Bytes::copy_of(alloc, LINES.as_bytes())?;
-    Ok(ByteSource::new(bytes, 20, only(alloc, call)?))
-}
-
-// Where the read of this number fails, the lines that were read before it are answered.
-fn ends_at_read<R: Threads + Sync>(rt: &R, alloc: Global, words: &[String], call: u64) -> bool {
-    let Ok(mut source) = failing_source(alloc, call) else {
-        return false;
-    };
+// The status of a run whose read of this number fails, if just the lines that were whole by then were answered.
+fn status_at_read<R: Threads + Sync>(
+    rt: &R,
+    alloc: Global,
+    words: &[String],
+    call: u64,
+) -> Result<Option<u8>, NoMemory> {
+    let sent = all_sent(alloc, &LINES)?;
+    let length = sent.len();
+    let mut source = ByteSource::new(sent, MOST, only(alloc, call)?);
     let mut sink = SureSink::new(alloc, usize::MAX);
     let (status, _) = status_of(rt, alloc, words, &mut source, &mut sink);
-    let read = LINES.len().saturating_sub(source.left().len());
-    status == ExitStatus::ReadFault.number()
-        && line_ends(sink.written()) == line_ends(&LINES.as_bytes()[..read])
-        && REPLIES.as_bytes().starts_with(sink.written())
+    let replies = replies_within(alloc, &LINES, length.saturating_sub(source.left().len()))?;
+    Ok((sink.written() == replies.as_slice()).then_some(status))
 }
 
 #[test]
-fn ends_where_a_read_fails(rt: HostRuntime) -> Result<(), Fail> {
+fn a_run_ends_at_the_read_that_fails(rt: HostRuntime) -> Result<(), Fail> {
     let words = words(rt.alloc())?;
-    for call in 1..=6 {
+    let reads = reads_of(all_sent(rt.alloc(), &LINES)?.len(), MOST);
+    for call in 1..reads.saturating_add(1) {
+        let status = status_at_read(&rt, rt.alloc(), &words, call)?;
         assert!(rt;
-            ends_at_read(&rt, rt.alloc(), words.as_slice(), call),
+            status == Some(ExitStatus::ReadFault.number()),
             "read {call}"
         );
     }
+    let status = status_at_read(&rt, rt.alloc(), &words, reads.saturating_add(1))?;
+    assert!(rt; status == Some(ExitStatus::Ok.number()));
     Ok(())
 }
 
-// The lines in one read, and a sink whose write of this number fails.
-fn failing_sink(alloc: Global, call: u64) -> Result<(SureSource, ByteSink), NoMemory> {
-    let bytes = Bytes::copy_of(alloc, LINES.as_bytes())?;
-    let calls = only(alloc, call)?;
-    Ok((
-        SureSource::new(bytes, 65_536),
-        ByteSink::new(alloc, 50, calls),
-    ))
-}
-
-// Where the write of this number fails, the replies before it are written, and no line behind its own is put
-// to the office: each asks for a moment.
-fn ends_at_write<R: Threads + Sync>(rt: &R, alloc: Global, words: &[String], call: u64) -> bool {
-    let Ok((mut source, mut sink)) = failing_sink(alloc, call) else {
-        return false;
-    };
+// The status of a run whose write of this number fails, if a front of the replies was written, and no line was put to
+// the office after the one whose reply isn't whole.
+fn status_at_write<R: Threads + Sync>(
+    rt: &R,
+    alloc: Global,
+    words: &[String],
+    call: u64,
+) -> Result<Option<u8>, NoMemory> {
+    let mut source = SureSource::new(all_sent(alloc, &LINES)?, 65_536);
+    let mut sink = ByteSink::new(alloc, MOST, only(alloc, call)?);
     let (status, moments) = status_of(rt, alloc, words, &mut source, &mut sink);
-    status == ExitStatus::WriteFault.number()
-        && sink.faults() == 1
-        && moments == call
-        && line_ends(sink.written()) as u64 == call.saturating_sub(1)
-        && REPLIES.as_bytes().starts_with(sink.written())
+    let written = sink.written();
+    let replies = replies_within(alloc, &LINES, usize::MAX)?;
+    let whole = whole_replies(alloc, &LINES, written.len())?;
+    let most = LINES.len() as u64;
+    let is_right = replies.starts_with(written) && moments == whole.saturating_add(1).min(most);
+    Ok(is_right.then_some(status))
 }
 
 #[test]
-fn ends_where_a_write_fails(rt: HostRuntime) -> Result<(), Fail> {
+fn a_run_ends_at_the_write_that_fails(rt: HostRuntime) -> Result<(), Fail> {
     let words = words(rt.alloc())?;
-    for call in 1..=3 {
+    for call in 1..10_000 {
+        let status = status_at_write(&rt, rt.alloc(), &words, call)?;
+        if status == Some(ExitStatus::Ok.number()) {
+            assert!(rt; call > 200, "{call}");
+            return Ok(());
+        }
         assert!(rt;
-            ends_at_write(&rt, rt.alloc(), words.as_slice(), call),
+            status == Some(ExitStatus::WriteFault.number()),
             "write {call}"
         );
     }
-    Ok(())
+    Err("a run without a failure")?
 }
 
 // A source of one byte without end. It tells nothing of its bytes.

@@ -5,7 +5,7 @@ use crate::http::{CONNECTIONS, bytes_of, link_of, parts_of};
 use crate::sockets::listen;
 use crate::stores::Still;
 use crate::words::words_of;
-use lei_outside::{Bytes, Door, List, ListDoor, NoMemory, OpenGate, SureKeeper};
+use lei_outside::{ByteLink, Bytes, Came, Door, List, ListDoor, NoMemory, OpenGate, SureKeeper};
 use leireg_serve::{Desk, serve, server_of};
 use leireg_sockets::{Deadlines, Operator, TcpDoor};
 use program_words::WantedRun;
@@ -64,9 +64,9 @@ fn text_at(texts: &[String], place: u32) -> &str {
     }
 }
 
-// Whether this came back of the one link of a desk.
-fn has_come(desk: &Desk<ListDoor, Still>, wanted: &[u8]) -> bool {
-    match desk.door.came_back() {
+// Whether this came back of the one link of a door.
+fn has_come(door: &ListDoor, wanted: &[u8]) -> bool {
+    match door.came_back() {
         [link] => link.sink().written() == wanted,
         _ => false,
     }
@@ -93,7 +93,9 @@ fn is_done<R: Threads + Wait + Sync>(
     let (status, _, desks) = serve(rt, alloc, words, SureKeeper::new(alloc), desks, &OpenGate);
     status == ExitStatus::Ok.number()
         && desks.len() == workers
-        && desks.iter().all(|desk| has_come(desk, wanted.as_slice()))
+        && desks
+            .iter()
+            .all(|desk| has_come(&desk.door, wanted.as_slice()))
 }
 
 #[test]
@@ -106,6 +108,98 @@ fn a_server_answers_the_connections_of_its_doors(rt: HostRuntime) -> Result<(), 
     let sent = [String::from_str(rt.alloc(), sent)?];
     assert!(rt; is_done(&rt, rt.alloc(), &one, 1, &sent, wanted));
     assert!(rt; is_done(&rt, rt.alloc(), &two, 2, &sent, wanted));
+    Ok(())
+}
+
+// A door with the links of another, whose first call fails if it is broken. It tells nothing of its lines.
+#[derive(Drop)]
+struct Shaky {
+    door: ListDoor,
+    is_broken: bool,
+    faults: u64,
+}
+
+impl Door for Shaky {
+    ghost use Rattle.std.specs.Prelude.{None};
+
+    type Line = ByteLink;
+
+    ghost to_come = { λ _. None };
+
+    ghost came_back = { λ _. None };
+
+    ghost out = { λ d. d.door.out };
+
+    ghost faults = { λ d. d.faults };
+
+    fn next(&mut self) -> Came<ByteLink> {
+        if self.is_broken {
+            self.faults = self.faults.saturating_add(1);
+            return Came::Failed;
+        }
+        self.door.next()
+    }
+
+    fn back(&mut self, line: ByteLink) {
+        self.door.back(line);
+    }
+}
+
+// A desk whose door may be broken, and else is one through which a link comes that sends this text.
+fn shaky_desk(alloc: Global, is_broken: bool, sent: &str) -> Result<Desk<Shaky, Still>, NoMemory>
+    ensures { IfOk result (λ desk. desk.door.door.out ≡ false) }
+{
+    let door = door_of(alloc, bytes_of(alloc, sent)?)?;
+    Ok(desk_of(Shaky {
+        door,
+        is_broken,
+        faults: 0,
+    }))
+}
+
+// Two desks of which the first one's door is broken.
+fn shaky_desks(alloc: Global, sent: &str) -> Result<Vec<Desk<Shaky, Still>>, NoMemory>
+    ensures count { IfOk result (λ desks. length desks.items ≡ 2) }
+    ensures doors { IfOk result (λ desks. All (λ desk. desk.door.door.out ≡ false) desks.items) }
+{
+    let mut desks = Vec::new(alloc);
+    desks.push(shaky_desk(alloc, true, sent)?)?;
+    desks.push(shaky_desk(alloc, false, sent)?)?;
+    Ok(desks)
+}
+
+// How a server of two workers ends of whom one's door is broken, if this comes back of what is sent to the other.
+fn status_beside_broken<R: Threads + Wait + Sync>(
+    rt: &R,
+    alloc: Global,
+    words: &[String],
+    sent: &str,
+    wanted: &str,
+) -> Option<u8> {
+    let server = server_of(alloc, words).ok()?;
+    if server.workers != 2 {
+        return None;
+    }
+    let wanted = bytes_of(alloc, wanted).ok()?;
+    let desks = shaky_desks(alloc, sent).ok()?;
+    let (status, _, desks) = serve(rt, alloc, words, SureKeeper::new(alloc), desks, &OpenGate);
+    match desks.as_slice() {
+        [_, other] if has_come(&other.door.door, wanted.as_slice()) => Some(status),
+        _ => None,
+    }
+}
+
+#[test]
+fn a_worker_is_served_beside_one_whose_door_fails(rt: HostRuntime) -> Result<(), Fail> {
+    let words = words_of(rt.alloc(), "serve --port 0 --workers 2")?;
+    let (_, rest) = CONNECTIONS.split_once('~').ok_or("a title")?;
+    let (first, _) = rest.split_once('^').ok_or("a connection")?;
+    let (_, sent, wanted) = parts_of(first).ok_or("its parts")?;
+    let status = status_beside_broken(&rt, rt.alloc(), &words, sent, wanted);
+    assert!(rt;
+        status == Some(ExitStatus::DoorFault.number()),
+        "{status:?}"
+    );
     Ok(())
 }
 

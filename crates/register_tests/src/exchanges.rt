@@ -1,0 +1,72 @@
+//! What is sent, with what comes back of it.
+use crate::http::bytes_of;
+use lei_outside::{Bytes, List, NoMemory};
+use std::alloc::Global;
+
+/// What is sent, and what comes back, in the letters of [`bytes_of`].
+pub type Exchange = (&'static str, &'static str);
+
+/// How many bytes a read and a write of these tests take at most.
+pub const MOST: usize = 7;
+
+/// All that is sent.
+pub fn all_sent(alloc: Global, exchanges: &[Exchange]) -> Result<Bytes, NoMemory> {
+    let mut all = Vec::new(alloc);
+    for exchange in exchanges {
+        let (sent, _) = *exchange;
+        all.extend_from_slice(bytes_of(alloc, sent)?.as_slice())?;
+    }
+    Ok(Bytes::from(all))
+}
+
+/// The replies to what is whole within so many bytes that were read.
+pub fn replies_within(
+    alloc: Global,
+    exchanges: &[Exchange],
+    read: usize,
+) -> Result<Vec<u8>, NoMemory> {
+    let mut replies = Vec::new(alloc);
+    let mut end: usize = 0;
+    for exchange in exchanges {
+        let (sent, reply) = *exchange;
+        end = end.saturating_add(bytes_of(alloc, sent)?.len());
+        if end <= read {
+            replies.extend_from_slice(bytes_of(alloc, reply)?.as_slice())?;
+        }
+    }
+    Ok(replies)
+}
+
+/// How many replies are whole within so many bytes that were written.
+pub fn whole_replies(
+    alloc: Global,
+    exchanges: &[Exchange],
+    written: usize,
+) -> Result<u64, NoMemory> {
+    let mut count: u64 = 0;
+    let mut end: usize = 0;
+    for exchange in exchanges {
+        let (_, reply) = *exchange;
+        end = end.saturating_add(bytes_of(alloc, reply)?.len());
+        if end <= written {
+            count = count.saturating_add(1);
+        }
+    }
+    Ok(count)
+}
+
+/// How many calls it takes to read so many bytes, at most so many in each, and to see their end.
+pub fn reads_of(bytes: usize, most: usize) -> u64 {
+    match bytes.checked_div(most) {
+        Some(whole) if whole.saturating_mul(most) == bytes => (whole as u64).saturating_add(1),
+        Some(whole) => (whole as u64).saturating_add(2),
+        None => 0,
+    }
+}
+
+/// The list of one number.
+pub fn only(alloc: Global, number: u64) -> Result<List<u64>, NoMemory> {
+    let mut numbers = Vec::new(alloc);
+    numbers.push(number)?;
+    Ok(List::from(numbers))
+}
