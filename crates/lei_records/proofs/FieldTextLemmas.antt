@@ -7,6 +7,7 @@ use Rattle.std.proofs.lemmas.Grind.{take-set_at}
 use Rattle.std.proofs.lemmas.List.{length-set, length-take-le}
 use Rattle.lei_outside.specs.Pieces.{AreEnds, pieces}
 use Rattle.lei_outside.proofs.PieceLemmas.{ends_grow, length_pieces, pieces_grow, texts_compare}
+use Rattle.lei_records.specs.Places.{record_places}
 use Rattle.lei_records.specs.Rows.{Row}
 
 -- as many texts as ends are looked at
@@ -16,7 +17,7 @@ length_seen count ends bytes seen few is =
     ap length (sym is) ∙ (length_pieces 0 (take count ends) bytes ∙ length-take-le count ends few)
 
 pub has_room : (count : ℕ) (ends bytes : List ℕ) (seen : Row) → count ≤ length ends → pieces 0 (take count ends) bytes ≡ seen
-    → length seen < 28 → count < 28
+    → length seen < record_places → count < record_places
 has_room count ends bytes seen few is room = omega (arith, room, length_seen count ends bytes seen few is)
 
 -- the text at an index has its end among these

@@ -11,6 +11,7 @@ use Rattle.lei_records.specs.Items.{row_text}
 use Rattle.lei_records.proofs.SheetLemmas.{Lent, printed_in, printed_in-more, printed_in-past}
 use Rattle.lei_shapes.specs.Moment.{read_moment}
 use Rattle.lei_records.specs.Parts.{AreRead}
+use Rattle.lei_records.specs.Places.{record_places}
 use Rattle.lei_records.specs.Rows.{Row, text_at}
 use Rattle.lei_records.specs.Spelled.{moment_in}
 
@@ -40,13 +41,13 @@ pub moment_in-read : (row : Row) (place : ℕ) (moment : ℤ) → read_moment (t
 unfolding moment_in
 moment_in-read row place moment is = rw is refl
 
-row_len-small : (kind : Kind) → row_len kind ≤ 28
+row_len-small : (kind : Kind) → row_len kind ≤ record_places
 row_len-small Kind.Record = omega arith
 row_len-small Kind.Relation = omega arith
 row_len-small Kind.Exception = omega arith
 
 -- a text that stands in a row finds its place
-pub row_room : (kind : Kind) (n i size : ℕ) → n ≡ row_len kind → size ≤ i → nat_lt i n ≡ true → size < 28
+pub row_room : (kind : Kind) (n i size : ℕ) → n ≡ row_len kind → size ≤ i → nat_lt i n ≡ true → size < record_places
 row_room kind n i size is short test =
     let below : i < n = grind (arith, nat_tests) in
     omega (arith, below, short, is, row_len-small kind)

@@ -15,7 +15,7 @@ use Rattle.lei_code.specs.Code.{IsValid}
 use Rattle.lei_code.specs.Number.{number}
 use Rattle.lei_shapes.specs.declared.shapes.Shape.{Shape}
 use Rattle.lei_shapes.specs.Clock.{moment_text}
-use Rattle.lei_shapes.specs.Lists.{category_of, entity_status_of, exception_category_of, reason_of, record_status_of, relation_registration_of, relation_status_of, relation_type_of}
+use Rattle.lei_shapes.specs.Lists.{category_of, entity_status_of, event_status_of, event_type_of, exception_category_of, reason_of, record_status_of, relation_registration_of, relation_status_of, relation_type_of}
 use Rattle.lei_shapes.specs.Moment.{IsMoment, is_moment, moment_of_instant, read_moment, whole_seconds}
 use Rattle.lei_shapes.specs.Shape.{between_spaces, is_code, fits_shape}
 use Rattle.lei_shapes.proofs.CodeLemmas.{one_code}
@@ -27,7 +27,7 @@ use Rattle.lei_records.specs.declared.fields.Need.{Need}
 use Rattle.lei_records.specs.declared.item.Readied.{Readied}
 use Rattle.lei_records.specs.declared.readying.FieldCheck.{FieldCheck}
 use Rattle.lei_records.specs.declared.rules.Rules.{Rules}
-use Rattle.lei_records.specs.Cells.{successors_in}
+use Rattle.lei_records.specs.Cells.{has_no_event, successors_in}
 use Rattle.lei_records.specs.Checks.{FailedCheck}
 use Rattle.lei_records.specs.Fields.{Field, exception_fields, field_count, fields, fields_of, codes_in, fits_content, is_needed, may_stand, relation_fields, row_fields, row_len, successors_shape}
 use Rattle.lei_records.specs.Items.{facts_of, failed_check, failed_field, first_field, has_other_remainder, is_archival, is_field, is_withdrawal, item_of, row_text, miscoded_field, misshapen_field, missing_field, printed, readied, row_of, text_of, unknown_name}
@@ -56,59 +56,61 @@ none_first : {X : Type 0} (b : Bool) (x : X) (rest : Option X) → cond b (Some 
 none_first true x rest none = cc
 none_first false x rest none = (refl, none)
 
-none_unknown : (kind : Kind) (pairs : List (List ℕ × List ℕ)) → unknown_name kind pairs ≡ None → first_unknown kind pairs ≡ None
-none_unknown kind pairs known = none_first_of (λ name. not (is_field kind name)) (names pairs) known
+none_unknown : (rules : Rules) (kind : Kind) (pairs : List (List ℕ × List ℕ)) → unknown_name rules kind pairs ≡ None → first_unknown rules kind pairs ≡ None
+none_unknown rules kind pairs known = none_first_of (λ name. not (is_field rules kind name)) (names pairs) known
 
 -- where names rise, the first that is no field's is the least
-pub unknown_name-first : (kind : Kind) (pairs : List (List ℕ × List ℕ)) → AreRising pairs → unknown_name kind pairs ≡ first_unknown kind pairs
-unknown_name-first kind pairs rising = least-first (λ name. not (is_field kind name)) (names pairs) rising
+pub unknown_name-first : (rules : Rules) (kind : Kind) (pairs : List (List ℕ × List ℕ)) → AreRising pairs → unknown_name rules kind pairs ≡ first_unknown rules kind pairs
+unknown_name-first rules kind pairs rising = least-first (λ name. not (is_field rules kind name)) (names pairs) rising
 
 -- an item that has no unknown name has no text under one
-not_sent : (kind : Kind) (name : List ℕ) (pairs : List (List ℕ × List ℕ)) → is_field kind name ≡ false → first_unknown kind pairs ≡ None → text_of pairs name ≡ []
-not_sent kind name [] unknown known = refl
-not_sent kind name (p ∷ pairs) unknown known =
-    let parts = none_first (not (is_field kind p.0)) p.0 (first_unknown kind pairs) known in
+not_sent : (rules : Rules) (kind : Kind) (name : List ℕ) (pairs : List (List ℕ × List ℕ)) → is_field rules kind name ≡ false → first_unknown rules kind pairs ≡ None → text_of pairs name ≡ []
+not_sent rules kind name [] unknown known = refl
+not_sent rules kind name (p ∷ pairs) unknown known =
+    let parts = none_first (not (is_field rules kind p.0)) p.0 (first_unknown rules kind pairs) known in
     elim (bytes_eq name p.0) as (λ b. bytes_eq name p.0 ≡ b → unwrap_or (cond b (Some p.1) (lookup (bytes_eq name) pairs)) [] ≡ []) [
       | true ↦ λ is. (
           let same : name ≡ p.0 = (bytes_eq-Decides name p.0).0 is in
-          let told : not false ≡ false = ap not (sym unknown ∙ ap (is_field kind) same) ∙ parts.0 in
+          let told : not false ≡ false = ap not (sym unknown ∙ ap (is_field rules kind) same) ∙ parts.0 in
           absurd (false≢true (sym told)))
-      | false ↦ λ is. not_sent kind name pairs unknown parts.1
+      | false ↦ λ is. not_sent rules kind name pairs unknown parts.1
     ] refl
 
-no_action : is_field Kind.Record (codes "Action") ≡ false
+no_action : (rules : Rules) → is_field rules Kind.Record (codes "Action") ≡ false
 unfolding fields
-no_action = refl
+no_action Rules.First = refl
+no_action Rules.Second = refl
+no_action Rules.Third = refl
 
-no_action_either : is_field Kind.Relation (codes "Action") ≡ false
+no_action_either : (rules : Rules) → is_field rules Kind.Relation (codes "Action") ≡ false
 unfolding relation_fields
-no_action_either = refl
+no_action_either rules = refl
 
-no_status : is_field Kind.Exception (codes "Registration.RegistrationStatus") ≡ false
+no_status : (rules : Rules) → is_field rules Kind.Exception (codes "Registration.RegistrationStatus") ≡ false
 unfolding exception_fields
-no_status = refl
+no_status rules = refl
 
-never_withdrawn : (kind : Kind) (pairs : List (List ℕ × List ℕ)) → is_field kind (codes "Action") ≡ false → first_unknown kind pairs ≡ None → false ≡ is_withdrawal pairs
-never_withdrawn kind pairs none known = sym (ap (λ text. bytes_eq text (codes "WITHDRAW")) (not_sent kind (codes "Action") pairs none known))
+never_withdrawn : (rules : Rules) (kind : Kind) (pairs : List (List ℕ × List ℕ)) → is_field rules kind (codes "Action") ≡ false → first_unknown rules kind pairs ≡ None → false ≡ is_withdrawal pairs
+never_withdrawn rules kind pairs none known = sym (ap (λ text. bytes_eq text (codes "WITHDRAW")) (not_sent rules kind (codes "Action") pairs none known))
 
 -- what the needs depend on, by place as by name
-facts_at-texts_of : (rules : Rules) (kind : Kind) (pairs : List (List ℕ × List ℕ)) → first_unknown kind pairs ≡ None → facts_at rules kind (texts_of kind pairs) ≡ facts_of rules pairs
+facts_at-texts_of : (rules : Rules) (kind : Kind) (pairs : List (List ℕ × List ℕ)) → first_unknown rules kind pairs ≡ None → facts_at rules kind (texts_of kind pairs) ≡ facts_of rules pairs
 unfolding fields relation_fields exception_fields
 facts_at-texts_of rules Kind.Record pairs known =
-    let same = never_withdrawn Kind.Record pairs no_action known in
+    let same = never_withdrawn rules Kind.Record pairs (no_action rules) known in
     λ i. record { rules = rules; archival = is_archival pairs; withdrawal = same i }
 facts_at-texts_of rules Kind.Relation pairs known =
-    let same = never_withdrawn Kind.Relation pairs no_action_either known in
+    let same = never_withdrawn rules Kind.Relation pairs (no_action_either rules) known in
     λ i. record { rules = rules; archival = is_archival pairs; withdrawal = same i }
 facts_at-texts_of rules Kind.Exception pairs known =
-    let same : false ≡ is_archival pairs = sym (ap (λ text. bytes_eq text (codes "PENDING_ARCHIVAL")) (not_sent Kind.Exception (codes "Registration.RegistrationStatus") pairs no_status known)) in
+    let same : false ≡ is_archival pairs = sym (ap (λ text. bytes_eq text (codes "PENDING_ARCHIVAL")) (not_sent rules Kind.Exception (codes "Registration.RegistrationStatus") pairs (no_status rules) known)) in
     λ i. record { rules = rules; archival = same i; withdrawal = is_withdrawal pairs }
 
 name_of_found : {Y : Type 0} (g : Field → Y) (found : Option Field) → option_map (λ (entry : Field × Y). entry.0.0) (option_map (λ field. (field, g field)) found) ≡ option_map (λ field. field.0) found
 name_of_found g None = refl
 name_of_found g (Some field) = refl
 
-pub first_at-texts_of : (rules : Rules) (check : FieldCheck) (kind : Kind) (pairs : List (List ℕ × List ℕ)) → first_unknown kind pairs ≡ None → first_at rules check kind (texts_of kind pairs) ≡ first_field (field_fails check (facts_of rules pairs)) kind pairs
+pub first_at-texts_of : (rules : Rules) (check : FieldCheck) (kind : Kind) (pairs : List (List ℕ × List ℕ)) → first_unknown rules kind pairs ≡ None → first_at rules check kind (texts_of kind pairs) ≡ first_field (field_fails check (facts_of rules pairs)) kind pairs
 unfolding first_at
 first_at-texts_of rules check kind pairs known =
     let text : Field → List ℕ = λ field. text_of pairs field.0 in
@@ -124,10 +126,10 @@ printed_at-texts_of kind pairs =
     let make : Field × List ℕ → List ℕ = λ entry. row_text entry.0.1 entry.1 in
     ap (map make) (zip-front (λ field. text_of pairs field.0) (row_len kind) (fields_of kind)) ∙ map-map make (λ field. (field, text_of pairs field.0)) (row_fields kind)
 
-pub failed_at-texts_of : (rules : Rules) (kind : Kind) (pairs : List (List ℕ × List ℕ)) → unknown_name kind pairs ≡ None → failed_check rules kind pairs ≡ failed_at rules kind (texts_of kind pairs)
+pub failed_at-texts_of : (rules : Rules) (kind : Kind) (pairs : List (List ℕ × List ℕ)) → unknown_name rules kind pairs ≡ None → failed_check rules kind pairs ≡ failed_at rules kind (texts_of kind pairs)
 unfolding failed_check failed_at
 failed_at-texts_of rules kind pairs known =
-    let first = none_unknown kind pairs known in
+    let first = none_unknown rules kind pairs known in
     rw (known, first_at-texts_of rules FieldCheck.Presence kind pairs first, first_at-texts_of rules FieldCheck.Shape kind pairs first, first_at-texts_of rules FieldCheck.Digits kind pairs first) refl
 
 -- ---- a row of texts that pass
@@ -305,6 +307,15 @@ always_moment kind texts passed k bound is needed = moment_at kind texts passed 
 always_fits : {rules : Rules} (kind : Kind) (texts : Row) → Passed rules kind texts → (k : ℕ) → k < row_len kind → (shape : Shape) → (field_at kind k).1 ≡ Content.Shaped shape → (field_at kind k).2 ≡ Need.Always → fits_shape shape (sent texts k) ≡ true
 always_fits kind texts passed k bound shape is needed = fits_at kind texts passed k bound shape is (stands_at kind texts passed k bound needed)
 
+-- a value of a list, where it is present
+listed_if_present : {rules : Rules} {V : Type 0} (kind : Kind) (texts : Row) → Passed rules kind texts → (k : ℕ) → k < row_len kind → (shape : Shape) (value_of : List ℕ → Option V)
+    → (field_at kind k).1 ≡ Content.Shaped shape → ((text : List ℕ) → printed shape text ≡ text) → ((text : List ℕ) → fits_shape shape text ≡ true → IsListed value_of text)
+    → IfSome (present (get_or (printed_at kind texts) k [])) (IsListed value_of)
+listed_if_present kind texts passed k bound shape value_of is kept listed =
+    let same = same_at kind texts passed k bound shape is ∙ kept (sent texts k) in
+    if_present (IsListed value_of) (get_or (printed_at kind texts) k [])
+    (λ stands. subst (IsListed value_of) (sym same) (listed (sent texts k) (fits_at kind texts passed k bound shape is (ap is_absent (sym same) ∙ stands))))
+
 least : (kind : Kind) → min (row_len kind) (field_count kind) ≡ row_len kind
 least Kind.Record = refl
 least Kind.Relation = refl
@@ -346,6 +357,10 @@ rowed texts passed =
       renewal = always_moment r texts passed 24 (lit< tt) refl refl;
       manager = always_code r texts passed 25 (lit< tt) refl refl;
       transfer_to = code_if_present r texts passed 27 (lit< tt) refl;
+      event_type = listed_if_present r texts passed 28 (lit< tt) Shape.EventType event_type_of refl (λ text. refl) (λ text fits. fits);
+      effective = moment_if_present r texts passed 29 (lit< tt) refl;
+      recorded = moment_if_present r texts passed 30 (lit< tt) refl;
+      event_status = listed_if_present r texts passed 31 (lit< tt) Shape.EventStatus event_status_of refl (λ text. refl) (λ text fits. fits);
     }
 
 relation_rowed : {rules : Rules} (texts : Row) → Passed rules Kind.Relation texts → IsRelationRow (printed_at Kind.Relation texts)
@@ -370,13 +385,11 @@ exception_rowed : {rules : Rules} (texts : Row) → Passed rules Kind.Exception 
 unfolding exception_fields
 exception_rowed texts passed =
     let r = Kind.Exception in
-    let same = same_at r texts passed 2 (lit< tt) Shape.Reason refl in
     record {
       places = length-printed_at r texts passed.len;
       lei = always_code r texts passed 0 (lit< tt) refl refl;
       category = subst (IsListed exception_category_of) (sym (same_at r texts passed 1 (lit< tt) Shape.ExceptionCategory refl)) (always_fits r texts passed 1 (lit< tt) Shape.ExceptionCategory refl refl);
-      reason = if_present (IsListed reason_of) (get_or (printed_at r texts) 2 [])
-          (λ stands. subst (IsListed reason_of) (sym same) (fits_at r texts passed 2 (lit< tt) Shape.Reason refl (ap is_absent (sym same) ∙ stands)));
+      reason = listed_if_present r texts passed 2 (lit< tt) Shape.Reason reason_of refl (λ text. refl) (λ text fits. fits);
     }
 
 rowed_as : {rules : Rules} (kind : Kind) (texts : Row) → Passed rules kind texts → IsRowOf kind (printed_at kind texts)
@@ -414,8 +427,8 @@ length-texts_of kind pairs = length-map (fields_of kind) (λ field. text_of pair
 passed_of : (rules : Rules) (kind : Kind) (pairs : List (List ℕ × List ℕ)) → failed_check rules kind pairs ≡ None → Passed rules kind (texts_of kind pairs)
 unfolding failed_check
 passed_of rules kind pairs is =
-    let none = none_failed (unknown_name kind pairs) (missing_field rules kind pairs) (misshapen_field rules kind pairs) (miscoded_field kind pairs) (failed_field 1) (failed_field 2) (failed_field 3) (failed_field 4) is in
-    let first = none_unknown kind pairs none.0 in
+    let none = none_failed (unknown_name rules kind pairs) (missing_field rules kind pairs) (misshapen_field rules kind pairs) (miscoded_field kind pairs) (failed_field 1) (failed_field 2) (failed_field 3) (failed_field 4) is in
+    let first = none_unknown rules kind pairs none.0 in
     passes rules kind (texts_of kind pairs) (length-texts_of kind pairs)
     (first_at-texts_of rules FieldCheck.Presence kind pairs first ∙ none.1) (first_at-texts_of rules FieldCheck.Shape kind pairs first ∙ none.2) (first_at-texts_of rules FieldCheck.Digits kind pairs first ∙ none.3)
 
@@ -442,28 +455,45 @@ one_named pairs is =
           (omega arith)
     ] refl)
 
-withdraws_at-texts_of : (kind : Kind) (pairs : List (List ℕ × List ℕ)) → first_unknown kind pairs ≡ None → withdraws_at kind (texts_of kind pairs) ≡ is_withdrawal pairs
-unfolding fields relation_fields exception_fields
-withdraws_at-texts_of Kind.Record pairs known = never_withdrawn Kind.Record pairs no_action known
-withdraws_at-texts_of Kind.Relation pairs known = never_withdrawn Kind.Relation pairs no_action_either known
-withdraws_at-texts_of Kind.Exception pairs known = refl
+-- by rules that don't know the fields of an event it tells of none
+pub no_event : (rules : Rules)
+    → is_field rules Kind.Record (codes "Entity.Event.1.Type") ≡ false → is_field rules Kind.Record (codes "Entity.Event.1.EffectiveDate") ≡ false
+    → is_field rules Kind.Record (codes "Entity.Event.1.RecordedDate") ≡ false → is_field rules Kind.Record (codes "Entity.Event.1.Status") ≡ false
+    → (pairs : List (List ℕ × List ℕ)) → failed_check rules Kind.Record pairs ≡ None → has_no_event (row_of Kind.Record pairs) ≡ true
+unfolding fields failed_check row_of
+no_event rules of_type of_effective of_recorded of_status pairs is =
+    let r = Kind.Record in
+    let none = none_failed (unknown_name rules r pairs) (missing_field rules r pairs) (misshapen_field rules r pairs) (miscoded_field r pairs) (failed_field 1) (failed_field 2) (failed_field 3) (failed_field 4) is in
+    let known = none_unknown rules r pairs none.0 in
+    rw (
+      not_sent rules r (codes "Entity.Event.1.Type") pairs of_type known,
+      not_sent rules r (codes "Entity.Event.1.EffectiveDate") pairs of_effective known,
+      not_sent rules r (codes "Entity.Event.1.RecordedDate") pairs of_recorded known,
+      not_sent rules r (codes "Entity.Event.1.Status") pairs of_status known,
+    ) refl
 
-readied_same : (kind : Kind) (pairs : List (List ℕ × List ℕ)) (failed : Option FailedCheck) → first_unknown kind pairs ≡ None → readied_by kind (texts_of kind pairs) failed ≡ readied kind pairs failed
-readied_same kind pairs None known =
+withdraws_at-texts_of : (rules : Rules) (kind : Kind) (pairs : List (List ℕ × List ℕ)) → first_unknown rules kind pairs ≡ None → withdraws_at kind (texts_of kind pairs) ≡ is_withdrawal pairs
+unfolding fields relation_fields exception_fields
+withdraws_at-texts_of rules Kind.Record pairs known = never_withdrawn rules Kind.Record pairs (no_action rules) known
+withdraws_at-texts_of rules Kind.Relation pairs known = never_withdrawn rules Kind.Relation pairs (no_action_either rules) known
+withdraws_at-texts_of rules Kind.Exception pairs known = refl
+
+readied_same : (rules : Rules) (kind : Kind) (pairs : List (List ℕ × List ℕ)) (failed : Option FailedCheck) → first_unknown rules kind pairs ≡ None → readied_by kind (texts_of kind pairs) failed ≡ readied kind pairs failed
+readied_same rules kind pairs None known =
     ap (λ row. Readied.Good (item_of kind (withdraws_at kind (texts_of kind pairs)) row)) (printed_at-texts_of kind pairs)
-    ∙ ap (λ withdraws. Readied.Good (item_of kind withdraws (row_of kind pairs))) (withdraws_at-texts_of kind pairs known)
-readied_same kind pairs (Some check) known = refl
+    ∙ ap (λ withdraws. Readied.Good (item_of kind withdraws (row_of kind pairs))) (withdraws_at-texts_of rules kind pairs known)
+readied_same rules kind pairs (Some check) known = refl
 
 -- what the checks by place answer is what the item's checks do
-pub readied-by_place : {E : Type 0} (rules : Rules) (kind : Kind) (pairs : List (List ℕ × List ℕ)) (texts : Row) (r : Result Readied E) → unknown_name kind pairs ≡ None → texts ≡ texts_of kind pairs
+pub readied-by_place : {E : Type 0} (rules : Rules) (kind : Kind) (pairs : List (List ℕ × List ℕ)) (texts : Row) (r : Result Readied E) → unknown_name rules kind pairs ≡ None → texts ≡ texts_of kind pairs
     → IfOk r (λ item. item ≡ readied_by kind texts (failed_at rules kind texts)) → IfOk r (λ item. item ≡ readied kind pairs (failed_check rules kind pairs))
 readied-by_place rules kind pairs texts (Ok item) known same is =
     is ∙ (ap (λ t. readied_by kind t (failed_at rules kind t)) same
-    ∙ (readied_same kind pairs (failed_at rules kind (texts_of kind pairs)) (none_unknown kind pairs known) ∙ ap (readied kind pairs) (sym (failed_at-texts_of rules kind pairs known))))
+    ∙ (readied_same rules kind pairs (failed_at rules kind (texts_of kind pairs)) (none_unknown rules kind pairs known) ∙ ap (readied kind pairs) (sym (failed_at-texts_of rules kind pairs known))))
 readied-by_place rules kind pairs texts (Err e) known same is = tt
 
 -- an unknown name is told before all else
-pub bad_by_name : {E : Type 0} (rules : Rules) (kind : Kind) (pairs : List (List ℕ × List ℕ)) (name : List ℕ) (r : Result Readied E) → unknown_name kind pairs ≡ Some name
+pub bad_by_name : {E : Type 0} (rules : Rules) (kind : Kind) (pairs : List (List ℕ × List ℕ)) (name : List ℕ) (r : Result Readied E) → unknown_name rules kind pairs ≡ Some name
     → IfOk r (λ item. item ≡ Readied.Bad (failed_field 1 name)) → IfOk r (λ item. item ≡ readied kind pairs (failed_check rules kind pairs))
 unfolding failed_check
 bad_by_name rules kind pairs name (Ok item) unknown is = rw unknown is

@@ -1,5 +1,5 @@
 -- The table of fields and the texts at its places, entry by entry.
-use Rattle.std.proofs.Common.{◌≡◌, ℕ, ◌+◌, ◌-◌, add-one, ◌++◌, append_assoc, append-nil, ◌<◌, ◌≤◌, zero, suc, List, [], ◌∷◌, Bool, true, false, not, ◌&&◌, ◌||◌, cond, length, get_or, set, take, drop, map, Bor, Option, None, Some, unwrap_or, refl, sym, ap, subst, ◌∙◌, arith}
+use Rattle.std.proofs.Common.{◌≡◌, ℕ, ◌+◌, ◌-◌, add-one, ◌++◌, append_assoc, append-nil, ◌<◌, ◌≤◌, zero, suc, List, [], ◌∷◌, Bool, true, false, not, ◌&&◌, ◌||◌, cond, length, get_or, set, take, drop, map, nat_lt, Bor, Option, None, Some, unwrap_or, refl, sym, ap, subst, ◌∙◌, arith}
 use Rattle.std.specs.List.{find, list_any, zip}
 use Rattle.std.specs.Option.{option_map}
 use Rattle.std.specs.Map.{lookup}
@@ -7,7 +7,8 @@ use Rattle.std.specs.Str.{bytes_eq}
 use Rattle.std.proofs.Math.ListN.{drop_of_length-le}
 use Rattle.std.proofs.Math.Seq.{drop-cons, take-set-lt}
 use Rattle.std.proofs.lemmas.Bool.{and_parts, false≢true, false_from_ne_true, not-true, or_parts}
-use Rattle.std.proofs.lemmas.List.{length-map, length-take, length-take-le, map-set, take-map}
+use Rattle.std.proofs.lemmas.Bool.Decides.{nat_tests}
+use Rattle.std.proofs.lemmas.List.{get_or-take, length-map, length-take, length-take-le, map-set, take-map}
 use Rattle.std.proofs.lemmas.List.Folds.{list_any_at}
 use Rattle.std.proofs.lemmas.Slice.Eq.{bytes_eq-Decides}
 use Rattle.lei_records.specs.declared.fields.Content.{Content}
@@ -16,10 +17,11 @@ use Rattle.lei_records.specs.declared.fields.Kind.{Kind}
 use Rattle.lei_records.specs.declared.fields.Need.{Need}
 use Rattle.lei_records.specs.declared.readying.FieldCheck.{FieldCheck}
 use Rattle.lei_records.specs.declared.rules.Rules.{Rules}
-use Rattle.lei_records.specs.Fields.{Field, field_count, fields, fields_of, exception_fields, names_of, read_field, relation_fields, row_fields, row_len}
+use Rattle.lei_records.specs.Fields.{Field, field_count, fields, fields_of, exception_fields, known_count, known_fields, names_of, read_field, relation_fields, row_fields, row_len}
 use Rattle.lei_records.specs.Items.{is_field, row_text, text_of}
+use Rattle.lei_records.specs.Places.{record_places}
 use Rattle.lei_records.specs.Rows.{Row}
-use Rattle.lei_records.specs.Sheets.{facts_at, field_fails, first_at, first_unknown, printed_at, read_texts, texts_of}
+use Rattle.lei_records.specs.Sheets.{facts_at, field_fails, first_at, first_unknown, has_field, printed_at, read_texts, texts_of}
 
 -- the table as code lends it
 abbrev pub Lent : Type 0
@@ -58,7 +60,7 @@ length-mapped f xs ys same = sym (length-map xs f) ∙ ap length same
 pub length-lent : (kind : Kind) (table : Lent) → map read_field table ≡ fields_of kind → length table ≡ field_count kind
 length-lent kind table same = length-mapped read_field table (fields_of kind) same ∙ length-fields_of kind
 
-count-small : (kind : Kind) → field_count kind ≤ 28
+count-small : (kind : Kind) → field_count kind ≤ record_places
 count-small Kind.Record = omega arith
 count-small Kind.Relation = omega arith
 count-small Kind.Exception = omega arith
@@ -67,17 +69,17 @@ count-small Kind.Exception = omega arith
 pub within_count : (kind : Kind) (table : Lent) (i : ℕ) → map read_field table ≡ fields_of kind → i < length table → i < field_count kind
 within_count kind table i same bound = rw (sym (length-lent kind table same)) bound
 
-pub below_28 : (kind : Kind) (i : ℕ) → i < field_count kind → i < 28
-below_28 kind i bound = omega (arith, bound, count-small kind)
+pub below_places : (kind : Kind) (i : ℕ) → i < field_count kind → i < record_places
+below_places kind i bound = omega (arith, bound, count-small kind)
 
 pub field_found : (kind : Kind) (table : Lent) → map read_field table ≡ fields_of kind → (i : ℕ) (d : Bor (List ℕ) × Content × Need) (name : List ℕ) → i < length table → bytes_eq (get_or table i d).0.now name ≡ true
-    → (is_field kind name ≡ true) × (get_or (names_of kind) i name ≡ name)
+    → (has_field kind name ≡ true) × (get_or (names_of kind) i name ≡ name)
 field_found kind table same i d name within is = (
   sym (any_of_fields kind (λ field. bytes_eq field.0 name) table same) ∙ list_any_at (λ field. bytes_eq field.0.now name) table i d within is,
   field_name-at kind table same i d name within ∙ (bytes_eq-Decides _ name).0 is,
 )
 
-pub no_field_found : (kind : Kind) (table : Lent) → map read_field table ≡ fields_of kind → (i : ℕ) (name : List ℕ) → length table ≤ i → list_any (λ field. bytes_eq field.0.now name) (drop i table) ≡ list_any (λ field. bytes_eq field.0.now name) table → is_field kind name ≡ false
+pub no_field_found : (kind : Kind) (table : Lent) → map read_field table ≡ fields_of kind → (i : ℕ) (name : List ℕ) → length table ≤ i → list_any (λ field. bytes_eq field.0.now name) (drop i table) ≡ list_any (λ field. bytes_eq field.0.now name) table → has_field kind name ≡ false
 no_field_found kind table same i name past rest =
     sym (any_of_fields kind (λ field. bytes_eq field.0 name) table same) ∙ (sym rest ∙ ap (list_any (λ field. bytes_eq field.0.now name)) (drop_of_length-le table past))
 
@@ -148,21 +150,67 @@ texts_of-known kind name text rest k within is =
     ∙ ap (λ ts. set ts k text) (sym (texts_by_name rest (fields_of kind))))
 
 -- an unknown one's goes nowhere
-pub texts_of-unknown : (kind : Kind) (name text : List ℕ) (rest : List (List ℕ × List ℕ)) → is_field kind name ≡ false → texts_of kind ((name, text) ∷ rest) ≡ texts_of kind rest
+pub texts_of-unknown : (kind : Kind) (name text : List ℕ) (rest : List (List ℕ × List ℕ)) → has_field kind name ≡ false → texts_of kind ((name, text) ∷ rest) ≡ texts_of kind rest
 texts_of-unknown kind name text rest unknown =
     texts_by_name ((name, text) ∷ rest) (fields_of kind)
     ∙ (untouched name text (λ n. lookup (bytes_eq n) rest) (names_of kind) (sym (any_by_name name (fields_of kind)) ∙ unknown)
     ∙ sym (texts_by_name rest (fields_of kind)))
 
-pub first_unknown-known : (kind : Kind) (name text : List ℕ) (rest : List (List ℕ × List ℕ)) → is_field kind name ≡ true → first_unknown kind ((name, text) ∷ rest) ≡ first_unknown kind rest
-first_unknown-known kind name text rest known = rw known refl
+-- ---- names that the rules know
 
-pub first_unknown-unknown : (kind : Kind) (name text : List ℕ) (rest : List (List ℕ × List ℕ)) → is_field kind name ≡ false → first_unknown kind ((name, text) ∷ rest) ≡ Some name
-first_unknown-unknown kind name text rest unknown = rw unknown refl
+-- a name at an index of names that stand once each is among the first ones if the index is
+among_first : (name : List ℕ) (ns : List (List ℕ)) (k n : ℕ) → k < n → k < length ns → get_or ns k name ≡ name → list_any (λ m. bytes_eq m name) (take n ns) ≡ true
+among_first name ns k n low within is =
+    list_any_at (λ m. bytes_eq m name) (take n ns) k name (omega (arith, low, within, length-take n ns)) ((bytes_eq-Decides _ name).1 (get_or-take n ns k name low ∙ is))
+
+-- and else it isn't
+not_among_first : (name : List ℕ) (ns : List (List ℕ)) (k n : ℕ) → n ≤ k → are_apart ns ≡ true → k < length ns → get_or ns k name ≡ name
+    → list_any (λ m. bytes_eq m name) (take n ns) ≡ false
+not_among_first name ns k zero past apart within is = refl
+not_among_first name [] k (suc n) past apart within is = absurd (omega (arith, within))
+not_among_first name (m ∷ ns) zero (suc n) past apart within is = absurd (omega (arith, past))
+not_among_first name (m ∷ ns) (suc k) (suc n) past apart within is =
+    let parts = and_parts (not (list_any (λ o. bytes_eq o m) ns)) (are_apart ns) apart in
+    let at : bytes_eq (get_or ns k name) m ≡ false = none_at (λ o. bytes_eq o m) ns k name (not-true _ parts.0) (omega (arith, within)) in
+    let other : bytes_eq m name ≡ false = apart_turned name m (ap (λ o. bytes_eq o m) (sym is) ∙ at) in
+    rw other (not_among_first name ns k n (omega (arith, past)) parts.1 (omega (arith, within)) is)
+
+-- the names of the fields that the rules know
+known_names : (rules : Rules) (kind : Kind) → map (λ field. field.0) (known_fields rules kind) ≡ take (known_count rules kind) (names_of kind)
+known_names rules kind = sym (take-map (λ field. field.0) (known_count rules kind) (fields_of kind))
+
+known_by_names : (rules : Rules) (kind : Kind) (name : List ℕ) → is_field rules kind name ≡ list_any (λ n. bytes_eq n name) (take (known_count rules kind) (names_of kind))
+known_by_names rules kind name = any_by_name name (known_fields rules kind) ∙ ap (list_any (λ n. bytes_eq n name)) (known_names rules kind)
+
+-- whether the rules know a field goes by its index
+known_at : (rules : Rules) (kind : Kind) (name : List ℕ) (k : ℕ) → k < field_count kind → get_or (names_of kind) k name ≡ name → k < known_count rules kind → is_field rules kind name ≡ true
+known_at rules kind name k within is low =
+    known_by_names rules kind name ∙ among_first name (names_of kind) k (known_count rules kind) low (rw (length-names_of kind) within) is
+
+later_at : (rules : Rules) (kind : Kind) (name : List ℕ) (k : ℕ) → k < field_count kind → get_or (names_of kind) k name ≡ name → known_count rules kind ≤ k → is_field rules kind name ≡ false
+later_at rules kind name k within is past =
+    known_by_names rules kind name ∙ not_among_first name (names_of kind) k (known_count rules kind) past (fields_apart kind) (rw (length-names_of kind) within) is
+
+none_in_front : {X : Type 0} (p : X → Bool) (n : ℕ) (xs : List X) → list_any p xs ≡ false → list_any p (take n xs) ≡ false
+none_in_front p zero xs none = refl
+none_in_front p (suc n) [] none = refl
+none_in_front p (suc n) (x ∷ xs) none =
+    let parts = or_parts (p x) (list_any p xs) none in
+    rw parts.0 (none_in_front p n xs parts.1)
+
+-- a name that no field has is none that they know
+not_known : (rules : Rules) (kind : Kind) (name : List ℕ) → has_field kind name ≡ false → is_field rules kind name ≡ false
+not_known rules kind name none = none_in_front (λ field. bytes_eq field.0 name) (known_count rules kind) (fields_of kind) none
+
+pub first_unknown-known : (rules : Rules) (kind : Kind) (name text : List ℕ) (rest : List (List ℕ × List ℕ)) → is_field rules kind name ≡ true → first_unknown rules kind ((name, text) ∷ rest) ≡ first_unknown rules kind rest
+first_unknown-known rules kind name text rest known = rw known refl
+
+pub first_unknown-unknown : (rules : Rules) (kind : Kind) (name text : List ℕ) (rest : List (List ℕ × List ℕ)) → is_field rules kind name ≡ false → first_unknown rules kind ((name, text) ∷ rest) ≡ Some name
+first_unknown-unknown rules kind name text rest unknown = rw unknown refl
 
 -- no pair, no text
 pub texts_of-none : (kind : Kind)
-    → take (field_count kind) ([] ∷ [] ∷ [] ∷ [] ∷ [] ∷ [] ∷ [] ∷ [] ∷ [] ∷ [] ∷ [] ∷ [] ∷ [] ∷ [] ∷ [] ∷ [] ∷ [] ∷ [] ∷ [] ∷ [] ∷ [] ∷ [] ∷ [] ∷ [] ∷ [] ∷ [] ∷ [] ∷ [] ∷ []) ≡ texts_of kind []
+    → take (field_count kind) ([] ∷ [] ∷ [] ∷ [] ∷ [] ∷ [] ∷ [] ∷ [] ∷ [] ∷ [] ∷ [] ∷ [] ∷ [] ∷ [] ∷ [] ∷ [] ∷ [] ∷ [] ∷ [] ∷ [] ∷ [] ∷ [] ∷ [] ∷ [] ∷ [] ∷ [] ∷ [] ∷ [] ∷ [] ∷ [] ∷ [] ∷ [] ∷ []) ≡ texts_of kind []
 unfolding fields relation_fields exception_fields
 texts_of-none Kind.Record = refl
 texts_of-none Kind.Relation = refl
@@ -185,22 +233,41 @@ placed_known kind pairs i p name k text texts low high is is_name is_text within
     ∙ (sym (texts_of-known kind p.0 p.1 (drop i pairs) k within (subst P is_name at)) ∙ ap (texts_of kind) (sym (drop_before pairs i p low high is))))))
 
 pub placed_unknown : (kind : Kind) (pairs : List (List ℕ × List ℕ)) (i : ℕ) (p : List ℕ × List ℕ) (name : List ℕ) (texts : List (Bor (List ℕ)))
-    → 0 < i → i ≤ length pairs → p ≡ get_or pairs (i - 1) p → name ≡ p.0 → is_field kind name ≡ false
+    → 0 < i → i ≤ length pairs → p ≡ get_or pairs (i - 1) p → name ≡ p.0 → has_field kind name ≡ false
     → take (field_count kind) (read_texts texts) ≡ texts_of kind (drop i pairs) → take (field_count kind) (read_texts texts) ≡ texts_of kind (drop (i - 1) pairs)
 placed_unknown kind pairs i p name texts low high is is_name unknown sofar =
-    sofar ∙ (sym (texts_of-unknown kind p.0 p.1 (drop i pairs) (ap (is_field kind) (sym is_name) ∙ unknown)) ∙ ap (texts_of kind) (sym (drop_before pairs i p low high is)))
+    sofar ∙ (sym (texts_of-unknown kind p.0 p.1 (drop i pairs) (ap (has_field kind) (sym is_name) ∙ unknown)) ∙ ap (texts_of kind) (sym (drop_before pairs i p low high is)))
 
-pub told_known : (kind : Kind) (pairs : List (List ℕ × List ℕ)) (i : ℕ) (p : List ℕ × List ℕ) (name : List ℕ) (unknown : Option (List ℕ))
-    → 0 < i → i ≤ length pairs → p ≡ get_or pairs (i - 1) p → name ≡ p.0 → is_field kind name ≡ true
-    → unknown ≡ first_unknown kind (drop i pairs) → unknown ≡ first_unknown kind (drop (i - 1) pairs)
-told_known kind pairs i p name unknown low high is is_name known sofar =
-    sofar ∙ (sym (first_unknown-known kind p.0 p.1 (drop i pairs) (ap (is_field kind) (sym is_name) ∙ known)) ∙ ap (first_unknown kind) (sym (drop_before pairs i p low high is)))
+told_known : (rules : Rules) (kind : Kind) (pairs : List (List ℕ × List ℕ)) (i : ℕ) (p : List ℕ × List ℕ) (name : List ℕ) (unknown : Option (List ℕ))
+    → 0 < i → i ≤ length pairs → p ≡ get_or pairs (i - 1) p → name ≡ p.0 → is_field rules kind name ≡ true
+    → unknown ≡ first_unknown rules kind (drop i pairs) → unknown ≡ first_unknown rules kind (drop (i - 1) pairs)
+told_known rules kind pairs i p name unknown low high is is_name known sofar =
+    sofar ∙ (sym (first_unknown-known rules kind p.0 p.1 (drop i pairs) (ap (is_field rules kind) (sym is_name) ∙ known)) ∙ ap (first_unknown rules kind) (sym (drop_before pairs i p low high is)))
 
-pub told_unknown : (kind : Kind) (pairs : List (List ℕ × List ℕ)) (i : ℕ) (p : List ℕ × List ℕ) (name : List ℕ)
-    → 0 < i → i ≤ length pairs → p ≡ get_or pairs (i - 1) p → name ≡ p.0 → is_field kind name ≡ false
-    → Some name ≡ first_unknown kind (drop (i - 1) pairs)
-told_unknown kind pairs i p name low high is is_name unknown =
-    ap Some is_name ∙ (sym (first_unknown-unknown kind p.0 p.1 (drop i pairs) (ap (is_field kind) (sym is_name) ∙ unknown)) ∙ ap (first_unknown kind) (sym (drop_before pairs i p low high is)))
+told : (rules : Rules) (kind : Kind) (pairs : List (List ℕ × List ℕ)) (i : ℕ) (p : List ℕ × List ℕ) (name : List ℕ)
+    → 0 < i → i ≤ length pairs → p ≡ get_or pairs (i - 1) p → name ≡ p.0 → is_field rules kind name ≡ false
+    → Some name ≡ first_unknown rules kind (drop (i - 1) pairs)
+told rules kind pairs i p name low high is is_name unknown =
+    ap Some is_name ∙ (sym (first_unknown-unknown rules kind p.0 p.1 (drop i pairs) (ap (is_field rules kind) (sym is_name) ∙ unknown))
+    ∙ ap (first_unknown rules kind) (sym (drop_before pairs i p low high is)))
+
+-- of a field, which the rules know or don't
+pub told_placed : (rules : Rules) (kind : Kind) (pairs : List (List ℕ × List ℕ)) (i : ℕ) (p : List ℕ × List ℕ) (name : List ℕ) (k : ℕ) (unknown unknown' : Option (List ℕ))
+    → 0 < i → i ≤ length pairs → p ≡ get_or pairs (i - 1) p → name ≡ p.0 → k < field_count kind → get_or (names_of kind) k name ≡ name
+    → unknown' ≡ cond (nat_lt k (known_count rules kind)) unknown (Some name)
+    → unknown ≡ first_unknown rules kind (drop i pairs) → unknown' ≡ first_unknown rules kind (drop (i - 1) pairs)
+told_placed rules kind pairs i p name k unknown unknown' low high is is_name within at next sofar =
+    next ∙ elim (nat_lt k (known_count rules kind)) as (λ b. nat_lt k (known_count rules kind) ≡ b → cond b unknown (Some name) ≡ first_unknown rules kind (drop (i - 1) pairs)) [
+      | true ↦ λ test. told_known rules kind pairs i p name unknown low high is is_name (known_at rules kind name k within at (grind (arith, nat_tests))) sofar
+      | false ↦ λ test. told rules kind pairs i p name low high is is_name (later_at rules kind name k within at (grind (arith, nat_tests)))
+    ] refl
+
+-- of a name that no field has
+pub told_unknown : (rules : Rules) (kind : Kind) (pairs : List (List ℕ × List ℕ)) (i : ℕ) (p : List ℕ × List ℕ) (name : List ℕ)
+    → 0 < i → i ≤ length pairs → p ≡ get_or pairs (i - 1) p → name ≡ p.0 → has_field kind name ≡ false
+    → Some name ≡ first_unknown rules kind (drop (i - 1) pairs)
+told_unknown rules kind pairs i p name low high is is_name unknown =
+    told rules kind pairs i p name low high is is_name (not_known rules kind name unknown)
 
 -- ---- the entries of the table with their texts, one by one
 

@@ -61,6 +61,7 @@ several text is digits =
 pub AreCodes-from_shape : (rules : Rules) (text : List ℕ) → fits_shape (successors_shape rules) text ≡ true → list_any has_other_remainder (between_spaces text) ≡ false → AreCodes text
 AreCodes-from_shape Rules.First text = one text
 AreCodes-from_shape Rules.Second text = several text
+AreCodes-from_shape Rules.Third text = several text
 
 -- ---- reading them one after the other
 

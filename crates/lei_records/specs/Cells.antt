@@ -1,20 +1,23 @@
 -- Cells: what the rules ask of a table, by key. What a record has by its texts, and what a view answers.
-use Rattle.std.specs.Prelude.{ℤ, List, [], Bool, true, false, ◌&&◌, ◌||◌, if◌then◌else◌, Option, Some, None, unwrap_or, option_and_then, codes, slice_get, ⊤}
+use Rattle.std.specs.Prelude.{ℤ, List, [], Bool, true, false, ◌&&◌, ◌||◌, if◌then◌else◌, Option, Some, None, unwrap_or, option_and_then, codes, drop, slice_get, ⊤}
+use Rattle.std.specs.List.{list_all}
 use Rattle.std.specs.Option.{option_map_or}
 use Rattle.std.specs.Str.{bytes_eq}
 use Rattle.lei_code.specs.Texts.{Lei, Text}
 use Rattle.lei_shapes.specs.declared.lists.Category.{Category}
 use Rattle.lei_shapes.specs.declared.lists.EntityStatus.{EntityStatus}
+use Rattle.lei_shapes.specs.declared.lists.EventStatus.{EventStatus}
+use Rattle.lei_shapes.specs.declared.lists.EventType.{EventType}
 use Rattle.lei_shapes.specs.declared.lists.ExceptionCategory.{ExceptionCategory}
 use Rattle.lei_shapes.specs.declared.lists.RecordStatus.{RecordStatus}
 use Rattle.lei_shapes.specs.declared.lists.RelationType.{RelationType}
-use Rattle.lei_shapes.specs.Lists.{record_status_of, entity_status_of, category_of}
+use Rattle.lei_shapes.specs.Lists.{record_status_of, entity_status_of, category_of, event_type_of, event_status_of}
 use Rattle.lei_shapes.specs.Moment.{read_moment}
 use Rattle.lei_shapes.specs.Shape.{between_spaces}
 use Rattle.lei_records.specs.declared.view.RecCell.{RecCell}
 use Rattle.lei_records.specs.declared.view.RelCell.{RelCell}
 use Rattle.lei_records.specs.declared.view.Seen.{Seen}
-use Rattle.lei_records.specs.Places.{authority_id_place, authority_place, category_place, created_place, entity_status_place, initial_place, lei_place, manager_place, receiver_place, renewal_place, status_place, successor_place, updated_place}
+use Rattle.lei_records.specs.Places.{authority_id_place, authority_place, category_place, created_place, event_effective_place, entity_status_place, event_status_place, event_type_place, initial_place, lei_place, manager_place, places_before_event, receiver_place, event_recorded_place, renewal_place, status_place, successor_place, updated_place}
 use Rattle.lei_records.specs.Rows.{Row, text_at}
 use Rattle.lei_records.specs.Spelled.{is_absent, moment_in, present}
 
@@ -76,6 +79,26 @@ successor_in row = slice_get (successors_in row) 0
 -- The issuer that the record is handed over to.
 abbrev pub receiver_in : Row → Option Lei
 receiver_in row = present (text_at row receiver_place)
+
+-- What happens to the entity, where that is said.
+abbrev pub event_type_in : Row → Option EventType
+event_type_in row = option_and_then event_type_of (present (text_at row event_type_place))
+
+-- From when on that event has effect, where that is said.
+abbrev pub event_effective_in : Row → Option ℤ
+event_effective_in row = option_and_then read_moment (present (text_at row event_effective_place))
+
+-- When the event was recorded, where that is said.
+abbrev pub event_recorded_in : Row → Option ℤ
+event_recorded_in row = option_and_then read_moment (present (text_at row event_recorded_place))
+
+-- How far the event has come, where that is said.
+abbrev pub event_status_in : Row → Option EventStatus
+event_status_in row = option_and_then event_status_of (present (text_at row event_status_place))
+
+-- The record tells of no event: the fields of one, which are the last of a row, are absent.
+abbrev pub has_no_event : Row → Bool
+has_no_event row = list_all is_absent (drop places_before_event row)
 
 -- What the rules ask of a record that is held.
 abbrev pub rec_cell : Row → RecCell

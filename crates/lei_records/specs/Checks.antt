@@ -7,7 +7,7 @@ use Rattle.lei_records.specs.declared.check.Detail.{Detail}
 
 -- ---- what a check is called
 
--- The number of each check, and what it is called by. C01 to C04 are asked of the fields of each item, C05 to C20 of a
+-- The number of each check, and what it is called by. C01 to C04 are asked of the fields of each item, C05 to C22 of a
 -- record, C30 to C40 of a relationship, and C50 to C53 of an exception.
 abbrev pub check_names : List (ℕ × Text)
 check_names =
@@ -31,6 +31,8 @@ check_names =
     ∷ (18, codes "C18 SUCCESSOR_CHAIN_LONG")
     ∷ (19, codes "C19 AUTHORITY_KEY_TAKEN")
     ∷ (20, codes "C20 REGISTER_FULL")
+    ∷ (21, codes "C21 EVENT_INCOMPLETE")
+    ∷ (22, codes "C22 EVENT_DATES")
     ∷ (30, codes "C30 SAME_NODE")
     ∷ (31, codes "C31 PERIOD_ORDER")
     ∷ (32, codes "C32 START_UNKNOWN")
@@ -98,6 +100,11 @@ first_failing [] = None
 first_failing (finding ∷ findings) =
     if finding.fails then Some (record { number = finding.number; detail = finding.detail }) else
     first_failing findings
+
+-- A field that is absent is named.
+abbrev pub field_detail : Option Text → Detail
+field_detail None = Detail.None
+field_detail (Some name) = Detail.Field name
 
 -- An LEI that stands in the way is named.
 abbrev pub code_detail : Option Lei → Detail

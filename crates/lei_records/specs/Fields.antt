@@ -1,6 +1,6 @@
 -- The fields of the three kinds of items in order of place: how each is named, what it holds, and where it is needed.
 -- The names are those of the columns of a golden copy (level 1, level 2 and reporting exceptions), but for
--- Register.TransferTo and Action; what they hold and where they are needed is this project's profile.
+-- Register.TransferTo, those of an event and Action; what they hold and where they are needed is this project's profile.
 use Rattle.std.specs.Prelude.{ℕ, ◌-◌, List, [], ◌∷◌, map, take, slice_index_or, Bool, true, false, not, ◌||◌, codes}
 use Rattle.std.specs.Borrow.{Bor}
 use Rattle.std.specs.Str.{bytes_eq}
@@ -12,7 +12,7 @@ use Rattle.lei_records.specs.declared.fields.Content.{Content}
 use Rattle.lei_records.specs.declared.fields.Need.{Need}
 use Rattle.lei_records.specs.declared.fields.Facts.{Facts}
 use Rattle.lei_records.specs.declared.rules.Rules.{Rules}
-use Rattle.lei_records.specs.Places.{action_place, exception_places, record_places, relation_places}
+use Rattle.lei_records.specs.Places.{action_place, exception_places, places_before_event, record_places, relation_places}
 
 -- A field: its name, what it holds, and where it is needed.
 abbrev pub Field : Type 0
@@ -22,7 +22,7 @@ Field = Text × Content × Need
 abbrev pub read_field : Bor Text × Content × Need → Field
 read_field field = (field.0.now, field.1, field.2)
 
--- The 28 fields of a record in order of place.
+-- The 32 fields of a record in order of place.
 unfoldable pub fields : List Field
 fields =
     (codes "LEI", Content.Shaped Shape.Code, Need.Always)
@@ -53,6 +53,10 @@ fields =
     ∷ (codes "Registration.ManagingLOU", Content.Shaped Shape.Code, Need.Always)
     ∷ (codes "Registration.ValidationSources", Content.Shaped Shape.Validation, Need.Always)
     ∷ (codes "Register.TransferTo", Content.Shaped Shape.Code, Need.WherePendingArchival)
+    ∷ (codes "Entity.Event.1.Type", Content.Shaped Shape.EventType, Need.Optional)
+    ∷ (codes "Entity.Event.1.EffectiveDate", Content.Shaped Shape.Moment, Need.Optional)
+    ∷ (codes "Entity.Event.1.RecordedDate", Content.Shaped Shape.Moment, Need.Optional)
+    ∷ (codes "Entity.Event.1.Status", Content.Shaped Shape.EventStatus, Need.Optional)
     ∷ []
 
 -- The 11 fields of a relationship in order of place.
@@ -93,7 +97,23 @@ field_count Kind.Record = record_places
 field_count Kind.Relation = relation_places
 field_count Kind.Exception = action_place
 
--- How many of them, from the first, stand in a row: all but Action.
+-- How many of a record's fields, from the first, the rules know: those of an event come with the third rules.
+abbrev pub record_fields_known : Rules → ℕ
+record_fields_known Rules.First = places_before_event
+record_fields_known Rules.Second = places_before_event
+record_fields_known Rules.Third = record_places
+
+-- How many fields of a kind of item, from the first, the rules know.
+abbrev pub known_count : Rules → Kind → ℕ
+known_count rules Kind.Record = record_fields_known rules
+known_count rules Kind.Relation = relation_places
+known_count rules Kind.Exception = action_place
+
+-- The fields that the rules know.
+abbrev pub known_fields : Rules → Kind → List Field
+known_fields rules kind = take (known_count rules kind) (fields_of kind)
+
+-- How many fields, from the first, stand in a row: all but Action.
 abbrev pub row_len : Kind → ℕ
 row_len Kind.Record = record_places
 row_len Kind.Relation = relation_places
@@ -125,6 +145,7 @@ is_action text = bytes_eq text (codes "PUT") || bytes_eq text (codes "WITHDRAW")
 abbrev pub successors_shape : Rules → Shape
 successors_shape Rules.First = Shape.Code
 successors_shape Rules.Second = Shape.Codes
+successors_shape Rules.Third = Shape.Codes
 
 -- The text is one that the field can hold by these rules.
 abbrev pub fits_content : Rules → Content → Text → Bool

@@ -20,7 +20,7 @@ use Rattle.lei_records.specs.declared.item.Item.{Item}
 use Rattle.lei_records.specs.declared.item.Readied.{Readied}
 use Rattle.lei_records.specs.declared.rules.Rules.{Rules}
 use Rattle.lei_records.specs.Checks.{FailedCheck}
-use Rattle.lei_records.specs.Fields.{Field, fields_of, row_fields, codes_in, fits_content, is_needed, may_stand}
+use Rattle.lei_records.specs.Fields.{Field, fields_of, known_fields, row_fields, codes_in, fits_content, is_needed, may_stand}
 use Rattle.lei_records.specs.Names.{least, names}
 use Rattle.lei_records.specs.Rows.{Row}
 use Rattle.lei_records.specs.Spelled.{is_absent}
@@ -42,9 +42,9 @@ is_withdrawal pairs = bytes_eq (text_of pairs (codes "Action")) (codes "WITHDRAW
 abbrev pub facts_of : Rules → List (Text × Text) → Facts
 facts_of rules pairs = record { rules = rules; archival = is_archival pairs; withdrawal = is_withdrawal pairs }
 
--- The name is that of a field of this kind of item.
-abbrev pub is_field : Kind → Text → Bool
-is_field kind name = list_any (λ field. bytes_eq field.0 name) (fields_of kind)
+-- The name is that of a field of this kind of item that the rules know.
+abbrev pub is_field : Rules → Kind → Text → Bool
+is_field rules kind name = list_any (λ field. bytes_eq field.0 name) (known_fields rules kind)
 
 -- ---- what a check asks of a field and its text, in an item of these facts
 
@@ -68,8 +68,8 @@ has_wrong_digits field text = list_any has_other_remainder (codes_in field.1 tex
 -- ---- the checks, each with the name that it finds
 
 -- C01: the least name in byte order that is no field's of this kind.
-abbrev pub unknown_name : Kind → List (Text × Text) → Option Text
-unknown_name kind pairs = least (filter (λ name. not (is_field kind name)) (names pairs))
+abbrev pub unknown_name : Rules → Kind → List (Text × Text) → Option Text
+unknown_name rules kind pairs = least (filter (λ name. not (is_field rules kind name)) (names pairs))
 
 -- The first field by place of whose text the answer is yes.
 abbrev pub first_field : (Field → Text → Bool) → Kind → List (Text × Text) → Option Text
@@ -94,7 +94,7 @@ failed_field check name = record { number = check; detail = Detail.Field name }
 
 -- The first of the checks of its fields, in order of their numbers, that an item fails by these rules.
 unfoldable pub failed_check : Rules → Kind → List (Text × Text) → Option FailedCheck
-failed_check rules kind pairs = option_or (option_map (failed_field 1) (unknown_name kind pairs))
+failed_check rules kind pairs = option_or (option_map (failed_field 1) (unknown_name rules kind pairs))
     (option_or (option_map (failed_field 2) (missing_field rules kind pairs))
     (option_or (option_map (failed_field 3) (misshapen_field rules kind pairs))
     (option_map (failed_field 4) (miscoded_field kind pairs))))

@@ -6,9 +6,13 @@ use Rattle.lei_records.specs.declared.fields.Kind.{Kind}
 
 -- ---- of a record
 
--- The row of a record has 28 fields.
+-- The row of a record has 32 fields.
 abbrev pub record_places : ℕ
-record_places = 28
+record_places = 32
+
+-- How many of them come before those of an event, which are the last.
+abbrev pub places_before_event : ℕ
+places_before_event = 28
 
 -- Where the field LEI stands.
 abbrev pub lei_place : ℕ
@@ -61,6 +65,22 @@ manager_place = 26
 -- Where the field Register.TransferTo stands.
 abbrev pub receiver_place : ℕ
 receiver_place = 28
+
+-- Where the field Entity.Event.1.Type stands.
+abbrev pub event_type_place : ℕ
+event_type_place = 29
+
+-- Where the field Entity.Event.1.EffectiveDate stands.
+abbrev pub event_effective_place : ℕ
+event_effective_place = 30
+
+-- Where the field Entity.Event.1.RecordedDate stands.
+abbrev pub event_recorded_place : ℕ
+event_recorded_place = 31
+
+-- Where the field Entity.Event.1.Status stands.
+abbrev pub event_status_place : ℕ
+event_status_place = 32
 
 -- ---- of a relationship
 
@@ -147,7 +167,11 @@ named_places Kind.Record =
     ∷ (status_place, codes "Registration.RegistrationStatus")
     ∷ (renewal_place, codes "Registration.NextRenewalDate")
     ∷ (manager_place, codes "Registration.ManagingLOU")
-    ∷ (receiver_place, codes "Register.TransferTo") ∷ []
+    ∷ (receiver_place, codes "Register.TransferTo")
+    ∷ (event_type_place, codes "Entity.Event.1.Type")
+    ∷ (event_effective_place, codes "Entity.Event.1.EffectiveDate")
+    ∷ (event_recorded_place, codes "Entity.Event.1.RecordedDate")
+    ∷ (event_status_place, codes "Entity.Event.1.Status") ∷ []
 named_places Kind.Relation =
     (start_place, codes "Relationship.StartNode")
     ∷ (type_place, codes "Relationship.RelationshipType")

@@ -2,7 +2,7 @@
 use Rattle.std.specs.Prelude.{ℕ, ◌-◌, List, codes, ◌==◌, if◌then◌else◌, slice_index_or}
 use Rattle.lei_code.specs.Texts.{Text}
 
--- A row is the texts of the fields in order of place, 28 of a record, 11 of a relationship and 4 of an exception: the
+-- A row is the texts of the fields in order of place, 32 of a record, 11 of a relationship and 4 of an exception: the
 -- empty text where a field is absent, and moments in printed form.
 abbrev pub Row : Type 0
 Row = List Text

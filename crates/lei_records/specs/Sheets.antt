@@ -1,7 +1,7 @@
 -- The texts of an item in order of place, as the checks of its fields read them.
 use Rattle.std.specs.Prelude.{ℕ, List, map, codes, Bool, false, not, find, Option, Some, None, option_map}
 use Rattle.std.specs.Borrow.{Bor}
-use Rattle.std.specs.List.{zip}
+use Rattle.std.specs.List.{list_any, zip}
 use Rattle.std.specs.Option.{option_or}
 use Rattle.std.specs.Str.{bytes_eq}
 use Rattle.lei_code.specs.Texts.{Text}
@@ -25,9 +25,13 @@ read_texts texts = map (λ text. text.now) texts
 abbrev pub texts_of : Kind → List (Text × Text) → Row
 texts_of kind pairs = map (λ field. text_of pairs field.0) (fields_of kind)
 
--- The first name that is no field's of this kind. Of names that rise it is the least.
-abbrev pub first_unknown : Kind → List (Text × Text) → Option Text
-first_unknown kind pairs = find (λ name. not (is_field kind name)) (names pairs)
+-- A field of this kind has this name, whether the rules know it or not.
+abbrev pub has_field : Kind → Text → Bool
+has_field kind name = list_any (λ field. bytes_eq field.0 name) (fields_of kind)
+
+-- The first name that is no field's of this kind by these rules. Of names that rise it is the least.
+abbrev pub first_unknown : Rules → Kind → List (Text × Text) → Option Text
+first_unknown rules kind pairs = find (λ name. not (is_field rules kind name)) (names pairs)
 
 -- The status at this place is PENDING_ARCHIVAL.
 abbrev pub archival_at : ℕ → Row → Bool

@@ -4,11 +4,11 @@ use Rattle.std.specs.List.{All}
 use Rattle.lei_code.specs.Code.{IsValid}
 use Rattle.lei_code.specs.Texts.{Text}
 use Rattle.lei_shapes.specs.Clock.{moment_text}
-use Rattle.lei_shapes.specs.Lists.{record_status_of, entity_status_of, category_of, relation_type_of, relation_status_of, relation_registration_of, exception_category_of, reason_of}
+use Rattle.lei_shapes.specs.Lists.{record_status_of, entity_status_of, category_of, relation_type_of, relation_status_of, relation_registration_of, exception_category_of, reason_of, event_type_of, event_status_of}
 use Rattle.lei_shapes.specs.Moment.{read_moment}
 use Rattle.lei_shapes.specs.Shape.{are_different, between_spaces}
 use Rattle.lei_records.specs.declared.fields.Kind.{Kind}
-use Rattle.lei_records.specs.Places.{category_place, created_place, end_place, ended_place, entity_status_place, exception_category_place, exception_places, initial_place, lei_place, manager_place, reason_place, receiver_place, record_places, registration_place, relation_initial_place, relation_manager_place, relation_places, relation_status_place, relation_updated_place, renewal_place, start_place, started_place, status_place, subject_place, successor_place, type_place, updated_place}
+use Rattle.lei_records.specs.Places.{category_place, created_place, event_effective_place, end_place, ended_place, entity_status_place, event_status_place, event_type_place, exception_category_place, exception_places, initial_place, lei_place, manager_place, reason_place, receiver_place, record_places, event_recorded_place, registration_place, relation_initial_place, relation_manager_place, relation_places, relation_status_place, relation_updated_place, renewal_place, start_place, started_place, status_place, subject_place, successor_place, type_place, updated_place}
 use Rattle.lei_records.specs.Rows.{Row, text_at}
 
 -- An empty text counts as absent.
@@ -39,7 +39,7 @@ pub record AreCodes (text : Text) : Type 0 where
   pub different : IsTrue (are_different (between_spaces text))
 
 -- The row is that of a record. Each part of it that is more than a text can be read: an LEI by its check digits, a
--- value by its list, and a moment by its printed form. LEIs and a moment that need not stand may be absent.
+-- value by its list, and a moment by its printed form. What need not stand may be absent.
 pub record IsRow (row : Row) : Type 0 where
   pub places : length row ≡ record_places
   pub lei : IsValid (text_at row lei_place)
@@ -53,6 +53,10 @@ pub record IsRow (row : Row) : Type 0 where
   pub renewal : IsPrinted (text_at row renewal_place)
   pub manager : IsValid (text_at row manager_place)
   pub transfer_to : IfSome (present (text_at row receiver_place)) IsValid
+  pub event_type : IfSome (present (text_at row event_type_place)) (IsListed event_type_of)
+  pub effective : IfSome (present (text_at row event_effective_place)) IsPrinted
+  pub recorded : IfSome (present (text_at row event_recorded_place)) IsPrinted
+  pub event_status : IfSome (present (text_at row event_status_place)) (IsListed event_status_of)
 
 -- The row is that of a relationship.
 pub record IsRelationRow (row : Row) : Type 0 where

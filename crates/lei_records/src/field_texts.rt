@@ -12,7 +12,7 @@ use std::alloc::Global;
 use std::fmt;
 use std::marker::Model;
 
-/// The texts of a row's fields: at most 28, one behind the other in one piece of memory of at most 65,535 bytes.
+/// The texts of a row's fields: at most 32, one behind the other in one piece of memory of at most 65,535 bytes.
 /// Contracts see the list of them, each by its UTF-8 bytes.
 #[derive(Drop)]
 pub struct FieldTexts {
@@ -48,7 +48,7 @@ impl FieldTexts {
     }
 
     /// Puts a text behind the others. Where they have more than 65,535 bytes then, it is `NoMemory`; an item that
-    /// passed its checks has at most 28 fields of 2,000 bytes.
+    /// passed its checks has at most 32 fields of 2,000 bytes.
     pub fn push(&mut self, text: &str) -> Result<(), NoMemory>
         requires { length self.old < record_places }
         ensures ok { OnOk result (self.new ≡ self.old ++ text.now ∷ []) }

@@ -2,7 +2,9 @@ ghost use Rattle.std.specs.Prelude.{◌≡◌, map};
 ghost use Rattle.lei_records.specs.Fields;
 ghost use Rattle.lei_records.specs.Fields.{is_needed, may_stand, read_field};
 
-use crate::places::{ACTION, EXCEPTION_PLACES, RECORD_PLACES, RELATION_PLACES};
+use crate::places::{
+    ACTION, EXCEPTION_PLACES, PLACES_BEFORE_EVENT, RECORD_PLACES, RELATION_PLACES,
+};
 use crate::rules::Rules;
 use crate::tables;
 use lei_shapes::{Shape, fits};
@@ -83,6 +85,18 @@ impl Kind {
         }
     }
 
+    /// How many of them, from the first, the rules know.
+    pub fn known_count(self, rules: Rules) -> usize
+        ensures { result ≡ Fields.known_count rules self }
+    {
+        match (self, rules) {
+            (Kind::Record, Rules::First | Rules::Second) => PLACES_BEFORE_EVENT,
+            (Kind::Record, Rules::Third) => RECORD_PLACES,
+            (Kind::Relation, _) => RELATION_PLACES,
+            (Kind::Exception, _) => ACTION,
+        }
+    }
+
     /// How many of them stand in its row.
     pub fn row_len(self) -> usize
         ensures { result ≡ Fields.row_len self }
@@ -135,6 +149,6 @@ fn successors_shape(rules: Rules) -> Shape
 {
     match rules {
         Rules::First => Shape::Code,
-        Rules::Second => Shape::Codes,
+        Rules::Second | Rules::Third => Shape::Codes,
     }
 }

@@ -4,7 +4,7 @@ ghost use Rattle.std.specs.List.{list_all};
 ghost use Rattle.lei_code.specs.Texts.{Text};
 ghost use Rattle.lei_records.specs.declared.fields.Kind.{Kind};
 ghost use Rattle.lei_records.specs.declared.rules.Rules.{Rules};
-ghost use Rattle.lei_records.specs.Cells.{successors_in};
+ghost use Rattle.lei_records.specs.Cells.{has_no_event, successors_in};
 ghost use Rattle.lei_records.specs.Fields.{has_name};
 ghost use Rattle.lei_records.specs.Items.{IsRowOf, failed_check, row_of};
 ghost use Rattle.lei_records.specs.Places.{named_places};
@@ -18,6 +18,14 @@ pub fn places_have_their_fields()
 pub fn good_items_have_rows()
     ensures { (rules : Rules) (kind : Kind) (pairs : List (Text × Text)) → failed_check rules kind pairs ≡ None
         → IsRowOf kind (row_of kind pairs) }
+{}
+
+/// A record that passes its checks by the first or the second rules tells of no event.
+pub fn events_come_with_the_third_rules()
+    ensures first { (pairs : List (Text × Text)) → failed_check Rules.First Kind.Record pairs ≡ None
+        → IsTrue (has_no_event (row_of Kind.Record pairs)) }
+    ensures second { (pairs : List (Text × Text)) → failed_check Rules.Second Kind.Record pairs ≡ None
+        → IsTrue (has_no_event (row_of Kind.Record pairs)) }
 {}
 
 /// A record that passes its checks by the first rules names at most one successor.

@@ -27,7 +27,11 @@ pub use exception::ExceptionItem;
 pub use field_texts::FieldTexts;
 pub use fields::{Content, Facts, Field, Kind, Need};
 pub use item::{Fields, Item, RawItem, Readied, Upload};
-pub use laws::{first_rules_name_one_successor, good_items_have_rows, places_have_their_fields};
+pub use laws::{
+    events_come_with_the_third_rules, first_rules_name_one_successor, good_items_have_rows,
+    places_have_their_fields,
+};
+pub use lei_shapes::{EventStatus, EventType};
 pub use readying::{ready, ready_by};
 pub use record::Record;
 pub use relation::Relation;

@@ -60,6 +60,12 @@ pub const AUTHORITY_KEY_TAKEN: u8 = 19;
 /// C20: there is no room for a further record.
 pub const REGISTER_FULL: u8 = 20;
 
+/// C21: an event lacks its type, when it was recorded, or its status. It tells the first of these fields that is absent.
+pub const EVENT_INCOMPLETE: u8 = 21;
+
+/// C22: an event was recorded on a day after today, or is completed and its effective date is absent or on such a day.
+pub const EVENT_DATES: u8 = 22;
+
 /// C30: start and end are equal.
 pub const SAME_NODE: u8 = 30;
 

@@ -1,7 +1,10 @@
 //! The places of fields in a row, counted from 1, and how many fields a row has.
 
 // Of a record.
-pub const RECORD_PLACES: usize = 28;
+pub const RECORD_PLACES: usize = 32;
+
+// How many of them come before those of an event.
+pub const PLACES_BEFORE_EVENT: usize = 28;
 
 pub const LEI: usize = 1;
 
@@ -28,6 +31,14 @@ pub const RENEWAL: usize = 25;
 pub const MANAGER: usize = 26;
 
 pub const TRANSFER_TO: usize = 28;
+
+pub const EVENT_TYPE: usize = 29;
+
+pub const EVENT_EFFECTIVE: usize = 30;
+
+pub const EVENT_RECORDED: usize = 31;
+
+pub const EVENT_STATUS: usize = 32;
 
 // Of a relationship.
 pub const RELATION_PLACES: usize = 11;

@@ -7,7 +7,7 @@ ghost use Rattle.lei_records.specs.Spelled.{IsPrinted, moment_in, present};
 
 use crate::field_texts::FieldTexts;
 use crate::places::RECORD_PLACES;
-use crate::texts::{moment_at, text_at};
+use crate::texts::{moment_at, present_moment_at, text_at};
 use lei_outside::NoMemory;
 use lei_shapes::Moment;
 use std::alloc::Global;
@@ -93,7 +93,7 @@ impl Printed {
         }
         match self.read_at(place) {
             Some(moment) => Some(moment),
-            None => Moment::read(text_at(&self.texts, place)),
+            None => present_moment_at(&self.texts, place),
         }
     }
 

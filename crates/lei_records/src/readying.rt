@@ -8,8 +8,7 @@ ghost use Rattle.lei_records.specs.Checks.{IsNumber};
 ghost use Rattle.lei_shapes.specs.Shape.{between_spaces};
 ghost use Rattle.lei_records.specs.Fields.{codes_in, field_count, read_field};
 ghost use Rattle.lei_records.specs.Items;
-ghost use Rattle.lei_records.specs.RuleNumbers.{rules_of};
-ghost use Rattle.lei_records.specs.declared.rules.Rules.{Rules};
+ghost use Rattle.lei_records.specs.RuleNumbers.{newest, rules_of};
 ghost use Rattle.lei_records.specs.Items.{failed_check, failed_field, ready_as};
 ghost use Rattle.lei_records.specs.Places.{record_places};
 ghost use Rattle.lei_records.specs.Sheets;
@@ -35,16 +34,16 @@ use std::alloc::Global;
 
 /// Asks the checks of an item's fields by the newest rules, as [`ready_by`] does.
 pub fn ready(alloc: Global, raw: &RawItem) -> Result<Readied, NoMemory>
-    ensures { IfOk result (λ item. item ≡ Items.ready Rules.Second raw.now) }
+    ensures { IfOk result (λ item. item ≡ Items.ready newest raw.now) }
 {
-    ready_by(alloc, 2, raw)
+    ready_by(alloc, 3, raw)
 }
 
 /// Asks the checks of an item's fields by the rules of this number, in order of their numbers, up to the first that
 /// fails. Each name is looked up once, and each text of a row is copied once.
 pub fn ready_by(alloc: Global, rules: u16, raw: &RawItem) -> Result<Readied, NoMemory>
     requires first { 1 ≤ rules }
-    requires last { rules ≤ 2 }
+    requires last { rules ≤ 3 }
     ensures { IfOk result (λ item. item ≡ Items.ready (rules_of rules) raw.now) }
 {
     let rules = Rules::numbered(rules);
@@ -61,7 +60,7 @@ fn by_names(alloc: Global, rules: Rules, kind: Kind, fields: &Fields) -> Result<
     ensures { IfOk result (λ item. item ≡ ready_as rules kind fields.now) }
 {
     let _rising = fields.len();
-    let sheet = sheet_of(kind, fields);
+    let sheet = sheet_of(rules, kind, fields);
     match sheet.unknown {
         Some(name) => bad(alloc, FIELD_UNKNOWN, name),
         None => by_presence(alloc, rules, kind, &sheet.texts[..kind.field_count()]),

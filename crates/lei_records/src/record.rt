@@ -8,15 +8,15 @@ use crate::field_texts::FieldTexts;
 use crate::places;
 use crate::printed::Printed;
 use crate::successors::Successors;
-use crate::texts::{code_at, present_code_at, successors_at, text_at};
+use crate::texts::{code_at, present_code_at, present_moment_at, successors_at, text_at};
 use lei_code::Lei;
 use lei_outside::NoMemory;
-use lei_shapes::{Category, EntityStatus, Moment, RecordStatus};
+use lei_shapes::{Category, EntityStatus, EventStatus, EventType, Moment, RecordStatus};
 use std::alloc::Global;
 use std::marker::Model;
 use std::sync::Arc;
 
-/// A record of the register: a legal entity and its registration. Clauses see its row: its 28 texts in order of
+/// A record of the register: a legal entity and its registration. Clauses see its row: its 32 texts in order of
 /// place, where an absent field is the empty text and a moment stands in printed form.
 #[derive(Debug, Drop)]
 pub struct Record {
@@ -100,7 +100,7 @@ impl Record {
         &self.texts
     }
 
-    /// The text of a field, by its place from 1 to 28: the empty text where the field is absent.
+    /// The text of a field, by its place from 1 to 32: the empty text where the field is absent.
     pub fn field(&self, place: u8) -> &str
         requires first { 1 ≤ place }
         requires last { place ≤ record_places }
@@ -208,6 +208,42 @@ impl Record {
         ensures { result ≡ Cells.created_in self.now }
     {
         self.created
+    }
+
+    /// What happens to the entity: the field Entity.Event.1.Type.
+    pub fn event_type(&self) -> Option<EventType>
+        ensures { result ≡ Cells.event_type_in self.now }
+    {
+        let text = text_at(&self.texts, places::EVENT_TYPE);
+        if text.is_empty() {
+            return None;
+        }
+        EventType::read(text)
+    }
+
+    /// From when on that event has effect: the field Entity.Event.1.EffectiveDate.
+    pub fn event_effective(&self) -> Option<Moment>
+        ensures { result ≡ Cells.event_effective_in self.now }
+    {
+        present_moment_at(&self.texts, places::EVENT_EFFECTIVE)
+    }
+
+    /// When the event was recorded: the field Entity.Event.1.RecordedDate.
+    pub fn event_recorded(&self) -> Option<Moment>
+        ensures { result ≡ Cells.event_recorded_in self.now }
+    {
+        present_moment_at(&self.texts, places::EVENT_RECORDED)
+    }
+
+    /// How far the event has come: the field Entity.Event.1.Status.
+    pub fn event_status(&self) -> Option<EventStatus>
+        ensures { result ≡ Cells.event_status_in self.now }
+    {
+        let text = text_at(&self.texts, places::EVENT_STATUS);
+        if text.is_empty() {
+            return None;
+        }
+        EventStatus::read(text)
     }
 
     /// The record once more. It shares its texts, and takes no memory for them.

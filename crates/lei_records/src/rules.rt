@@ -10,19 +10,21 @@ pub enum Rules {
     First,
     /// A record names up to five successors.
     Second,
+    /// A record names up to five successors, and may tell of an event.
+    Third,
 }
 
 impl Rules {
     /// The rules of this number.
     pub fn numbered(number: u16) -> Rules
         requires first { 1 ≤ number }
-        requires last { number ≤ 2 }
+        requires last { number ≤ 3 }
         ensures { result ≡ rules_of number }
     {
-        if number == 1 {
-            Rules::First
-        } else {
-            Rules::Second
+        match number {
+            1 => Rules::First,
+            2 => Rules::Second,
+            _ => Rules::Third,
         }
     }
 }

@@ -1,13 +1,13 @@
-ghost use Rattle.std.specs.Prelude.{◌≡◌, ◌↔◌, ◌<◌, is_some, take, true, IfSome, IsTrue, slice_index_or};
+ghost use Rattle.std.specs.Prelude.{◌≡◌, ◌↔◌, ◌<◌, is_some, nat_lt, take, true, IfSome, IsTrue, Some, if◌then◌else◌, slice_index_or};
 ghost use Rattle.std.specs.Option.{option_copied};
-ghost use Rattle.lei_records.specs.Items.{is_field};
-ghost use Rattle.lei_records.specs.Fields.{field_count, names_of};
+ghost use Rattle.lei_records.specs.Fields.{field_count, known_count, names_of};
 ghost use Rattle.lei_records.specs.Places.{record_places};
-ghost use Rattle.lei_records.specs.Sheets.{first_unknown, read_texts, texts_of};
+ghost use Rattle.lei_records.specs.Sheets.{first_unknown, has_field, read_texts, texts_of};
 
 use crate::fields::Kind;
 use crate::item::Fields;
 use crate::places::RECORD_PLACES;
+use crate::rules::Rules;
 use crate::tables;
 
 // What an item has under the names of fields, and the name that it should not have.
@@ -15,14 +15,14 @@ use crate::tables;
 pub struct Sheet<'a> {
     // The texts of the fields in order of place: the empty text where a field is absent, and behind the last field.
     pub texts: [&'a str; RECORD_PLACES],
-    // The first name that is no field's.
+    // The first name that is no field's by the rules.
     pub unknown: Option<&'a str>,
 }
 
 // Puts each text at the place of its name. From the last field to the first, so that the first stands.
-pub fn sheet_of(kind: Kind, fields: &Fields) -> Sheet<'_>
+pub fn sheet_of(rules: Rules, kind: Kind, fields: &Fields) -> Sheet<'_>
     ensures texts { take (field_count kind) (read_texts result.texts) ≡ texts_of kind fields.now }
-    ensures unknown { option_copied result.unknown ≡ first_unknown kind fields.now }
+    ensures unknown { option_copied result.unknown ≡ first_unknown rules kind fields.now }
 {
     let mut texts = [""; RECORD_PLACES];
     let mut unknown = None;
@@ -34,6 +34,7 @@ pub fn sheet_of(kind: Kind, fields: &Fields) -> Sheet<'_>
             Some(at) => {
                 texts[at] = text;
                 near = index_before(kind, at);
+                unknown = or_later(rules, kind, at, name, unknown);
             }
             None => unknown = Some(name),
         }
@@ -41,10 +42,28 @@ pub fn sheet_of(kind: Kind, fields: &Fields) -> Sheet<'_>
     Sheet { texts, unknown }
 }
 
+// The name of the field at an index where the rules don't know that field yet, and else what was found before.
+fn or_later<'a>(
+    rules: Rules,
+    kind: Kind,
+    index: usize,
+    name: &'a str,
+    unknown: Option<&'a str>,
+) -> Option<&'a str>
+    ensures { option_copied result
+        ≡ (if nat_lt index (known_count rules kind) then option_copied unknown.entry else Some name.now) }
+{
+    if index < kind.known_count(rules) {
+        unknown
+    } else {
+        Some(name)
+    }
+}
+
 // The index of the field with this name. It is looked for first at an index that is likely, and at the one whose name
 // comes before in byte order.
 fn index_of(kind: Kind, name: &str, near: usize) -> Option<usize>
-    ensures known { is_some result ≡ is_field kind name.now }
+    ensures known { is_some result ≡ has_field kind name.now }
     ensures index { IfSome result
         (λ index. (index < field_count kind) × (slice_index_or (names_of kind) index name.now ≡ name.now)) }
     ensures bound { IfSome result (λ index. index < record_places) }
@@ -61,7 +80,7 @@ fn index_of(kind: Kind, name: &str, near: usize) -> Option<usize>
 
 // Whether the field at an index has this name.
 fn is_at(kind: Kind, name: &str, index: usize) -> bool
-    ensures known { IsTrue result → is_field kind name.now ≡ true }
+    ensures known { IsTrue result → has_field kind name.now ≡ true }
     ensures index { IsTrue result → index < field_count kind }
     ensures name { IsTrue result → slice_index_or (names_of kind) index name.now ≡ name.now }
     ensures bound { IsTrue result → index < record_places }
@@ -79,7 +98,7 @@ fn is_same(one: &str, other: &str) -> bool
 
 // The index of the field with this name, looked for among all.
 fn search(kind: Kind, name: &str) -> Option<usize>
-    ensures known { is_some result ≡ is_field kind name.now }
+    ensures known { is_some result ≡ has_field kind name.now }
     ensures index { IfSome result
         (λ index. (index < field_count kind) × (slice_index_or (names_of kind) index name.now ≡ name.now)) }
     ensures bound { IfSome result (λ index. index < record_places) }

@@ -1,6 +1,7 @@
 //! What the texts of a row spell, by place.
-ghost use Rattle.std.specs.Prelude.{◌≡◌, ◌≤◌, length, IfSome};
+ghost use Rattle.std.specs.Prelude.{◌≡◌, ◌≤◌, length, IfSome, option_and_then};
 ghost use Rattle.lei_code.specs.Code.{IsValid};
+ghost use Rattle.lei_shapes.specs.Moment.{read_moment};
 ghost use Rattle.lei_shapes.specs.Shape.{between_spaces};
 ghost use Rattle.lei_records.specs.Cells.{successors_in};
 ghost use Rattle.lei_records.specs.Rows.{text_at};
@@ -76,6 +77,19 @@ fn codes_in(text: &[u8]) -> Successors
         left = rest;
     }
     codes
+}
+
+// The moment that the text at a place reads as, and none where the text is absent.
+pub fn present_moment_at(texts: &FieldTexts, place: usize) -> Option<Moment>
+    requires first { 1 ≤ place }
+    requires last { place ≤ length texts.now }
+    ensures { result ≡ option_and_then read_moment (present (text_at texts.now place)) }
+{
+    let text = text_at(texts, place);
+    if text.is_empty() {
+        return None;
+    }
+    Moment::read(text)
 }
 
 // The moment that the text at a place reads as.

@@ -9,7 +9,9 @@ use Rattle.lei_shapes.specs.declared.lists.RelationStatus.{RelationStatus}
 use Rattle.lei_shapes.specs.declared.lists.RelationRegistration.{RelationRegistration}
 use Rattle.lei_shapes.specs.declared.lists.ExceptionCategory.{ExceptionCategory}
 use Rattle.lei_shapes.specs.declared.lists.Reason.{Reason}
-use Rattle.lei_shapes.specs.Lists.{record_status_text, record_status_of, entity_status_text, entity_status_of, category_text, category_of, validation_text, validation_of, relation_type_text, relation_type_of, relation_status_text, relation_status_of, relation_registration_text, relation_registration_of, exception_category_text, exception_category_of, reason_text, reason_of}
+use Rattle.lei_shapes.specs.declared.lists.EventType.{EventType}
+use Rattle.lei_shapes.specs.declared.lists.EventStatus.{EventStatus}
+use Rattle.lei_shapes.specs.Lists.{record_status_text, record_status_of, entity_status_text, entity_status_of, category_text, category_of, validation_text, validation_of, relation_type_text, relation_type_of, relation_status_text, relation_status_of, relation_registration_text, relation_registration_of, exception_category_text, exception_category_of, reason_text, reason_of, event_type_text, event_type_of, event_status_text, event_status_of}
 
 pub record_status_of-text : (value : RecordStatus) → record_status_of (record_status_text value) ≡ Some value
 record_status_of-text RecordStatus.Issued = refl
@@ -73,3 +75,18 @@ reason_of-text Reason.BindingLegalCommitments = refl
 reason_of-text Reason.LegalObstacles = refl
 reason_of-text Reason.DisclosureDetrimental = refl
 reason_of-text Reason.DetrimentNotExcluded = refl
+
+pub event_type_of-text : (value : EventType) → event_type_of (event_type_text value) ≡ Some value
+event_type_of-text EventType.ChangeLegalName = refl
+event_type_of-text EventType.ChangeLegalAddress = refl
+event_type_of-text EventType.ChangeHqAddress = refl
+event_type_of-text EventType.ChangeLegalForm = refl
+event_type_of-text EventType.Merger = refl
+event_type_of-text EventType.Liquidation = refl
+event_type_of-text EventType.Dissolution = refl
+event_type_of-text EventType.Bankruptcy = refl
+
+pub event_status_of-text : (value : EventStatus) → event_status_of (event_status_text value) ≡ Some value
+event_status_of-text EventStatus.InProgress = refl
+event_status_of-text EventStatus.Completed = refl
+event_status_of-text EventStatus.WithdrawnCancelled = refl

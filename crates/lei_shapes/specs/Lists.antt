@@ -11,6 +11,8 @@ use Rattle.lei_shapes.specs.declared.lists.RelationStatus.{RelationStatus}
 use Rattle.lei_shapes.specs.declared.lists.RelationRegistration.{RelationRegistration}
 use Rattle.lei_shapes.specs.declared.lists.ExceptionCategory.{ExceptionCategory}
 use Rattle.lei_shapes.specs.declared.lists.Reason.{Reason}
+use Rattle.lei_shapes.specs.declared.lists.EventType.{EventType}
+use Rattle.lei_shapes.specs.declared.lists.EventStatus.{EventStatus}
 
 -- The first of the values that has this text, if one does.
 abbrev pub named : {V : Type 0} → (V → Text) → List V → Text → Option V
@@ -193,3 +195,40 @@ reasons =
 -- The reason that a text writes, if it does.
 abbrev pub reason_of : Text → Option Reason
 reason_of = named reason_text reasons
+
+-- How the type of a legal entity's event is written.
+abbrev pub event_type_text : EventType → Text
+event_type_text EventType.ChangeLegalName = codes "CHANGE_LEGAL_NAME"
+event_type_text EventType.ChangeLegalAddress = codes "CHANGE_LEGAL_ADDRESS"
+event_type_text EventType.ChangeHqAddress = codes "CHANGE_HQ_ADDRESS"
+event_type_text EventType.ChangeLegalForm = codes "CHANGE_LEGAL_FORM"
+event_type_text EventType.Merger = codes "MERGER"
+event_type_text EventType.Liquidation = codes "LIQUIDATION"
+event_type_text EventType.Dissolution = codes "DISSOLUTION"
+event_type_text EventType.Bankruptcy = codes "BANKRUPTCY"
+
+-- Each type of an event that there is.
+abbrev pub event_types : List EventType
+event_types =
+    EventType.ChangeLegalName ∷ EventType.ChangeLegalAddress ∷ EventType.ChangeHqAddress
+    ∷ EventType.ChangeLegalForm ∷ EventType.Merger ∷ EventType.Liquidation
+    ∷ EventType.Dissolution ∷ EventType.Bankruptcy ∷ []
+
+-- The type of an event that a text writes, if it does.
+abbrev pub event_type_of : Text → Option EventType
+event_type_of = named event_type_text event_types
+
+-- How it is written how far an event has come.
+abbrev pub event_status_text : EventStatus → Text
+event_status_text EventStatus.InProgress = codes "IN_PROGRESS"
+event_status_text EventStatus.Completed = codes "COMPLETED"
+event_status_text EventStatus.WithdrawnCancelled = codes "WITHDRAWN_CANCELLED"
+
+-- Each status of an event that there is.
+abbrev pub event_statuses : List EventStatus
+event_statuses =
+    EventStatus.InProgress ∷ EventStatus.Completed ∷ EventStatus.WithdrawnCancelled ∷ []
+
+-- The status of an event that a text writes, if it does.
+abbrev pub event_status_of : Text → Option EventStatus
+event_status_of = named event_status_text event_statuses

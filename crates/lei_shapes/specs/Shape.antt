@@ -7,7 +7,7 @@ use Rattle.std.specs.List.{list_all, list_any, starts_with}
 use Rattle.std.specs.Str.{bytes_eq}
 use Rattle.lei_code.specs.Texts.{Lei, Text}
 use Rattle.lei_shapes.specs.declared.shapes.Shape.{Shape}
-use Rattle.lei_shapes.specs.Lists.{record_status_of, entity_status_of, category_of, validation_of, relation_type_of, relation_status_of, relation_registration_of, exception_category_of, reason_of}
+use Rattle.lei_shapes.specs.Lists.{record_status_of, entity_status_of, category_of, validation_of, relation_type_of, relation_status_of, relation_registration_of, exception_category_of, reason_of, event_type_of, event_status_of}
 use Rattle.lei_shapes.specs.Moment.{read_moment}
 
 -- The byte is one of `0` to `9` and `A` to `Z`.
@@ -100,3 +100,5 @@ fits_shape Shape.RelationStatus text = is_some (relation_status_of text)
 fits_shape Shape.RelationRegistration text = is_some (relation_registration_of text)
 fits_shape Shape.ExceptionCategory text = is_some (exception_category_of text)
 fits_shape Shape.Reason text = is_some (reason_of text)
+fits_shape Shape.EventType text = is_some (event_type_of text)
+fits_shape Shape.EventStatus text = is_some (event_status_of text)

@@ -1,6 +1,6 @@
 //! Laws of the definitions that the contracts cite, each as the contract of an empty function.
 ghost use Rattle.std.specs.Prelude.{◌≡◌, ℤ, Some};
-ghost use Rattle.lei_shapes.specs.Lists.{ReadsBack, HasTextEach, record_status_text, record_status_of, entity_status_text, entity_status_of, category_text, category_of, validation_text, validation_of, relation_type_text, relation_type_of, relation_status_text, relation_status_of, relation_registration_text, relation_registration_of, exception_category_text, exception_category_of, reason_text, reason_of};
+ghost use Rattle.lei_shapes.specs.Lists.{ReadsBack, HasTextEach, record_status_text, record_status_of, entity_status_text, entity_status_of, category_text, category_of, validation_text, validation_of, relation_type_text, relation_type_of, relation_status_text, relation_status_of, relation_registration_text, relation_registration_of, exception_category_text, exception_category_of, reason_text, reason_of, event_type_text, event_type_of, event_status_text, event_status_of};
 ghost use Rattle.lei_shapes.specs.Moment.{IsMoment, IsShown, read_moment};
 ghost use Rattle.lei_shapes.specs.Clock.{moment_text};
 
@@ -22,6 +22,8 @@ pub fn value_texts_read_back()
     ensures relation_registration { ReadsBack relation_registration_text relation_registration_of }
     ensures exception_category { ReadsBack exception_category_text exception_category_of }
     ensures reason { ReadsBack reason_text reason_of }
+    ensures event_type { ReadsBack event_type_text event_type_of }
+    ensures event_status { ReadsBack event_status_text event_status_of }
 {}
 
 /// Two values of a list have two texts.
@@ -35,4 +37,6 @@ pub fn value_texts_differ()
     ensures relation_registration { HasTextEach relation_registration_text }
     ensures exception_category { HasTextEach exception_category_text }
     ensures reason { HasTextEach reason_text }
+    ensures event_type { HasTextEach event_type_text }
+    ensures event_status { HasTextEach event_status_text }
 {}

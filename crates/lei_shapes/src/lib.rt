@@ -11,8 +11,8 @@ mod shapes;
 pub use codes::cut_at_space;
 pub use laws::{moments_are_shown_and_read_back, value_texts_differ, value_texts_read_back};
 pub use lists::{
-    Category, EntityStatus, ExceptionCategory, Reason, RecordStatus, RelationRegistration,
-    RelationStatus, RelationType, Validation,
+    Category, EntityStatus, EventStatus, EventType, ExceptionCategory, Reason, RecordStatus,
+    RelationRegistration, RelationStatus, RelationType, Validation,
 };
 pub use moments::{Moment, day_number};
 pub use shapes::{Shape, fits, is_code};

@@ -384,3 +384,90 @@ impl Reason {
         }
     }
 }
+
+/// What happens to a legal entity. This project's profile.
+#[derive(Clone, Copy, Debug, PartialEq, Eq, Hash)]
+pub enum EventType {
+    ChangeLegalName,
+    ChangeLegalAddress,
+    ChangeHqAddress,
+    ChangeLegalForm,
+    Merger,
+    Liquidation,
+    Dissolution,
+    Bankruptcy,
+}
+
+impl EventType {
+    ghost use Rattle.lei_shapes.specs.Lists.{IsReadBy, event_type_text, event_type_of};
+
+    /// The value with this text, byte for byte.
+    pub fn read(text: &str) -> Option<EventType>
+        ensures reads { IsReadBy event_type_text text.now result }
+        ensures value { result ≡ event_type_of text.now }
+    {
+        match text {
+            "CHANGE_LEGAL_NAME" => Some(EventType::ChangeLegalName),
+            "CHANGE_LEGAL_ADDRESS" => Some(EventType::ChangeLegalAddress),
+            "CHANGE_HQ_ADDRESS" => Some(EventType::ChangeHqAddress),
+            "CHANGE_LEGAL_FORM" => Some(EventType::ChangeLegalForm),
+            "MERGER" => Some(EventType::Merger),
+            "LIQUIDATION" => Some(EventType::Liquidation),
+            "DISSOLUTION" => Some(EventType::Dissolution),
+            "BANKRUPTCY" => Some(EventType::Bankruptcy),
+            _ => None,
+        }
+    }
+
+    /// Its text.
+    pub fn text(self) -> &'static str
+        ensures { result.now ≡ event_type_text self }
+    {
+        match self {
+            EventType::ChangeLegalName => "CHANGE_LEGAL_NAME",
+            EventType::ChangeLegalAddress => "CHANGE_LEGAL_ADDRESS",
+            EventType::ChangeHqAddress => "CHANGE_HQ_ADDRESS",
+            EventType::ChangeLegalForm => "CHANGE_LEGAL_FORM",
+            EventType::Merger => "MERGER",
+            EventType::Liquidation => "LIQUIDATION",
+            EventType::Dissolution => "DISSOLUTION",
+            EventType::Bankruptcy => "BANKRUPTCY",
+        }
+    }
+}
+
+/// How far a legal entity's event has come. This project's profile.
+#[derive(Clone, Copy, Debug, PartialEq, Eq, Hash)]
+pub enum EventStatus {
+    InProgress,
+    Completed,
+    WithdrawnCancelled,
+}
+
+impl EventStatus {
+    ghost use Rattle.lei_shapes.specs.Lists.{IsReadBy, event_status_text, event_status_of};
+
+    /// The value with this text, byte for byte.
+    pub fn read(text: &str) -> Option<EventStatus>
+        ensures reads { IsReadBy event_status_text text.now result }
+        ensures value { result ≡ event_status_of text.now }
+    {
+        match text {
+            "IN_PROGRESS" => Some(EventStatus::InProgress),
+            "COMPLETED" => Some(EventStatus::Completed),
+            "WITHDRAWN_CANCELLED" => Some(EventStatus::WithdrawnCancelled),
+            _ => None,
+        }
+    }
+
+    /// Its text.
+    pub fn text(self) -> &'static str
+        ensures { result.now ≡ event_status_text self }
+    {
+        match self {
+            EventStatus::InProgress => "IN_PROGRESS",
+            EventStatus::Completed => "COMPLETED",
+            EventStatus::WithdrawnCancelled => "WITHDRAWN_CANCELLED",
+        }
+    }
+}

@@ -7,8 +7,8 @@ ghost use Rattle.lei_shapes.specs.Shape.{fits_shape, is_capital_or_digit, is_lan
 
 use crate::codes::are_codes;
 use crate::{
-    Category, EntityStatus, ExceptionCategory, Moment, Reason, RecordStatus, RelationRegistration,
-    RelationStatus, RelationType, Validation,
+    Category, EntityStatus, EventStatus, EventType, ExceptionCategory, Moment, Reason,
+    RecordStatus, RelationRegistration, RelationStatus, RelationType, Validation,
 };
 
 /// The shape of a field's text: one for each way in which texts are built, and one for each list of
@@ -43,6 +43,8 @@ pub enum Shape {
     RelationRegistration,
     ExceptionCategory,
     Reason,
+    EventType,
+    EventStatus,
 }
 
 /// Whether the text has the shape. Nothing is said of what the text means, as of check digits or of
@@ -69,6 +71,8 @@ pub fn fits(shape: Shape, text: &str) -> bool
         Shape::RelationRegistration => RelationRegistration::read(text).is_some(),
         Shape::ExceptionCategory => ExceptionCategory::read(text).is_some(),
         Shape::Reason => Reason::read(text).is_some(),
+        Shape::EventType => EventType::read(text).is_some(),
+        Shape::EventStatus => EventStatus::read(text).is_some(),
     }
 }
 

@@ -1,5 +1,6 @@
 //! The fields of a record in order of place. The names are those of the columns of a golden copy of
-//! level 1 data, but for the last one; shapes and needs are this project's profile.
+//! level 1 data, but for Register.TransferTo and those of an event; shapes and needs are this project's
+//! profile.
 use crate::fields::Content::Shaped;
 use crate::fields::{Content, Field, Need};
 use crate::places::RECORD_PLACES;
@@ -138,10 +139,30 @@ pub const FIELDS: [Field; RECORD_PLACES] = [
         Shaped(Shape::Code),
         Need::WherePendingArchival,
     ),
+    (
+        "Entity.Event.1.Type",
+        Shaped(Shape::EventType),
+        Need::Optional,
+    ),
+    (
+        "Entity.Event.1.EffectiveDate",
+        Shaped(Shape::Moment),
+        Need::Optional,
+    ),
+    (
+        "Entity.Event.1.RecordedDate",
+        Shaped(Shape::Moment),
+        Need::Optional,
+    ),
+    (
+        "Entity.Event.1.Status",
+        Shaped(Shape::EventStatus),
+        Need::Optional,
+    ),
 ];
 
 /// For each index that of the field whose name comes before in byte order. That of the first is any.
 pub const BEFORE: [u8; RECORD_PLACES] = [
-    20, 15, 1, 6, 10, 7, 4, 3, 11, 18, 12, 9, 8, 14, 2, 17, 0, 5, 19, 16, 13, 27, 21, 24, 25, 22,
-    23, 0,
+    20, 15, 1, 6, 10, 7, 4, 3, 11, 28, 12, 9, 8, 14, 2, 17, 0, 5, 19, 16, 13, 27, 21, 24, 25, 22,
+    23, 0, 31, 18, 29, 30,
 ];

@@ -11,9 +11,9 @@ returns-in-None c =
     let texts = c.sheet_of-sheet.result.texts in
     let same = ap (λ n. read_texts (take n texts)) c.field_count.ensures ∙ (sym (take-map (λ text. text.now) (field_count c.args.kind) texts) ∙ c.sheet_of-sheet.ensures.texts) in
     readied-by_place c.args.rules c.args.kind c.args.fields.now _ c.by_presence.result
-    (unknown_name-first c.args.kind c.args.fields.now c.len-rising.ensures.rising ∙ sym c.sheet_of-sheet.ensures.unknown ∙ ap option_copied c.in-None.is) same c.by_presence.ensures
+    (unknown_name-first c.args.rules c.args.kind c.args.fields.now c.len-rising.ensures.rising ∙ sym c.sheet_of-sheet.ensures.unknown ∙ ap option_copied c.in-None.is) same c.by_presence.ensures
 
 pub returns-in-Some : goal.returns-in-Some
 returns-in-Some c =
     bad_by_name c.args.rules c.args.kind c.args.fields.now _ c.bad.result
-    (unknown_name-first c.args.kind c.args.fields.now c.len-rising.ensures.rising ∙ (sym c.sheet_of-sheet.ensures.unknown ∙ ap option_copied c.in-Some.is)) c.bad.ensures
+    (unknown_name-first c.args.rules c.args.kind c.args.fields.now c.len-rising.ensures.rising ∙ (sym c.sheet_of-sheet.ensures.unknown ∙ ap option_copied c.in-Some.is)) c.bad.ensures

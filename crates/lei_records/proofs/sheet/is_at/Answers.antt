@@ -1,6 +1,6 @@
 use Rattle.std.proofs.Common.{rules}
 use Rattle.std.proofs.lemmas.Slice.Eq.{bytes_eq-Decides}
-use Rattle.lei_records.proofs.SheetLemmas.{below_28, field_found, within_count}
+use Rattle.lei_records.proofs.SheetLemmas.{below_places, field_found, within_count}
 use Rattle.lei_records.proofs.sheet.is_at.Goals as goal
 
 pub returns-then-index-table-clause-known : goal.returns-then-index-table-clause-known
@@ -15,4 +15,4 @@ returns-then-index-table-clause-name c is =
     (field_found c.args.kind c.fields-table.result.now c.fields-table.ensures.table c.args.index _ c.args.name.now (search rules) ((bytes_eq-Decides _ c.args.name.now).1 (c.is_same.ensures.0 is))).1
 
 pub returns-then-index-table-clause-bound : goal.returns-then-index-table-clause-bound
-returns-then-index-table-clause-bound c is = below_28 c.args.kind c.args.index (returns-then-index-table-clause-index c is)
+returns-then-index-table-clause-bound c is = below_places c.args.kind c.args.index (returns-then-index-table-clause-index c is)

@@ -1,5 +1,5 @@
 use Rattle.std.proofs.Common.{sym, ◌∙◌}
-use Rattle.lei_records.proofs.SheetLemmas.{below_28, field_found, no_field_found, within_count}
+use Rattle.lei_records.proofs.SheetLemmas.{below_places, field_found, no_field_found, within_count}
 use Rattle.lei_records.proofs.sheet.search.Goals as goal
 
 pub returns-then-eq-clause-known : goal.returns-then-eq-clause-known
@@ -14,7 +14,7 @@ returns-then-eq-clause-index c = (
 
 pub returns-then-eq-clause-bound : goal.returns-then-eq-clause-bound
 returns-then-eq-clause-bound c =
-    below_28 c.args.kind c.loop-index.index (within_count c.args.kind c.fields-table.result.now c.loop-index.index c.fields-table.ensures.table c.loop-index-test.true)
+    below_places c.args.kind c.loop-index.index (within_count c.args.kind c.fields-table.result.now c.loop-index.index c.fields-table.ensures.table c.loop-index-test.true)
 
 pub returns-clause-known : goal.returns-clause-known
 returns-clause-known c =

@@ -2,7 +2,7 @@ use Rattle.std.proofs.Common.{◌-◌, ◌≤◌, ◌<◌, length, drop, refl, s
 use Rattle.std.proofs.Math.Seq.{drop-length}
 use Rattle.lei_records.specs.Sheets.{first_unknown, texts_of}
 use Rattle.lei_records.proofs.PairLemmas.{pair_at}
-use Rattle.lei_records.proofs.SheetLemmas.{texts_of-none, placed_known, placed_unknown, told_known, told_unknown}
+use Rattle.lei_records.proofs.SheetLemmas.{texts_of-none, placed_known, placed_unknown, told_placed, told_unknown}
 use Rattle.lei_records.proofs.sheet.sheet_of.Goals as goal
 
 pub loop-index-init : goal.loop-index-init
@@ -10,7 +10,7 @@ loop-index-init c =
     let none = ap (λ n. drop n c.args.fields.now) c.len-index.ensures.value ∙ drop-length c.args.fields.now in
     record {
       texts = texts_of-none c.args.kind ∙ sym (ap (texts_of c.args.kind) none);
-      unknown = sym (ap (first_unknown c.args.kind) none);
+      unknown = sym (ap (first_unknown c.args.rules c.args.kind) none);
     }
 
 pub loop-index-preserved-in-Some : goal.loop-index-preserved-in-Some
@@ -25,8 +25,8 @@ loop-index-preserved-in-Some c =
     record {
       texts = placed_known c.args.kind pairs index (name, text.now) name c.in-Some.at text c.loop-index.texts
           c.loop-index-test.true bound pair refl refl c.in-Some.ensures.index.0 c.in-Some.ensures.index.1 c.loop-index.invariant.texts;
-      unknown = told_known c.args.kind pairs index (name, text.now) name _
-          c.loop-index-test.true bound pair refl (sym c.in-Some.ensures.known) c.loop-index.invariant.unknown;
+      unknown = told_placed c.args.rules c.args.kind pairs index (name, text.now) name c.in-Some.at _ _
+          c.loop-index-test.true bound pair refl c.in-Some.ensures.index.0 c.in-Some.ensures.index.1 c.or_later-unknown.ensures c.loop-index.invariant.unknown;
     }
 
 pub loop-index-preserved : goal.loop-index-preserved
@@ -41,6 +41,6 @@ loop-index-preserved c =
     record {
       texts = placed_unknown c.args.kind pairs index (name, text) name c.loop-index.texts
           c.loop-index-test.true bound pair refl (sym c.in-None.ensures.known) c.loop-index.invariant.texts;
-      unknown = told_unknown c.args.kind pairs index (name, text) name
+      unknown = told_unknown c.args.rules c.args.kind pairs index (name, text) name
           c.loop-index-test.true bound pair refl (sym c.in-None.ensures.known);
     }

@@ -8,5 +8,5 @@ use Rattle.lei_records.proofs.sheet.sheet_of.Given as goal
 abbrev pub invariant-loop-index : goal.invariant-loop-index
 invariant-loop-index l = record {
   texts : take (field_count l.kind) (read_texts l.texts) ≡ texts_of l.kind (drop l.index l.fields);
-  unknown : option_copied l.unknown ≡ first_unknown l.kind (drop l.index l.fields);
+  unknown : option_copied l.unknown ≡ first_unknown l.rules l.kind (drop l.index l.fields);
 }

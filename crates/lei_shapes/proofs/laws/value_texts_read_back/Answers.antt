@@ -1,4 +1,4 @@
-use Rattle.lei_shapes.proofs.ValueTexts.{record_status_of-text, entity_status_of-text, category_of-text, validation_of-text, relation_type_of-text, relation_status_of-text, relation_registration_of-text, exception_category_of-text, reason_of-text}
+use Rattle.lei_shapes.proofs.ValueTexts.{record_status_of-text, entity_status_of-text, category_of-text, validation_of-text, relation_type_of-text, relation_status_of-text, relation_registration_of-text, exception_category_of-text, reason_of-text, event_type_of-text, event_status_of-text}
 use Rattle.lei_shapes.proofs.laws.value_texts_read_back.Goals as goal
 
 pub returns-clause-record_status : goal.returns-clause-record_status
@@ -27,3 +27,9 @@ returns-clause-exception_category c = exception_category_of-text
 
 pub returns-clause-reason : goal.returns-clause-reason
 returns-clause-reason c = reason_of-text
+
+pub returns-clause-event_type : goal.returns-clause-event_type
+returns-clause-event_type c = event_type_of-text
+
+pub returns-clause-event_status : goal.returns-clause-event_status
+returns-clause-event_status c = event_status_of-text
