@@ -1,5 +1,5 @@
 -- Each check that is told on an upload's items is one: there is a check of its number.
-use Rattle.std.proofs.Common.{◌≡◌, ℕ, List, [], ◌∷◌, ◌++◌, map, true, false, cond, Option, Some, None, option_map, unwrap_or, refl, subst}
+use Rattle.std.proofs.Common.{◌≡◌, ℕ, List, [], ◌∷◌, ◌++◌, map, Bool, true, false, cond, Option, Some, None, option_map, unwrap_or, refl, subst, sym}
 use Rattle.std.specs.List.{All}
 use Rattle.std.specs.Prelude.{IfSome}
 use Rattle.std.specs.Option.{option_or}
@@ -9,7 +9,7 @@ use Rattle.lei_records.specs.Cells.{lei_in, successor_in, successors_in}
 use Rattle.lei_records.specs.Checks.{FailedCheck, Finding, IsNumber, first_failing}
 use Rattle.lei_records.specs.Items.{failed_check, failed_field, is_withdrawal, item_of, miscoded_field, misshapen_field, missing_field, ready, readied, row_of, unknown_name}
 use Rattle.lei_records.specs.Rows.{Row}
-use Rattle.lei_records.specs.Tables.{Table, other_holder, put_all, record_of}
+use Rattle.lei_records.specs.Tables.{Table, other_holder, put_all, record_count, record_of}
 use Rattle.lei_records.specs.declared.fields.Kind.{Kind}
 use Rattle.lei_records.specs.declared.item.Item.{Item}
 use Rattle.lei_records.specs.declared.item.RawItem.{RawItem}
@@ -17,7 +17,8 @@ use Rattle.lei_records.specs.declared.item.Readied.{Readied}
 use Rattle.lei_records.specs.declared.view.RecCell.{RecCell}
 use Rattle.lei_records.specs.declared.rules.Rules.{Rules}
 use Rattle.register_judge.specs.declared.sitting.Sitting.{Sitting}
-use Rattle.register_judge.specs.Checks.{c19, first_checks, held_checks, level_checks, limit_check, own_checks, successor_checks}
+use Rattle.register_judge.specs.Checks.{c19, c20, event_checks, first_checks, held_checks, last_checks, late_checks, level_checks, own_checks, successor_checks}
+use Rattle.register_judge.specs.Sittings.{is_at_limit}
 use Rattle.register_judge.specs.Taking.{item_checks, take, verdict, verdict_of, writes_of}
 use Rattle.answer_texts.specs.Answers.{IsTold}
 
@@ -59,6 +60,14 @@ levels-numbered table row (successor ∷ successors) = (refl, (refl, (refl, tt))
 successors-numbered : (rules : Rules) (table : Table) (row : Row) → AreNumbered (successor_checks rules table row)
 successors-numbered Rules.First table row = first-numbered-successor table row (successor_in row)
 successors-numbered Rules.Second table row = levels-numbered table row (successors_in row)
+successors-numbered Rules.Third table row = levels-numbered table row (successors_in row)
+
+late-numbered : (rules : Rules) (sitting : Sitting) (row : Row) (held : Option RecCell) (full : Bool) → sitting.rules ≡ rules → AreNumbered (late_checks sitting row held full)
+late-numbered rules sitting row held full is = (let P : Rules → Type 0 = λ r. AreNumbered (c20 held full ∷ event_checks r sitting.today row) in subst P (sym is) (by rules)) where
+  by : (rules : Rules) → AreNumbered (c20 held full ∷ event_checks rules sitting.today row)
+  by Rules.First = (refl, tt)
+  by Rules.Second = (refl, tt)
+  by Rules.Third = (refl, (refl, (refl, tt)))
 
 parts-numbered : (own held followed taken full : List Finding) → AreNumbered own → AreNumbered held → AreNumbered followed → AreNumbered taken → AreNumbered full
     → AreNumbered ((own ++ held ++ followed ++ taken) ++ full)
@@ -70,9 +79,9 @@ item-numbered : (table : Table) (sitting : Sitting) (item : Item) → AreNumbere
 item-numbered table sitting (Item.Record row) =
     let held = record_of table (lei_in row) in
     let taken = c19 (other_holder table row) row ∷ [] in
-    let full = limit_check table sitting row ∷ [] in
-    parts-numbered (own_checks sitting row) (held_checks held sitting row) (successor_checks sitting.rules table row) taken full
-    (refl, (refl, (refl, (refl, (refl, tt))))) (held-numbered held sitting row) (successors-numbered sitting.rules table row) (refl, tt) (refl, tt)
+    parts-numbered (own_checks sitting row) (held_checks held sitting row) (successor_checks sitting.rules table row) taken (last_checks table sitting row)
+    (refl, (refl, (refl, (refl, (refl, tt))))) (held-numbered held sitting row) (successors-numbered sitting.rules table row) (refl, tt)
+    (late-numbered sitting.rules sitting row held (is_at_limit sitting (record_count table)) refl)
 item-numbered table sitting (Item.Relation row) = (refl, (refl, (refl, (refl, (refl, (refl, (refl, (refl, (refl, (refl, (refl, tt)))))))))))
 item-numbered table sitting (Item.Exception item) = (refl, (refl, (refl, (refl, tt))))
 
@@ -96,7 +105,7 @@ last-numbered number (Some name) check numbered is =
 fields-numbered : (rules : Rules) (kind : Kind) (pairs : List (Text × Text)) (check : FailedCheck) → failed_check rules kind pairs ≡ Some check → IsNumber check.number
 unfolding failed_check
 fields-numbered rules kind pairs check is =
-    field-numbered 1 (unknown_name kind pairs) _ check refl
+    field-numbered 1 (unknown_name rules kind pairs) _ check refl
     (field-numbered 2 (missing_field rules kind pairs) _ check refl
     (field-numbered 3 (misshapen_field rules kind pairs) _ check refl (last-numbered 4 (miscoded_field kind pairs) check refl))) is
 

@@ -70,10 +70,11 @@ next_successors cells lei = successors_seen (cells.record_cell lei)
 abbrev pub level_walk : Cells → Lei → List Lei → List CellKey
 level_walk cells own successors = map CellKey.Rec (reached (known_nexts (next_successors cells)) own successors)
 
--- The cells of a record's walk: by the first rules from its one successor, and by the second ones by levels.
+-- The cells of a record's walk: by the first rules from its one successor, and by the later ones by levels.
 abbrev pub record_walk : Rules → Cells → Row → List CellKey
 record_walk Rules.First cells row = successor_walk cells (successor_in row)
 record_walk Rules.Second cells row = level_walk cells (lei_in row) (successors_in row)
+record_walk Rules.Third cells row = level_walk cells (lei_in row) (successors_in row)
 
 -- The cells of an item's walk by the rules: that of a record, and that of an active direct parent from its end.
 abbrev pub walk_cells : Rules → Cells → Readied → List CellKey

@@ -197,7 +197,7 @@ fn note_successors<V: View, W: View>(
 {
     match rules {
         Rules::First => note_chain(below, over, noted, item),
-        Rules::Second => note_levels(below, over, noted, item),
+        Rules::Second | Rules::Third => note_levels(below, over, noted, item),
     }
 }
 

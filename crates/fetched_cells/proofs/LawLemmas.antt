@@ -25,7 +25,7 @@ use Rattle.successor_rules.specs.Walks.{held, known}
 use Rattle.successor_rules.proofs.LevelLemmas.{has, own_text, same_text}
 use Rattle.relation_rules.specs.Checks.{is_direct_parent}
 use Rattle.relation_rules.specs.Needs.{exception_keys, relation_names}
-use Rattle.cell_reads.specs.Needs.{key_names, names, needs, next_successor, next_successors, parent_walk, record_names, record_walk, successor_names, successor_walk, walk_cells}
+use Rattle.cell_reads.specs.Needs.{level_walk, key_names, names, needs, next_successor, next_successors, parent_walk, record_names, record_walk, successor_names, successor_walk, walk_cells}
 use Rattle.fetched_cells.specs.Fetching.{LevelsEnd, brought, fetched_keys, nearest_records}
 use Rattle.fetched_cells.specs.Nearest.{nearest}
 use Rattle.fetched_cells.proofs.CloseLemmas.{NamedBy}
@@ -142,12 +142,17 @@ module _ (cells : Cells) (key : CellKey) where
       of_near row found.lei found.is (member_near nexts (lei_in row) (successors_in row) ended 200 (known (next_successor cells)) one_of_all
       first (first_has (successors_in row) first is) found.lei found.at)
 
+  of_levels : (row : Row) → spread_out nexts (lei_in row) (successors_in row) ≡ Walked.Ends
+      → Contains (level_walk cells (lei_in row) (successors_in row)) key → Contains (fetched_keys cells (record_names row)) key
+  of_levels row ended walked =
+      let found = record_of (reached nexts (lei_in row) (successors_in row)) key walked in
+      of_near row found.lei found.is (reached_near nexts (lei_in row) (successors_in row) ended found.lei found.at)
+
   of_record : (rules : Rules) (row : Row) → spread_out nexts (lei_in row) (successors_in row) ≡ Walked.Ends
       → Contains (record_walk rules cells row) key → Contains (fetched_keys cells (record_names row)) key
   of_record Rules.First row ended walked = of_chain row (successor_in row) refl ended walked
-  of_record Rules.Second row ended walked =
-      let found = record_of (reached nexts (lei_in row) (successors_in row)) key walked in
-      of_near row found.lei found.is (reached_near nexts (lei_in row) (successors_in row) ended found.lei found.at)
+  of_record Rules.Second row ended walked = of_levels row ended walked
+  of_record Rules.Third row ended walked = of_levels row ended walked
 
   of_relation : (row : Row) → Contains (parent_walk cells (end_in row)) key → Contains (fetched_keys cells (relation_names row)) key
   of_relation row walked =

@@ -32,7 +32,7 @@ use Rattle.lei_records.specs.declared.rules.Rules.{Rules}
 use Rattle.register_judge.specs.declared.sitting.Sitting.{Sitting}
 use Rattle.register_judge.specs.Checks.{c16, first_checks, level_checks, successor_checks}
 use Rattle.register_judge.specs.declared.outcome.Verdict.{Verdict}
-use Rattle.register_judge.specs.Fitting.{ItemFits, ItemsFit, RowFits, TableFits}
+use Rattle.register_judge.specs.Fitting.{EachRecord, EachRecordOf, IfRecord, ItemFits, ItemsFit, RowFits, TableFits}
 use Rattle.register_judge.specs.Taking.{item_checks, verdict_of, verdict, writes_of, take}
 use Rattle.register_judge.proofs.TakingLemmas.{put-written, successors_pass}
 
@@ -105,6 +105,7 @@ named_held : (rules : Rules) (table : Table) (row : Row) → RowFits rules row �
 named_held Rules.First table row fits passes next at =
     one_held table row (successor_in row) passes next (subst (λ leis. Contains leis next) (one_or_none (successors_in row) fits) at)
 named_held Rules.Second table row fits passes next at = levels_held table row (successors_in row) passes next at
+named_held Rules.Third table row fits passes next at = levels_held table row (successors_in row) passes next at
 
 stays_held : (table : Table) (row : Row) (lei : List ℕ) → IsSome (row_at table lei) → IsSome (row_at (put table (Item.Record row)) lei)
 stays_held table row lei held =
@@ -190,6 +191,7 @@ all_end : (rules : Rules) (table : Table) (row : Row) → TableFits rules table 
     → AllEnd (successors_of (put table (Item.Record row)))
 all_end Rules.First table row fits one chains passes = one_ends table row (successor_in row) fits one chains refl passes
 all_end Rules.Second table row fits one chains passes = levels_end table row (successors_in row) chains refl passes
+all_end Rules.Third table row fits one chains passes = levels_end table row (successors_in row) chains refl passes
 
 -- ---- a record, and items
 
@@ -200,20 +202,21 @@ chains-put rules table row fits one chains passes = record {
   ends = all_end rules table row fits one chains passes;
 }
 
--- a record that names one leaves records that name one
-name_one-put : (table : Table) (row : Row) → NameOne table → length (successors_in row) ≤ 1 → NameOne (put table (Item.Record row))
-name_one-put table row fits one lei other at =
+-- what is so of each record, and of a record that is put, is so of each then
+each-put : (P : Row → Type 0) (table : Table) (row : Row) → EachRecord P table → P row → EachRecord P (put table (Item.Record row))
+each-put P table row each own lei other at =
     let known : cond (bytes_eq lei (lei_in row)) (Some row) (row_at table lei) ≡ Some other = sym (row_at-put table row lei) ∙ at in
-    elim (bytes_eq lei (lei_in row)) as (λ b. cond b (Some row) (row_at table lei) ≡ Some other → length (successors_in other) ≤ 1) [
-      | true ↦ λ is. let same : row ≡ other = cc in subst (λ r. length (successors_in r) ≤ 1) same one
-      | false ↦ λ is. fits lei other is
+    elim (bytes_eq lei (lei_in row)) as (λ b. cond b (Some row) (row_at table lei) ≡ Some other → P other) [
+      | true ↦ λ is. let same : row ≡ other = cc in subst P same own
+      | false ↦ λ is. each lei other is
     ] known
 
 fits-put : (rules : Rules) (table : Table) (item : Item) → TableFits rules table → ItemFits rules (Readied.Good item) → TableFits rules (put table item)
-fits-put Rules.First table (Item.Record row) fits one = name_one-put table row fits one
+fits-put Rules.First table (Item.Record row) fits one = each-put (λ r. length (successors_in r) ≤ 1) table row fits one
 fits-put Rules.First table (Item.Relation row) fits one = fits
 fits-put Rules.First table (Item.Exception item) fits one = fits
 fits-put Rules.Second table item fits one = tt
+fits-put Rules.Third table item fits one = tt
 
 -- an accepted item leaves each successor held and each chain ending: a relationship and an exception leave the records
 accepted_chains : (table : Table) (sitting : Sitting) (item : Item) → TableFits sitting.rules table → ItemFits sitting.rules (Readied.Good item)
@@ -250,3 +253,23 @@ take-chains table sitting (Readied.Good item ∷ items) fits ones chains =
     let given = verdict table sitting (Readied.Good item) in
     take-chains (put_all (writes_of given (Readied.Good item)) table) sitting items (item_fits sitting.rules table item given fits ones.0) ones.1
     (item_chains table sitting item (first_failing (item_checks table sitting item)) fits ones.0 chains refl)
+
+-- ---- what each record has
+
+each-item : (P : Row → Type 0) (table : Table) (item : Item) → EachRecord P table → IfRecord P (Readied.Good item) → EachRecord P (put table item)
+each-item P table (Item.Record row) each own = each-put P table row each own
+each-item P table (Item.Relation row) each own = each
+each-item P table (Item.Exception item) each own = each
+
+each-written : (P : Row → Type 0) (table : Table) (item : Item) (given : Verdict) → EachRecord P table → IfRecord P (Readied.Good item)
+    → EachRecord P (put_all (writes_of given (Readied.Good item)) table)
+each-written P table item Verdict.Accepted each own = put-written (EachRecord P) table item (each-item P table item each own)
+each-written P table item (Verdict.Rejected check) each own = each
+
+pub take-each : (P : Row → Type 0) (table : Table) (sitting : Sitting) (items : List Readied) → EachRecord P table → EachRecordOf P items
+    → EachRecord P (take table sitting items).table
+take-each P table sitting [] each own = each
+take-each P table sitting (Readied.Bad check ∷ items) each own = take-each P table sitting items each own.1
+take-each P table sitting (Readied.Good item ∷ items) each own =
+    let given = verdict table sitting (Readied.Good item) in
+    take-each P (put_all (writes_of given (Readied.Good item)) table) sitting items (each-written P table item given each own.0) own.1

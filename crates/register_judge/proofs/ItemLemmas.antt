@@ -35,7 +35,7 @@ use Rattle.register_judge.specs.declared.judge.ItemOutcome.{ItemOutcome}
 use Rattle.lei_records.specs.declared.rules.Rules.{Rules}
 use Rattle.register_judge.specs.declared.sitting.Sitting.{Sitting}
 use Rattle.register_judge.specs.Checks.{c16, c19, own_checks}
-use Rattle.register_judge.specs.Judging.{check_key, check_named, check_record, check_each, check_first, check_levels, check_successors, judge_item, judge_record, judge_room, key_cell, outcome_by, value_seen}
+use Rattle.register_judge.specs.Judging.{check_key, check_named, check_record, check_each, check_first, check_levels, check_successors, judge_item, judge_record, judge_late, key_cell, outcome_by, value_seen}
 use Rattle.register_judge.proofs.MonotonyLemmas.{Less, LessAt, LessChecked, LessWalked, checked-same, contained, less-check_walked, less-on_seen, less-own, less-successor, less-unless_failed, less-walk_over, less-walked, nearer}
 
 -- a member's key is among the keys of the members
@@ -143,21 +143,19 @@ less_outcome (Checked.Missing key) b passed less = tt
 
 -- ---- a record
 
--- with the record that is held under its LEI, which the check of the room asks too
-less_room : (failed : Option FailedCheck) (a b : Seen RecCell) (own : CellKey) (f g : Option RecCell → Checked) (full : Bool) → Less a b
+-- with the record that is held under its LEI, which the last checks ask too
+less_late : (failed : Option FailedCheck) (a b : Seen RecCell) (own : CellKey) (f g : Option RecCell → Checked) (late : Option RecCell → ItemOutcome) → Less a b
     → ((held : Option RecCell) → LessChecked (f held) (g held))
-    → LessJudged (outcome_by (unless_failed failed (on_seen a own f)) (judge_room (value_seen a) full))
-    (outcome_by (unless_failed failed (on_seen b own g)) (judge_room (value_seen b) full))
-less_room (Some check) a b own f g full less then = refl
-less_room None (Seen.Held cell) b own f g full less then =
-    let P : Seen RecCell → Type 0 =
-    λ seen. LessJudged (outcome_by (f (Some cell)) (judge_room (Some cell) full)) (outcome_by (on_seen seen own g) (judge_room (value_seen seen) full)) in
-    subst P (sym less) (less_outcome (f (Some cell)) (g (Some cell)) (judge_room (Some cell) full) (then (Some cell)))
-less_room None Seen.Empty b own f g full less then =
-    let P : Seen RecCell → Type 0 =
-    λ seen. LessJudged (outcome_by (f None) (judge_room None full)) (outcome_by (on_seen seen own g) (judge_room (value_seen seen) full)) in
-    subst P (sym less) (less_outcome (f None) (g None) (judge_room None full) (then None))
-less_room None Seen.Missing b own f g full less then = tt
+    → LessJudged (outcome_by (unless_failed failed (on_seen a own f)) (late (value_seen a)))
+    (outcome_by (unless_failed failed (on_seen b own g)) (late (value_seen b)))
+less_late (Some check) a b own f g late less then = refl
+less_late None (Seen.Held cell) b own f g late less then =
+    let P : Seen RecCell → Type 0 = λ seen. LessJudged (outcome_by (f (Some cell)) (late (Some cell))) (outcome_by (on_seen seen own g) (late (value_seen seen))) in
+    subst P (sym less) (less_outcome (f (Some cell)) (g (Some cell)) (late (Some cell)) (then (Some cell)))
+less_late None Seen.Empty b own f g late less then =
+    let P : Seen RecCell → Type 0 = λ seen. LessJudged (outcome_by (f None) (late None)) (outcome_by (on_seen seen own g) (late (value_seen seen))) in
+    subst P (sym less) (less_outcome (f None) (g None) (late None) (then None))
+less_late None Seen.Missing b own f g late less then = tt
 
 module _ (a b : Cells) (item : Row) (named : (key : CellKey) → Contains (record_names item) key → LessAt a b key)
   where
@@ -204,7 +202,7 @@ module _ (a b : Cells) (item : Row) (named : (key : CellKey) → Contains (recor
         (others_named own (Contains-append_right (key_names (akey item)) (successor_names (successors_in item)) own
         (first_successor (successors_in item) successor is))) (less_named walks successor is)
 
-    -- by the second rules
+    -- by the later rules
     less_spread : (successors : List (List ℕ)) → ((key : CellKey) → Contains (level_walk a (lei_in item) successors) key → LessAt a b key)
         → LessWalked (spread a (lei_in item) successors) (spread b (lei_in item) successors)
     less_spread successors walks =
@@ -241,13 +239,14 @@ module _ (a b : Cells) (item : Row) (named : (key : CellKey) → Contains (recor
         → LessChecked (check_successors rules a item) (check_successors rules b item)
     less_successors Rules.First walks = less_first walks (successor_in item) refl
     less_successors Rules.Second walks = less_levels (successors_in item) successor_less walks
+    less_successors Rules.Third walks = less_levels (successors_in item) successor_less walks
 
     less-record : (full : Bool) (sitting : Sitting) → ((key : CellKey) → Contains (record_walk sitting.rules a item) key → LessAt a b key)
         → LessJudged (judge_record a full sitting item) (judge_record b full sitting item)
     unfolding check_record
     less-record full sitting walks =
         let own = CellKey.Rec (lei_in item) in
-        less_room (first_failing (own_checks sitting item)) (a.record_cell (lei_in item)) (b.record_cell (lei_in item)) own _ _ full
+        less_late (first_failing (own_checks sitting item)) (a.record_cell (lei_in item)) (b.record_cell (lei_in item)) own _ _ (λ held. judge_late sitting item held full)
         (named own (Contains-append_left (own ∷ []) (key_names (akey item) ++ successor_names (successors_in item)) own (0, omega arith, refl)))
         (λ held. less-unless_failed _ _ _ (less_successors sitting.rules walks))
 

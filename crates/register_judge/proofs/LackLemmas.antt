@@ -223,10 +223,10 @@ module _ (cells : Cells) (item : Row) (key : CellKey) where
       (unless_told _ (check_walked 17 18 (walk cells (lei_in item) successor) (check_key cells item)) key rest)
       (of_walk_told successor names) (key_told Rules.First cells item key))
 
--- by the second rules
-module _ (cells : Cells) (item : Row) (key : CellKey) where
+-- by rules that walk level by level
+module _ (rules : Rules) (cells : Cells) (item : Row) (key : CellKey) (by_levels : record_walk rules cells item ≡ level_walk cells (lei_in item) (successors_in item)) where
   abbrev ToldNow : Type 0
-  ToldNow = Told Rules.Second cells item key
+  ToldNow = Told rules cells item key
 
   each_told : (successors : List (List ℕ)) (next : Checked) → ((lei : List ℕ) → Contains successors lei → Contains (successors_in item) lei)
       → check_each cells successors next ≡ Checked.Missing key → (next ≡ Checked.Missing key → ToldNow) → ToldNow
@@ -234,7 +234,7 @@ module _ (cells : Cells) (item : Row) (key : CellKey) where
   each_told (successor ∷ successors) next named is then =
       let own = CellKey.Rec successor in
       seen_told (cells.record_cell successor) own _ key ToldNow is
-      (named_told Rules.Second cells item key own (others_at Rules.Second cells item key own
+      (named_told rules cells item key own (others_at rules cells item key own
       (Contains-append_right (key_names (akey item)) (successor_names (successors_in item)) own
       (Contains-map CellKey.Rec (successors_in item) successor (named successor (0, omega arith, refl))))))
       (λ found rest. each_told successors next (λ lei at. named lei (Contains-append_right (successor ∷ []) successors lei at))
@@ -245,23 +245,25 @@ module _ (cells : Cells) (item : Row) (key : CellKey) where
       let answers = next_successors cells in
       let found = spread-lacks answers CellKey.Rec (lei_in item) successors key is in
       let all = reached (known_nexts answers) (lei_in item) successors in
-      let of_walk : Contains (level_walk cells (lei_in item) (successors_in item)) (CellKey.Rec found.0) =
-      subst (λ leis. Contains (level_walk cells (lei_in item) leis) (CellKey.Rec found.0)) (sym are) (Contains-map CellKey.Rec all found.0 (contained all found.0 found.2)) in
-      needed_told Rules.Second cells item key (CellKey.Rec found.0)
-      (Contains-append_right (record_names item) (level_walk cells (lei_in item) (successors_in item)) (CellKey.Rec found.0) of_walk)
+      let own = CellKey.Rec found.0 in
+      let of_walk : Contains (record_walk rules cells item) own =
+      subst (λ walk. Contains walk own) (sym by_levels)
+      (subst (λ leis. Contains (level_walk cells (lei_in item) leis) own) (sym are) (Contains-map CellKey.Rec all found.0 (contained all found.0 found.2))) in
+      needed_told rules cells item key own (Contains-append_right (record_names item) (record_walk rules cells item) own of_walk)
       (sym (nexts_lacking (cells.record_cell found.0)) ∙ found.1) found.3
 
   levels_told : (successors : List (List ℕ)) → successors_in item ≡ successors → check_levels cells item successors ≡ Checked.Missing key → ToldNow
-  levels_told [] are is = key_told Rules.Second cells item key is
+  levels_told [] are is = key_told rules cells item key is
   levels_told (successor ∷ successors) are is =
       let all = successor ∷ successors in
       each_told all (check_walked 17 18 (spread cells (lei_in item) all) (check_key cells item)) (λ lei at. subst (λ leis. Contains leis lei) (sym are) at) is
-      (λ rest. walk_told (spread cells (lei_in item) all) (check_key cells item) key ToldNow rest (spread_wants all are) (key_told Rules.Second cells item key))
+      (λ rest. walk_told (spread cells (lei_in item) all) (check_key cells item) key ToldNow rest (spread_wants all are) (key_told rules cells item key))
 
 module _ (cells : Cells) (item : Row) (key : CellKey) where
   successors_told : (rules : Rules) → check_successors rules cells item ≡ Checked.Missing key → Told rules cells item key
   successors_told Rules.First is = first_told cells item key (successor_in item) refl is
-  successors_told Rules.Second is = levels_told cells item key (successors_in item) refl is
+  successors_told Rules.Second is = levels_told Rules.Second cells item key refl (successors_in item) refl is
+  successors_told Rules.Third is = levels_told Rules.Third cells item key refl (successors_in item) refl is
 
   record_told : (sitting : Sitting) → check_record cells sitting item ≡ Checked.Missing key → Told sitting.rules cells item key
   unfolding check_record

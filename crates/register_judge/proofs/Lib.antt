@@ -10,3 +10,4 @@ pub mod ItemLemmas
 pub mod ReadLemmas
 pub mod LackLemmas
 pub mod LimitLemmas
+pub mod EventLemmas

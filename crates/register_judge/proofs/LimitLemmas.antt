@@ -5,18 +5,19 @@ use Rattle.std.proofs.Common.{refl, sym, ap, subst, ◌∙◌, arith}
 use Rattle.std.proofs.lemmas.Bool.Decides.{nat_tests}
 use Rattle.lei_records.proofs.PassLemmas.{first_failing-append}
 use Rattle.lei_records.specs.Cells.{lei_in}
-use Rattle.lei_records.specs.Checks.{FailedCheck, first_failing}
+use Rattle.lei_records.specs.Checks.{FailedCheck, Finding, first_failing}
 use Rattle.lei_records.specs.Tables.{IsSound, Table, put_all, record_count, record_of}
 use Rattle.lei_records.specs.declared.item.Item.{Item}
 use Rattle.lei_records.specs.declared.item.Readied.{Readied}
 use Rattle.lei_records.specs.declared.view.RecCell.{RecCell}
 use Rattle.register_judge.specs.declared.outcome.Outcome.{Outcome}
 use Rattle.register_judge.specs.declared.outcome.Verdict.{Verdict}
+use Rattle.lei_records.specs.RuleNumbers.{newest}
 use Rattle.lei_records.specs.declared.rules.Rules.{Rules}
 use Rattle.register_judge.specs.declared.sitting.Sitting.{Sitting}
 use Rattle.cell_reads.specs.Reads.{Agrees}
 use Rattle.register_judge.specs.Agreement.{IsAgreed}
-use Rattle.register_judge.specs.Checks.{c20, earlier_checks, limit_check}
+use Rattle.register_judge.specs.Checks.{c20, earlier_checks, event_checks, last_checks}
 use Rattle.register_judge.specs.Judging.{records_added}
 use Rattle.register_judge.specs.Outcomes.{Shows}
 use Rattle.register_judge.specs.Sittings.{sitting_by}
@@ -32,11 +33,11 @@ same_room : (small big count : ℕ) → small ≤ big → count + 1 ≤ small �
 same_room small big count less fits = grind (arith, nat_tests)
 
 -- C20 comes to the same after the earlier checks, where a new record fits
-same_check : (earlier : Option FailedCheck) (held : Option RecCell) (small big count : ℕ) → small ≤ big → count + one_if (is_none held && is_none earlier) ≤ small
-    → option_or earlier (first_failing (c20 held (nat_le small count) ∷ [])) ≡ option_or earlier (first_failing (c20 held (nat_le big count) ∷ []))
-same_check (Some check) held small big count less fits = refl
-same_check None (Some cell) small big count less fits = refl
-same_check None None small big count less fits = ap (λ full. first_failing (c20 None full ∷ [])) (same_room small big count less fits)
+same_check : (earlier : Option FailedCheck) (held : Option RecCell) (later : List Finding) (small big count : ℕ) → small ≤ big → count + one_if (is_none held && is_none earlier) ≤ small
+    → option_or earlier (first_failing (c20 held (nat_le small count) ∷ later)) ≡ option_or earlier (first_failing (c20 held (nat_le big count) ∷ later))
+same_check (Some check) held later small big count less fits = refl
+same_check None (Some cell) later small big count less fits = refl
+same_check None None later small big count less fits = ap (λ full. first_failing (c20 None full ∷ later)) (same_room small big count less fits)
 
 module _ (rules : Rules) (today : ℤ) (issuer : List ℕ) where
   -- with this limit
@@ -50,9 +51,9 @@ module _ (rules : Rules) (today : ℤ) (issuer : List ℕ) where
   same_verdict table small big (Readied.Good (Item.Exception item)) less fits = refl
   same_verdict table small big (Readied.Good (Item.Record item)) less fits =
       let earlier = earlier_checks table (limited big) item in
-      ap verdict_of (first_failing-append earlier (limit_check table (limited small) item ∷ [])
-      ∙ (same_check (first_failing earlier) (record_of table (lei_in item)) small big (record_count table) less fits
-      ∙ sym (first_failing-append earlier (limit_check table (limited big) item ∷ []))))
+      ap verdict_of (first_failing-append earlier (last_checks table (limited small) item)
+      ∙ (same_check (first_failing earlier) (record_of table (lei_in item)) (event_checks rules today item) small big (record_count table) less fits
+      ∙ sym (first_failing-append earlier (last_checks table (limited big) item))))
 
   -- whether an item is a new record doesn't go by the limit
   same_new : (table : Table) (small big : ℕ) (item : Readied) → is_new_record table (limited small) item ≡ is_new_record table (limited big) item
@@ -95,11 +96,11 @@ below_more count limit most less = omega arith
 pub plan-taken : (outcome : Outcome) (limit : ℕ) (today : ℤ) (issuer : List ℕ) (items : List Readied) (table : Table)
     → IsAgreed outcome 4294967295 today issuer items → IsSound table → Agrees outcome.reads table
     → record_count table + outcome.new_records ≤ limit → limit ≤ 4294967295
-    → (let taken = take table (sitting_by Rules.Second limit today issuer) items in Shows outcome taken.verdicts taken.writes taken.new_records)
+    → (let taken = take table (sitting_by newest limit today issuer) items in Shows outcome taken.verdicts taken.writes taken.new_records)
 plan-taken outcome limit today issuer items table agreed sound agrees fits less =
     let big = record_count table + 4294967295 in
     let shows = agreed table sound agrees in
     let P : Taken → Type 0 = λ taken. Shows outcome taken.verdicts taken.writes taken.new_records in
-    let few : record_count table + (take table (sitting_by Rules.Second big today issuer) items).new_records ≤ limit =
+    let few : record_count table + (take table (sitting_by newest big today issuer) items).new_records ≤ limit =
     subst (λ n. record_count table + n ≤ limit) shows.new_are fits in
-    subst P (sym (take-fits Rules.Second today issuer table limit big items (cells-tell table sound) (below_more (record_count table) limit 4294967295 less) few)) shows
+    subst P (sym (take-fits newest today issuer table limit big items (cells-tell table sound) (below_more (record_count table) limit 4294967295 less) few)) shows

@@ -26,7 +26,7 @@ use Rattle.register_judge.specs.declared.judge.ItemOutcome.{ItemOutcome}
 use Rattle.register_judge.specs.declared.outcome.JudgeStop.{JudgeStop}
 use Rattle.register_judge.specs.declared.outcome.Outcome.{Outcome}
 use Rattle.register_judge.specs.declared.outcome.Verdict.{Verdict}
-use Rattle.lei_records.specs.declared.rules.Rules.{Rules}
+use Rattle.lei_records.specs.RuleNumbers.{newest}
 use Rattle.register_judge.specs.declared.sitting.Sitting.{Sitting}
 use Rattle.register_judge.specs.Agreement.{IsAgreed, IsByReads, NotesMore}
 use Rattle.register_judge.specs.Judging.{Judgement, judge_item, judge_items, put_writes, records_added}
@@ -234,11 +234,11 @@ read-by (Err stop) view sitting items by_reads = tt
 
 -- an outcome by its reads is that of each sound table that agrees with them
 pub agreed-by : (result : Result Outcome JudgeStop) (view : Cells) (room : ℕ) (today : ℤ) (issuer : List ℕ) (items : List Readied)
-    → IfOk result (λ outcome. IsByReads outcome view (sitting_by Rules.Second room today issuer) items)
+    → IfOk result (λ outcome. IsByReads outcome view (sitting_by newest room today issuer) items)
     → IfOk result (λ outcome. IsAgreed outcome room today issuer items)
 agreed-by (Ok outcome) view room today issuer items by_reads = λ table sound agrees.
-    judges-takes (Ok outcome) _ (take table (sitting_by Rules.Second (record_count table + room) today issuer) items)
-    (judged-taken table (sitting_by Rules.Second room today issuer) items sound) (by_reads.alike (cells_of table) agrees)
+    judges-takes (Ok outcome) _ (take table (sitting_by newest (record_count table + room) today issuer) items)
+    (judged-taken table (sitting_by newest room today issuer) items sound) (by_reads.alike (cells_of table) agrees)
 agreed-by (Err stop) view room today issuer items by_reads = tt
 
 -- the cell for want of which it stopped is the one that items lack

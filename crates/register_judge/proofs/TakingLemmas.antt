@@ -44,8 +44,8 @@ use Rattle.register_judge.specs.declared.outcome.Outcome.{Outcome}
 use Rattle.register_judge.specs.declared.outcome.Verdict.{Verdict}
 use Rattle.lei_records.specs.declared.rules.Rules.{Rules}
 use Rattle.register_judge.specs.declared.sitting.Sitting.{Sitting}
-use Rattle.register_judge.specs.Checks.{own_checks, held_checks, c16, c16_each, c19, first_checks, level_checks, successor_checks, earlier_checks, limit_check, record_checks}
-use Rattle.register_judge.specs.Judging.{acceptance, check_with_held, check_key, check_named, check_record, check_each, check_first, check_levels, check_successors, value_seen, key_cell, judge_room, judge_record, outcome_by, judge_item, put_writes, cells_after, count_after, records_added, Judgement, before, judge_items}
+use Rattle.register_judge.specs.Checks.{own_checks, held_checks, c16, c16_each, c19, first_checks, level_checks, successor_checks, earlier_checks, last_checks, record_checks}
+use Rattle.register_judge.specs.Judging.{acceptance, check_with_held, check_key, check_named, check_record, check_each, check_first, check_levels, check_successors, value_seen, key_cell, judge_late, judge_record, outcome_by, judge_item, put_writes, cells_after, count_after, records_added, Judgement, before, judge_items}
 use Rattle.register_judge.specs.Outcomes.{Judges, Takes}
 use Rattle.register_judge.specs.Overlays.{put_record}
 use Rattle.register_judge.specs.Sittings.{is_at_limit, over_table}
@@ -106,7 +106,7 @@ each_by_table table (successor ∷ successors) next =
     one_or_more (Some cell) true next = refl
     one_or_more (Some cell) false next = refl
 
--- C16 to C18 by the second rules are asked one after the other, and then those behind
+-- C16 to C18 by the later rules are asked one after the other, and then those behind
 by_levels_in_turn : (none wide back : Bool) (behind : List Finding)
     → unless_failed (first_failing (fails_if none 16 Detail.None ∷ []))
     (check_walked 17 18 (if wide then Walked.Long else if back then Walked.Meets else Walked.Ends) (checked_of (first_failing behind)))
@@ -116,7 +116,7 @@ by_levels_in_turn false true back behind = refl
 by_levels_in_turn false false true behind = refl
 by_levels_in_turn false false false behind = refl
 
--- what the second rules ask of an item with successors
+-- what the later rules ask of an item with successors
 pub levels_of : (cells : Cells) (item : Row) (successors : List (List ℕ)) → (length successors == 0) ≡ false
     → check_levels cells item successors ≡ check_each cells successors (check_walked 17 18 (spread cells (lei_in item) successors) (check_key cells item))
 levels_of cells item [] some = cc
@@ -141,6 +141,7 @@ successors_by_table : (rules : Rules) (table : Table) (item : Row) → IsKeyed t
     ≡ checked_of (first_failing (successor_checks rules table item ++ c19 (other_holder table item) item ∷ []))
 successors_by_table Rules.First table item = first_by_table table item (successor_in item)
 successors_by_table Rules.Second table item = levels_by_table table item (successors_in item)
+successors_by_table Rules.Third table item = levels_by_table table item (successors_in item)
 
 -- the cells of a table come to the first check before C20 that fails on it
 record_by_cells : (table : Table) (sitting : Sitting) (item : Row) → IsKeyed table → AuthorityKeysAreUnique table
@@ -192,11 +193,11 @@ record_by_table : (table : Table) (sitting : Sitting) (limit count : ℕ) (item 
 record_by_table table sitting limit count item keyed holders counted =
     let held = record_of table (lei_in item) in
     let earlier = earlier_checks table sitting item in
-    let of_room = limit_check table (over_table sitting limit) item ∷ [] in
-    (λ i. outcome_by (record_by_cells table sitting item keyed holders i) (judge_room (held_seen held i) (at_limit table sitting limit count counted i)))
-    ∙ (with_room (first_failing earlier) (first_failing of_room) (is_none held)
+    let late = last_checks table (over_table sitting limit) item in
+    (λ i. outcome_by (record_by_cells table sitting item keyed holders i) (judge_late sitting item (held_seen held i) (at_limit table sitting limit count counted i)))
+    ∙ (with_room (first_failing earlier) (first_failing late) (is_none held)
     ∙ (λ i. Ok (record {
-      verdict = verdict_of (sym (first_failing-append earlier of_room) i);
+      verdict = verdict_of (sym (first_failing-append earlier late) i);
       new = is_none held && is_none (first_failing earlier);
     })))
 
@@ -251,9 +252,9 @@ abbrev pub Passes : Table → Sitting → Row → Type 0
 Passes table sitting item = first_failing (record_checks table sitting item) ≡ None
 
 passed : (table : Table) (sitting : Sitting) (item : Row) → Passes table sitting item
-    → (first_failing (earlier_checks table sitting item) ≡ None) × (first_failing (limit_check table sitting item ∷ []) ≡ None)
+    → (first_failing (earlier_checks table sitting item) ≡ None) × (first_failing (last_checks table sitting item) ≡ None)
 passed table sitting item passes =
-    or_none _ _ (sym (first_failing-append (earlier_checks table sitting item) (limit_check table sitting item ∷ [])) ∙ passes)
+    or_none _ _ (sym (first_failing-append (earlier_checks table sitting item) (last_checks table sitting item)) ∙ passes)
 
 -- the checks of the successor pass, and C19
 before_c20 : (table : Table) (sitting : Sitting) (item : Row) → Passes table sitting item

@@ -10,7 +10,7 @@ use Rattle.cell_reads.specs.Needs.{needs}
 use Rattle.cell_reads.specs.Notes.{NotesCells}
 use Rattle.cell_reads.specs.Reads.{Agrees, AnswersReads, Listed}
 use Rattle.register_judge.specs.declared.outcome.Outcome.{Outcome}
-use Rattle.lei_records.specs.declared.rules.Rules.{Rules}
+use Rattle.lei_records.specs.RuleNumbers.{newest}
 use Rattle.register_judge.specs.declared.sitting.Sitting.{Sitting}
 use Rattle.register_judge.specs.Judging.{Judgement, judge_items, put_writes}
 use Rattle.register_judge.specs.Outcomes.{Judges, Takes}
@@ -21,7 +21,7 @@ use Rattle.register_judge.specs.Taking.{take}
 -- more.
 abbrev pub IsAgreed : Outcome → ℕ → ℤ → Lei → List Readied → Type 0
 IsAgreed outcome room today issuer items = (table : Table) → IsSound table → Agrees outcome.reads table
-    → Takes (Ok outcome) (take table (sitting_by Rules.Second (record_count table + room) today issuer) items)
+    → Takes (Ok outcome) (take table (sitting_by newest (record_count table + room) today issuer) items)
 
 -- The view answers what the outcome lists as read, and the outcome is what any view comes to that answers this.
 pub record IsByReads (outcome : Outcome) (view : Cells) (sitting : Sitting) (items : List Readied) : Type 0 where

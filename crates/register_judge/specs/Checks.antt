@@ -1,17 +1,20 @@
--- The checks of a record that is brought to a table, C05 to C20. This project's profile.
-use Rattle.std.specs.Prelude.{ℤ, List, [], ◌∷◌, ◌++◌, Bool, false, not, ◌&&◌, ◌||◌, int_lt, Option, Some, None, is_some, is_none}
+-- The checks of a record that is brought to a table, C05 to C22. This project's profile.
+use Rattle.std.specs.Prelude.{ℕ, ℤ, List, [], ◌∷◌, ◌++◌, codes, find, Bool, true, false, not, ◌&&◌, ◌||◌, if◌then◌else◌, int_lt, Option, Some, None, is_some, is_none, option_map}
 use Rattle.std.specs.List.{list_any}
 use Rattle.std.specs.Option.{option_map_or}
 use Rattle.std.specs.Ordering.{int_eq}
 use Rattle.std.specs.Str.{bytes_eq}
-use Rattle.lei_code.specs.Texts.{Lei}
+use Rattle.lei_code.specs.Texts.{Lei, Text}
+use Rattle.lei_shapes.specs.declared.lists.EventStatus.{EventStatus}
 use Rattle.lei_shapes.specs.declared.lists.RecordStatus.{RecordStatus}
 use Rattle.lei_shapes.specs.Moment.{day_of}
 use Rattle.lei_records.specs.declared.check.Detail.{Detail}
 use Rattle.lei_records.specs.declared.view.RecCell.{RecCell}
-use Rattle.lei_records.specs.Cells.{lei_in, status_in, entity_status_in, initial_in, updated_in, renewal_in, created_in, manager_in, successor_in, successors_in, is_live}
-use Rattle.lei_records.specs.Checks.{Finding, fails_if, code_detail}
-use Rattle.lei_records.specs.Rows.{Row}
+use Rattle.lei_records.specs.Cells.{lei_in, status_in, entity_status_in, initial_in, updated_in, renewal_in, created_in, manager_in, successor_in, successors_in, is_live, event_effective_in, event_recorded_in, event_status_in}
+use Rattle.lei_records.specs.Checks.{Finding, fails_if, code_detail, field_detail}
+use Rattle.lei_records.specs.Places.{event_effective_place, event_status_place, event_type_place, event_recorded_place}
+use Rattle.lei_records.specs.Rows.{Row, text_at}
+use Rattle.lei_records.specs.Spelled.{is_absent}
 use Rattle.lei_records.specs.Tables.{Table, record_of, record_count, other_holder}
 use Rattle.lei_records.specs.Walks.{Next, is_long, is_met, successor_of, successors_of}
 use Rattle.successor_rules.specs.Chains.{Nexts}
@@ -114,7 +117,7 @@ c17 next item successor = fails_if (is_met next (lei_in item) successor) 17 Deta
 abbrev pub c18 : Next → Lei → Finding
 c18 next successor = fails_if (is_long next successor) 18 Detail.None
 
--- ---- the successors of an item by the second rules
+-- ---- the successors of an item by the later rules
 
 -- C16 fails where no record of one of the successors is held.
 abbrev pub c16_each : Table → List Lei → Finding
@@ -140,6 +143,48 @@ c19 other item = fails_if (is_live item && is_some other) 19 (code_detail other)
 abbrev pub c20 : Option RecCell → Bool → Finding
 c20 held full = fails_if (is_none held && full) 20 Detail.None
 
+-- ---- the event that a record tells of, by the third rules
+
+-- The fields that stand in a record which tells of an event, by their places: its type, when it was recorded, and how far
+-- it has come.
+abbrev pub needed_of_event : List (ℕ × Text)
+needed_of_event =
+    (event_type_place, codes "Entity.Event.1.Type") ∷ (event_recorded_place, codes "Entity.Event.1.RecordedDate")
+    ∷ (event_status_place, codes "Entity.Event.1.Status") ∷ []
+
+-- The first of them that is absent.
+abbrev pub lacking_field : Row → Option Text
+lacking_field item = option_map (λ needed. needed.1)
+    (find (λ needed. is_absent (text_at item needed.0)) needed_of_event)
+
+-- The record tells of an event: one of its four fields stands.
+abbrev pub tells_of_event : Row → Bool
+tells_of_event item = list_any (λ place. not (is_absent (text_at item place)))
+    (event_type_place ∷ event_effective_place ∷ event_recorded_place ∷ event_status_place ∷ [])
+
+-- The field that an event lacks; none where the record tells of no event.
+abbrev pub missing_of_event : Row → Option Text
+missing_of_event item = if tells_of_event item then lacking_field item else None
+
+-- C21 fails where a field of an event stands, and its type, when it was recorded or its status is absent. The first of
+-- these that is absent is told.
+abbrev pub c21 : Row → Finding
+c21 item = fails_if (is_some (missing_of_event item)) 21 (field_detail (missing_of_event item))
+
+-- An event is completed.
+abbrev pub is_completed : Option EventStatus → Bool
+is_completed None = false
+is_completed (Some EventStatus.InProgress) = false
+is_completed (Some EventStatus.Completed) = true
+is_completed (Some EventStatus.WithdrawnCancelled) = false
+
+-- C22 fails where the day on which an event was recorded is after today, or where it is completed and its effective date
+-- is absent or after today. The effective date of an event that isn't completed may lie ahead.
+abbrev pub c22 : ℤ → Row → Finding
+c22 today item =
+    fails_if (option_map_or (is_after today) (event_recorded_in item) false
+    || (is_completed (event_status_in item) && option_map_or (is_after today) (event_effective_in item) true)) 22 Detail.None
+
 -- ---- the checks in the order of their numbers
 
 -- The checks of the item alone and of the issuer that uploads it: C05 to C09.
@@ -161,7 +206,7 @@ first_checks table item (Some successor) =
     c16 (record_of table successor) ∷ c17 (successor_of table) item successor
     ∷ c18 (successor_of table) successor ∷ []
 
--- The checks of the item's successors by the second rules, C16 to C18: none where it has no successor. The levels go by
+-- The checks of the item's successors by the later rules, C16 to C18: none where it has no successor. The levels go by
 -- the records of the table.
 abbrev pub level_checks : Table → Row → List Lei → List Finding
 level_checks table item [] = []
@@ -173,6 +218,7 @@ level_checks table item (successor ∷ successors) =
 abbrev pub successor_checks : Rules → Table → Row → List Finding
 successor_checks Rules.First table item = first_checks table item (successor_in item)
 successor_checks Rules.Second table item = level_checks table item (successors_in item)
+successor_checks Rules.Third table item = level_checks table item (successors_in item)
 
 -- All checks before C20 of a record on a table, in a sitting.
 abbrev pub earlier_checks : Table → Sitting → Row → List Finding
@@ -181,11 +227,21 @@ earlier_checks table sitting item =
     ++ successor_checks sitting.rules table item
     ++ c19 (other_holder table item) item ∷ []
 
--- C20 of a record on a table.
-abbrev pub limit_check : Table → Sitting → Row → Finding
-limit_check table sitting item = c20 (record_of table (lei_in item))
+-- The checks of the event that a record tells of by the rules, C21 and C22.
+abbrev pub event_checks : Rules → ℤ → Row → List Finding
+event_checks Rules.First today item = []
+event_checks Rules.Second today item = []
+event_checks Rules.Third today item = c21 item ∷ c22 today item ∷ []
+
+-- The checks from C20 on, with the record that is held under the item's LEI, where a further record fits or not.
+abbrev pub late_checks : Sitting → Row → Option RecCell → Bool → List Finding
+late_checks sitting item held full = c20 held full ∷ event_checks sitting.rules sitting.today item
+
+-- The checks from C20 on of a record on a table.
+abbrev pub last_checks : Table → Sitting → Row → List Finding
+last_checks table sitting item = late_checks sitting item (record_of table (lei_in item))
     (is_at_limit sitting (record_count table))
 
 -- All checks of a record on a table, in a sitting.
 abbrev pub record_checks : Table → Sitting → Row → List Finding
-record_checks table sitting item = earlier_checks table sitting item ++ limit_check table sitting item ∷ []
+record_checks table sitting item = earlier_checks table sitting item ++ last_checks table sitting item

@@ -18,7 +18,7 @@ use Rattle.register_judge.specs.declared.judge.ItemOutcome.{ItemOutcome}
 use Rattle.register_judge.specs.declared.outcome.Verdict.{Verdict}
 use Rattle.lei_records.specs.declared.rules.Rules.{Rules}
 use Rattle.register_judge.specs.declared.sitting.Sitting.{Sitting}
-use Rattle.register_judge.specs.Checks.{own_checks, held_checks, c16, c19, c20}
+use Rattle.register_judge.specs.Checks.{own_checks, held_checks, c16, c19, late_checks}
 use Rattle.register_judge.specs.Overlays.{put_cells}
 use Rattle.register_judge.specs.Sittings.{is_at_limit}
 use Rattle.register_judge.specs.Taking.{verdict_of, writes_of}
@@ -57,7 +57,7 @@ check_each cells (successor ∷ successors) next =
     on_seen (cells.record_cell successor) (CellKey.Rec successor)
     (λ found. unless_failed (first_failing (c16 found ∷ [])) (check_each cells successors next))
 
--- C16 to C19 by the second rules and all successors: an item without one has nothing to ask of it.
+-- C16 to C19 by the later rules and all successors: an item without one has nothing to ask of it.
 abbrev pub check_levels : Cells → Row → List Lei → Checked
 check_levels cells item [] = check_key cells item
 check_levels cells item (successor ∷ successors) =
@@ -68,6 +68,7 @@ check_levels cells item (successor ∷ successors) =
 abbrev pub check_successors : Rules → Cells → Row → Checked
 check_successors Rules.First cells item = check_first cells item (successor_in item)
 check_successors Rules.Second cells item = check_levels cells item (successors_in item)
+check_successors Rules.Third cells item = check_levels cells item (successors_in item)
 
 -- C10 to C19, with the record that is held under the item's LEI.
 abbrev pub check_with_held : Cells → Sitting → Row → Option RecCell → Checked
@@ -92,10 +93,10 @@ rejection check = record { verdict = Verdict.Rejected check; new = false }
 abbrev pub acceptance : ItemOutcome
 acceptance = record { verdict = Verdict.Accepted; new = false }
 
--- A record came to C20: it fails or not, and the record is new where none is held.
-abbrev pub judge_room : Option RecCell → Bool → ItemOutcome
-judge_room held full = record
-    { verdict = verdict_of (first_failing (c20 held full ∷ [])); new = is_none held }
+-- A record came to C20: that or a later check fails, or none does, and the record is new where none is held.
+abbrev pub judge_late : Sitting → Row → Option RecCell → Bool → ItemOutcome
+judge_late sitting item held full = record
+    { verdict = verdict_of (first_failing (late_checks sitting item held full)); new = is_none held }
 
 -- What comes of an item by what its checks come to, and by what comes of it where they pass.
 abbrev pub outcome_by : Checked → ItemOutcome → Result ItemOutcome CellKey
@@ -109,11 +110,11 @@ value_seen (Seen.Held x) = Some x
 value_seen Seen.Empty = None
 value_seen Seen.Missing = None
 
--- What comes of a record: C20 is asked last, with the record that is held under its LEI.
+-- What comes of a record: from C20 on the checks are asked last, with the record that is held under its LEI.
 abbrev pub judge_record : Cells → Bool → Sitting → Row → Result ItemOutcome CellKey
 judge_record cells full sitting item =
     outcome_by (check_record cells sitting item)
-    (judge_room (value_seen (cells.record_cell (lei_in item))) full)
+    (judge_late sitting item (value_seen (cells.record_cell (lei_in item))) full)
 
 -- What comes of an item in a sitting, where a further record fits or not.
 abbrev pub judge_item : Cells → Bool → Sitting → Readied → Result ItemOutcome CellKey

@@ -17,7 +17,7 @@ abbrev pub verdict_of : Option FailedCheck → Verdict
 verdict_of None = Verdict.Accepted
 verdict_of (Some check) = Verdict.Rejected check
 
--- The checks of an item on a table, in a sitting: C05 to C20 of a record, C30 to C40 of a relationship, C50 to C53 of
+-- The checks of an item on a table, in a sitting: C05 to C22 of a record, C30 to C40 of a relationship, C50 to C53 of
 -- an exception.
 abbrev pub item_checks : Table → Sitting → Item → List Finding
 item_checks table sitting (Item.Record row) = record_checks table sitting row

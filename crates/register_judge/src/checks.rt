@@ -1,21 +1,25 @@
 //! The checks of a record that is brought to a table, each as a test. This project's profile.
-ghost use Rattle.std.specs.Prelude.{◌≡◌, [], ◌∷◌, false, Some, None};
+ghost use Rattle.std.specs.Prelude.{◌≡◌, [], ◌∷◌, false, IfOk, Some, None, option_map};
 ghost use Rattle.std.specs.Option.{option_map_or};
 ghost use Rattle.std.specs.Str.{bytes_eq};
 ghost use Rattle.lei_records.specs.Checks.{first_failing};
+ghost use Rattle.lei_records.specs.declared.check.Detail.{Detail as Named};
 ghost use Rattle.status_rules.specs.Statuses;
 ghost use Rattle.register_judge.specs.Checks;
 
 use crate::sitting::Sitting;
 use lei_code::Lei;
+use lei_outside::{NoMemory, Text};
 use lei_records::numbers::{
-    DATE_FUTURE, DATES_ORDER, INITIAL_DATE_CHANGED, MANAGER_NOT_UPLOADER, NOT_ISSUED, NOT_MANAGER,
-    REGISTER_FULL, RENEWAL_DATE, STATUS_ENTITY, SUCCESSOR_SHAPE, TRANSITION, UPDATE_EARLIER,
+    DATE_FUTURE, DATES_ORDER, EVENT_DATES, EVENT_INCOMPLETE, INITIAL_DATE_CHANGED,
+    MANAGER_NOT_UPLOADER, NOT_ISSUED, NOT_MANAGER, REGISTER_FULL, RENEWAL_DATE, STATUS_ENTITY,
+    SUCCESSOR_SHAPE, TRANSITION, UPDATE_EARLIER,
 };
-use lei_records::{Check, Detail, RecCell, Record};
-use lei_shapes::{Moment, RecordStatus};
+use lei_records::{Check, Detail, RecCell, Record, Rules};
+use lei_shapes::{EventStatus, Moment, RecordStatus};
 use relation_rules::plain;
 use status_rules::{Party, entity_fits, renewal_fits, transition};
+use std::alloc::Global;
 
 /// C05 to C09: the item alone, and the issuer that uploads it.
 pub fn own_check(sitting: &Sitting, item: &Record) -> Option<Check>
@@ -55,15 +59,16 @@ fn has_early_dates(item: &Record) -> bool
 fn has_late_dates(today: i32, item: &Record) -> bool
     ensures { result ≡ (Checks.c07 today item.now).fails }
 {
-    is_after(today, item.updated()) || is_created_after(today, item.created())
+    is_after(today, item.updated()) || is_day_after(today, item.created(), false)
 }
 
-fn is_created_after(today: i32, created: Option<Moment>) -> bool
-    ensures { result ≡ option_map_or (Checks.is_after today) created false }
+// Whether the day of a moment is after today, and what is answered of none.
+fn is_day_after(today: i32, moment: Option<Moment>, absent: bool) -> bool
+    ensures { result ≡ option_map_or (Checks.is_after today) moment absent }
 {
-    match created {
-        Some(created) => is_after(today, created),
-        None => false,
+    match moment {
+        Some(moment) => is_after(today, moment),
+        None => absent,
     }
 }
 
@@ -179,4 +184,95 @@ pub fn room_check(held: &Option<RecCell>, full: bool) -> Option<Check>
     } else {
         None
     }
+}
+
+/// C21 and C22: the event that a record tells of, by the third rules. The name of an absent field takes memory.
+pub fn event_check(
+    alloc: Global,
+    sitting: &Sitting,
+    item: &Record,
+) -> Result<Option<Check>, NoMemory>
+    ensures { IfOk result (λ check. check
+        ≡ first_failing (Checks.event_checks sitting.now.rules sitting.now.today item.now)) }
+{
+    match sitting.rules {
+        Rules::First | Rules::Second => Ok(None),
+        Rules::Third => event_failure(alloc, sitting.today, item),
+    }
+}
+
+fn event_failure(alloc: Global, today: i32, item: &Record) -> Result<Option<Check>, NoMemory>
+    ensures { IfOk result (λ check. check
+        ≡ first_failing (Checks.c21 item.now ∷ Checks.c22 today item.now ∷ [])) }
+{
+    match missing_of_event(item) {
+        Some(field) => Ok(Some(incomplete(alloc, field)?)),
+        None => Ok(dates_failure(today, item)),
+    }
+}
+
+// C21, with the field that is absent.
+fn incomplete(alloc: Global, field: &str) -> Result<Check, NoMemory>
+    ensures { IfOk result (λ check. check ≡ record { number = 21; detail = Named.Field field.now }) }
+{
+    let detail = Detail::Field(Text::copy_of(alloc, field)?);
+    Ok(Check {
+        code: EVENT_INCOMPLETE,
+        detail,
+    })
+}
+
+// C22.
+fn dates_failure(today: i32, item: &Record) -> Option<Check>
+    ensures { result ≡ first_failing (Checks.c22 today item.now ∷ []) }
+{
+    if has_wrong_event_dates(today, item) {
+        Some(plain(EVENT_DATES))
+    } else {
+        None
+    }
+}
+
+// The field that an event lacks; none where the record tells of no event.
+fn missing_of_event(item: &Record) -> Option<&'static str>
+    ensures { option_map (λ name. name.now) result ≡ Checks.missing_of_event item.now }
+{
+    if tells_of_event(item) {
+        lacking_field(item)
+    } else {
+        None
+    }
+}
+
+fn tells_of_event(item: &Record) -> bool
+    ensures { result ≡ Checks.tells_of_event item.now }
+{
+    !(item.field(29).is_empty()
+        && item.field(30).is_empty()
+        && item.field(31).is_empty()
+        && item.field(32).is_empty())
+}
+
+// The first of the fields that stand in a record which tells of an event that is absent.
+fn lacking_field(item: &Record) -> Option<&'static str>
+    ensures { option_map (λ name. name.now) result ≡ Checks.lacking_field item.now }
+{
+    if item.field(29).is_empty() {
+        return Some("Entity.Event.1.Type");
+    }
+    if item.field(31).is_empty() {
+        return Some("Entity.Event.1.RecordedDate");
+    }
+    if item.field(32).is_empty() {
+        return Some("Entity.Event.1.Status");
+    }
+    None
+}
+
+fn has_wrong_event_dates(today: i32, item: &Record) -> bool
+    ensures { result ≡ (Checks.c22 today item.now).fails }
+{
+    is_day_after(today, item.event_recorded(), false)
+        || (item.event_status() == Some(EventStatus::Completed)
+            && is_day_after(today, item.event_effective(), true))
 }

@@ -1,13 +1,14 @@
 //! The verdict on one item, over any view.
-ghost use Rattle.std.specs.Prelude.{◌≡◌};
+ghost use Rattle.std.specs.Prelude.{◌≡◌, IfOk};
 ghost use Rattle.register_judge.specs.Judging;
 ghost use Rattle.register_judge.specs.Outcomes.{JudgesItem};
 ghost use Rattle.register_judge.specs.Taking;
 
-use crate::checks::{own_check, room_check};
+use crate::checks::{event_check, own_check, room_check};
 use crate::outcome::{JudgeStop, Verdict};
 use crate::records::check_with_held;
 use crate::sitting::Sitting;
+use lei_outside::NoMemory;
 use lei_records::{CellKey, Check, Item, Readied, RecCell, Record, Seen, View};
 use relation_rules::{Checked, exception_check, relation_check};
 use std::alloc::Global;
@@ -91,17 +92,27 @@ fn judge_record<V: View>(
         Seen::Missing => return Err(JudgeStop::NeedCell(CellKey::Rec(item.lei()))),
     };
     let checked = check_with_held(alloc, view, &held, sitting, item)?;
-    outcome_by(checked, judge_room(&held, full))
+    outcome_by(checked, judge_late(alloc, &held, full, sitting, item)?)
 }
 
-// C20.
-fn judge_room(held: &Option<RecCell>, full: bool) -> ItemOutcome
-    ensures { result ≡ Judging.judge_room held.now full }
+// From C20 on.
+fn judge_late(
+    alloc: Global,
+    held: &Option<RecCell>,
+    full: bool,
+    sitting: &Sitting,
+    item: &Record,
+) -> Result<ItemOutcome, NoMemory>
+    ensures { IfOk result (λ judged. judged ≡ Judging.judge_late sitting.now item.now held.now full) }
 {
-    ItemOutcome {
-        verdict: verdict_of(room_check(held, full)),
+    let failed = match room_check(held, full) {
+        Some(check) => Some(check),
+        None => event_check(alloc, sitting, item)?,
+    };
+    Ok(ItemOutcome {
+        verdict: verdict_of(failed),
         new: held.is_none(),
-    }
+    })
 }
 
 fn verdict_of(failed: Option<Check>) -> Verdict

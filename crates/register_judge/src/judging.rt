@@ -7,7 +7,7 @@ ghost use Rattle.cell_reads.specs.Needs.{needs};
 ghost use Rattle.cell_reads.specs.Reads.{AnswersReads};
 ghost use Rattle.register_judge.specs.Agreement.{IsAgreed, IsByReads, IsNeededIn, NotesMore};
 ghost use Rattle.register_judge.specs.declared.outcome.JudgeStop.{JudgeStop as Stop};
-ghost use Rattle.lei_records.specs.declared.rules.Rules.{Rules};
+ghost use Rattle.lei_records.specs.RuleNumbers.{newest};
 ghost use Rattle.register_judge.specs.Judging;
 ghost use Rattle.register_judge.specs.Outcomes.{Judges, Shows, Takes};
 ghost use Rattle.register_judge.specs.Overlays.{cells_in};
@@ -53,11 +53,11 @@ pub fn judge_all<V: View>(
     requires { length items.now ≤ 5000 }
     // The records of the view aren't known, and so the limit is that of the ones that are added.
     ensures answers { Judges result
-        (Judging.judge_items (V.cells view.now) 0 (sitting_by Rules.Second room today issuer.now) items.now) }
+        (Judging.judge_items (V.cells view.now) 0 (sitting_by newest room today issuer.now) items.now) }
 
     // Over the cells of a sound table, which has room for so many records more.
     ensures over_tables { (table : Table) → IsSound table → V.cells view.now ≡ cells_of table → Takes result
-        (take table (sitting_by Rules.Second (record_count table + room) today issuer.now) items.now) }
+        (take table (sitting_by newest (record_count table + room) today issuer.now) items.now) }
 
     // The view has what is listed as read.
     ensures read { IfOk result (λ outcome. AnswersReads outcome.reads (V.cells view.now)) }
@@ -67,10 +67,10 @@ pub fn judge_all<V: View>(
 
     // The cell for want of which it stopped is one that the view lacks and an item needs.
     ensures wanting { (key : Key) → result ≡ Err (Stop.NeedCell key) → IsTrue (lacks (V.cells view.now) key)
-        × IsNeededIn (V.cells view.now) 0 (sitting_by Rules.Second room today issuer.now) items.now key }
+        × IsNeededIn (V.cells view.now) 0 (sitting_by newest room today issuer.now) items.now key }
 {
     let sitting = Sitting {
-        rules: Rules::Second,
+        rules: Rules::Third,
         limit: room,
         today,
         issuer: *issuer,

@@ -1,5 +1,5 @@
 //! Laws of what items do to a table, each as the contract of an empty function.
-ghost use Rattle.std.specs.Prelude.{◌≡◌, ◌≤◌, ◌+◌, ℕ, ℤ, List, None, Ok};
+ghost use Rattle.std.specs.Prelude.{◌≡◌, ◌≤◌, ◌+◌, ℕ, ℤ, Bool, IsTrue, List, None, Ok};
 ghost use Rattle.lei_code.specs.Texts.{Lei};
 ghost use Rattle.lei_records.specs.declared.item.Item.{Item};
 ghost use Rattle.lei_records.specs.declared.item.Readied.{Readied};
@@ -9,6 +9,7 @@ ghost use Rattle.lei_records.specs.Tables.{Table, IsSound, put, put_all, record_
 ghost use Rattle.relation_rules.specs.Parents.{AreApart, ParentChainsEnd};
 ghost use Rattle.cell_reads.specs.Reads.{Agrees};
 ghost use Rattle.register_judge.specs.declared.outcome.Outcome.{Outcome};
+ghost use Rattle.lei_records.specs.RuleNumbers.{newest};
 ghost use Rattle.lei_records.specs.declared.rules.Rules.{Rules};
 ghost use Rattle.register_judge.specs.declared.sitting.Sitting.{Sitting};
 ghost use Rattle.register_judge.specs.Agreement.{IsAgreed};
@@ -16,7 +17,7 @@ ghost use Rattle.register_judge.specs.Checks.{successor_checks};
 ghost use Rattle.register_judge.specs.Outcomes.{Takes};
 ghost use Rattle.register_judge.specs.Sittings.{sitting_by};
 ghost use Rattle.register_judge.specs.Taking.{take, HaveRows};
-ghost use Rattle.register_judge.specs.Fitting.{ItemsFit, RowFits, TableFits};
+ghost use Rattle.register_judge.specs.Fitting.{EachRecord, EachRecordOf, ItemsFit, RowFits, TableFits};
 ghost use Rattle.successor_rules.specs.Successors.{SuccessorChainsEnd};
 
 /// Items leave a sound table sound.
@@ -53,6 +54,13 @@ pub fn items_keep_to_their_rules()
         → ItemsFit sitting.rules items → TableFits sitting.rules (take table sitting items).table }
 {}
 
+/// What a test tells of each record of a table and of each among the items it tells of each record after them.
+pub fn items_keep_what_each_record_has()
+    ensures { (test : Row → Bool) (table : Table) (sitting : Sitting) (items : List Readied)
+        → EachRecord (λ row. IsTrue (test row)) table → EachRecordOf (λ row. IsTrue (test row)) items
+        → EachRecord (λ row. IsTrue (test row)) (take table sitting items).table }
+{}
+
 /// Items leave each chain of direct parents of a sound table with an end.
 pub fn items_keep_parents()
     ensures { (table : Table) (sitting : Sitting) (items : List Readied)
@@ -78,5 +86,5 @@ pub fn limits_that_suffice_are_alike()
     ensures agreed { (outcome : Outcome) (limit : ℕ) (today : ℤ) (issuer : Lei) (items : List Readied)
         (table : Table) → IsAgreed outcome 4294967295 today issuer items → IsSound table
         → Agrees outcome.reads table → record_count table + outcome.new_records ≤ limit → limit ≤ 4294967295
-        → Takes (Ok outcome) (take table (sitting_by Rules.Second limit today issuer) items) }
+        → Takes (Ok outcome) (take table (sitting_by newest limit today issuer) items) }
 {}

@@ -1,5 +1,5 @@
 //! The verdicts on an upload's items: each item is judged on the table that the accepted ones before
-//! it left. A record by the checks C05 to C20, a relationship by C30 to C40, an exception by C50 to C53. This project's
+//! it left. A record by the checks C05 to C22, a relationship by C30 to C40, an exception by C50 to C53. This project's
 //! profile.
 #![tactic(auto)]
 
@@ -17,8 +17,8 @@ pub use cell_reads::keys_of;
 pub use judging::{judge_all, judge_by};
 pub use laws::{
     accepted_successors_keep_chains, items_keep_apart, items_keep_chains, items_keep_parents,
-    items_keep_tables_sound, items_keep_to_their_rules, limits_that_suffice_are_alike,
-    writes_make_the_table,
+    items_keep_tables_sound, items_keep_to_their_rules, items_keep_what_each_record_has,
+    limits_that_suffice_are_alike, writes_make_the_table,
 };
 pub use outcome::{JudgeStop, Outcome, Plan, Verdict};
 pub use sitting::Sitting;

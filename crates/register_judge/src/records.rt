@@ -35,7 +35,7 @@ pub fn check_with_held<V: View>(
     }
     match sitting.rules {
         Rules::First => check_first(alloc, view, item),
-        Rules::Second => check_levels(alloc, view, item),
+        Rules::Second | Rules::Third => check_levels(alloc, view, item),
     }
 }
 
@@ -50,7 +50,7 @@ fn check_first<V: View>(alloc: Global, view: &V, item: &Record) -> Result<Checke
     }
 }
 
-// From C16 on by the second rules.
+// From C16 on by the later rules.
 fn check_levels<V: View>(alloc: Global, view: &V, item: &Record) -> Result<Checked, NoMemory>
     ensures { IfOk result (λ checked. checked
         ≡ Judging.check_levels (V.cells view.now) item.now (successors_in item.now)) }
@@ -79,7 +79,7 @@ fn first_unheld<V: View>(view: &V, leis: &[Lei]) -> Option<Checked>
     None
 }
 
-// From C17 on by the second rules, of an item whose successors are held.
+// From C17 on by the later rules, of an item whose successors are held.
 fn check_spread<V: View>(
     alloc: Global,
     view: &V,

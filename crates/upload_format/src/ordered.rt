@@ -179,7 +179,7 @@ fn read_fields(alloc: Global, members: Members<'_, '_>) -> Result<Option<Fields>
 }
 
 // So many fields, of so many bytes together, an item mostly has at most.
-const FIELDS: usize = 28;
+const FIELDS: usize = 32;
 
 const BYTES: usize = 1_500;
 

@@ -1,7 +1,7 @@
 use Rattle.std.proofs.Common.{◌+◌, ℤ, IfOk, ap, refl, subst, ◌∙◌}
 use Rattle.std.proofs.Math.Facts.{to_z-of_z}
 use Rattle.lei_records.specs.Tables.{record_count}
-use Rattle.lei_records.specs.declared.rules.Rules.{Rules}
+use Rattle.lei_records.specs.RuleNumbers.{newest}
 use Rattle.register_judge.specs.Agreement.{IsByReads}
 use Rattle.register_judge.specs.Judging.{judge_items}
 use Rattle.register_judge.specs.Outcomes.{Judges}
@@ -18,9 +18,9 @@ returns-clause-over_tables g c = λ table sound same.
     let today = c.args.today in
     let issuer = c.args.issuer.now in
     let items = c.args.items.now in
-    let sitting = sitting_by Rules.Second room today issuer in
-    let JudgedOn : ℤ → Type 0 = λ day. Judges c.judge_each.result (judge_items (g.V.View.cells c.args.view.now) 0 (sitting_by Rules.Second room day issuer) items) in
-    judges-takes c.judge_each.result _ (take table (sitting_by Rules.Second (record_count table + room) today issuer) items)
+    let sitting = sitting_by newest room today issuer in
+    let JudgedOn : ℤ → Type 0 = λ day. Judges c.judge_each.result (judge_items (g.V.View.cells c.args.view.now) 0 (sitting_by newest room day issuer) items) in
+    judges-takes c.judge_each.result _ (take table (sitting_by newest (record_count table + room) today issuer) items)
     (ap (λ cells. judge_items cells 0 sitting items) same ∙ judged-taken table sitting items sound)
     (subst JudgedOn (to_z-of_z c.ranges.today) c.judge_each.ensures.answers)
 
@@ -34,7 +34,7 @@ returns-clause-agreed g c =
     let room = c.args.room in
     let issuer = c.args.issuer.now in
     let items = c.args.items.now in
-    let ByReadsOn : ℤ → Type 0 = λ day. IfOk c.judge_each.result (λ outcome. IsByReads outcome view (sitting_by Rules.Second room day issuer) items) in
+    let ByReadsOn : ℤ → Type 0 = λ day. IfOk c.judge_each.result (λ outcome. IsByReads outcome view (sitting_by newest room day issuer) items) in
     agreed-by c.judge_each.result view room c.args.today issuer items
     (subst ByReadsOn (to_z-of_z c.ranges.today) (c.judge_each.ensures.by_reads refl))
 
@@ -44,7 +44,7 @@ returns-clause-wanting g c = λ key is.
     let room = c.args.room in
     let issuer = c.args.issuer.now in
     let items = c.args.items.now in
-    let sitting = sitting_by Rules.Second room c.args.today issuer in
-    let JudgedOn : ℤ → Type 0 = λ day. Judges c.judge_each.result (judge_items view 0 (sitting_by Rules.Second room day issuer) items) in
+    let sitting = sitting_by newest room c.args.today issuer in
+    let JudgedOn : ℤ → Type 0 = λ day. Judges c.judge_each.result (judge_items view 0 (sitting_by newest room day issuer) items) in
     items-want items view 0 sitting key
     (stopped-by c.judge_each.result (judge_items view 0 sitting items) key (subst JudgedOn (to_z-of_z c.ranges.today) c.judge_each.ensures.answers) is)
