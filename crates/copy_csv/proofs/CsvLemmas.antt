@@ -172,6 +172,32 @@ line_again (text ∷ texts) rest =
     ∙ ap (first_then (length texts)) (field_again text b (line texts ++ rest) (no_quote (length texts)))
     ∙ ap (with_text text) (line_again texts rest)
 
+-- a line of more fields is no line of fewer
+field-other : (text : List ℕ) (b c : ℕ) (rest : List ℕ) → (b == 34) ≡ false → (b == c) ≡ false
+    → field_from c (quoted text ++ b ∷ rest) ≡ None
+field-other text b c rest other follows =
+    ap (λ l. text_in c (behind 34 (34 ∷ l))) (append_assoc (flat_map doubled text) (34 ∷ []) (b ∷ rest))
+    ∙ ap (text_in c) (behind_itself 34 (flat_map doubled text ++ 34 ∷ b ∷ rest))
+    ∙ ap (before_byte c) (text_again text b rest other)
+    ∙ ap (λ t. option_map (λ more. (text, more)) (cond t (Some rest) None)) follows
+
+pub line-longer : (count : ℕ) (texts : List Text) (rest : List ℕ) → 0 < count → count < length texts
+    → line_from count (line texts ++ rest) ≡ None
+line-longer zero texts rest some more = absurd (omega arith)
+line-longer (suc count) [] rest some more = absurd (omega arith)
+line-longer (suc count) (text ∷ []) rest some more = absurd (omega arith)
+line-longer (suc zero) (text ∷ next ∷ texts) rest some more =
+    let others : List ℕ = line (next ∷ texts) ++ rest in
+    line-step 0 (line (text ∷ next ∷ texts) ++ rest)
+    ∙ ap (λ l. first_then 0 (field_from 10 l)) (append_assoc (quoted text) (44 ∷ line (next ∷ texts)) rest)
+    ∙ ap (first_then 0) (field-other text 44 10 others refl refl)
+line-longer (suc (suc count)) (text ∷ next ∷ texts) rest some more =
+    let others : List ℕ = line (next ∷ texts) ++ rest in
+    line-step (suc count) (line (text ∷ next ∷ texts) ++ rest)
+    ∙ ap (λ l. first_then (suc count) (field_from 44 l)) (append_assoc (quoted text) (44 ∷ line (next ∷ texts)) rest)
+    ∙ ap (first_then (suc count)) (field_again text 44 others refl)
+    ∙ ap (with_text text) (line-longer (suc count) (next ∷ texts) rest (omega arith) (omega arith))
+
 -- what is read is a line of so many texts
 abbrev pub LineTaken : ℕ → List ℕ → Option (List Text × List ℕ) → Type 0
 LineTaken count bytes None = ⊤

@@ -1,13 +1,11 @@
 -- Lines of rows and of changes.
 use Rattle.std.proofs.Common.{◌≡◌, ◌≢◌, ℕ, zero, suc, ◌+◌, ◌-◌, ◌<◌, ◌≤◌, ◌==◌, Bool, true, false, ◌&&◌, cond, inl, inr, get_or, Option, None, Some, List, [], ◌∷◌, ◌++◌, length, take, drop, refl, sym, ap, subst, ◌∙◌, arith, append_assoc}
-use Rattle.std.specs.Prelude.{flat_map, codes, unwrap_or, Result, Ok, Err, IfOk}
-use Rattle.std.specs.Cmp.Lexicographic.{pointwise}
+use Rattle.std.specs.Prelude.{codes, flat_map, if◌then◌else◌, replicate, unwrap_or}
 use Rattle.std.specs.List.{All, concat, list_all}
 use Rattle.std.specs.Str.{IsUtf8, is_utf8}
 use Rattle.std.proofs.lemmas.Bool.Decides.{eqb_tells}
-use Rattle.std.proofs.Math.Seq.{take-append_seam}
-use Rattle.std.proofs.lemmas.List.{append-nil, append_cancel_left, drop_all, drop_more, length-drop, take-append-drop, take_at}
-use Rattle.std.proofs.lemmas.Slice.Eq.{bytes_eq-Decides}
+use Rattle.std.proofs.lemmas.Grind.{flat_map-append}
+use Rattle.std.proofs.lemmas.List.{append-nil, drop_all, drop_more, get_or-take, length-drop, length-take-le, take-append-drop, take_all, take_at}
 use Rattle.std.proofs.lemmas.List.Elements.{All-head, All-tail, All-take}
 use Rattle.std.proofs.lemmas.Str.{IsUtf8-append, IsUtf8-from_is_utf8, IsUtf8-nil}
 use Rattle.lei_records.specs.Fields.{exception_fields, fields, relation_fields}
@@ -16,23 +14,24 @@ use Rattle.std.proofs.lemmas.Bool.{false≢true}
 use Rattle.lei_code.specs.Texts.{Text}
 use Rattle.copy_csv.specs.declared.rows.Change.{Change}
 use Rattle.register_words.specs.declared.sheets.Sheet.{Sheet}
-use Rattle.copy_csv.specs.Csv.{change_line, csv_copy, csv_delta, doubled, line, quoted, row_line, separator}
+use Rattle.copy_csv.specs.Csv.{after_comma, change_line, doubled, fields_text, line, quoted, row_line, row_start, row_tail, separator}
 use Rattle.copy_csv.specs.CsvReading.{line_from, separator_of}
-use Rattle.copy_csv.specs.Rows.{AreChanges, AreRows, IsChangeOf, IsRowOf, changed_key}
-use Rattle.copy_csv.specs.Sheets.{SheetRow, is_key_alone, key, names, width}
-use Rattle.copy_csv.specs.Taking.{AreRead, HasNoQuote, Reads, closing_of, drop_bytes, put_bytes}
+use Rattle.copy_csv.specs.Rows.{IsChangeIn, IsChangeOf, IsRowIn, IsRowOf}
+use Rattle.copy_csv.specs.Sheets.{IsRow, SheetRow, columns, fits, is_key_alone, names, names_shown, row_of, shown, width}
+use Rattle.copy_csv.specs.Taking.{HasNoQuote, Reads, closing_of, drop_bytes, put_bytes}
 use Rattle.copy_csv.proofs.CsvLemmas.{IsPlain, LineTaken, line_again, line_taken, separator-of}
-use Rattle.copy_csv.proofs.RowLemmas.{All-behind, one_list}
+use Rattle.copy_csv.proofs.RowLemmas.{All-behind}
 use Rattle.copy_csv.proofs.SheetLemmas.{text-at}
 use Rattle.copy_csv.proofs.Utf8Lemmas.{utf8_behind, utf8_doubled, utf8_joined}
+use Rattle.copy_csv.proofs.WidthLemmas.{columns-all, columns-within, filled-fits, filled-shown, left_out-empty, length-shown, same_shown, shown-some}
 
-abbrev Read : Type 0
+abbrev pub Read : Type 0
 Read = List Text × List ℕ
 
 same_read : (x y : Read) → Some x ≡ Some y → x ≡ y
 same_read x y e = ap (λ r. unwrap_or r x) e
 
-some≢none : (x : Read) → Some x ≢ None
+pub some≢none : (x : Read) → Some x ≢ None
 some≢none x e = cc
 
 -- what was read is a line
@@ -58,36 +57,36 @@ line-one_way count xs ys a b long others e =
     ∙ ap (line_from (length ys)) e ∙ line_again ys b) in
     (ap (λ r. r.0) same, ap (λ r. r.1) same)
 
-pub wide : (sheet : Sheet) → 0 < width sheet
-wide Sheet.Lei = omega arith
-wide Sheet.Rr = omega arith
-wide Sheet.Repex = omega arith
-
 -- ---- rows
 
-row_width : (sheet : Sheet) (row : SheetRow) → IsRowOf sheet row → length row.texts ≡ width sheet
-row_width sheet row is = is.0.wide ∙ ap width is.1
+pub row-none : (sheet : Sheet) (wide : Bool) (old new : List ℕ) → None ≡ line_from (columns wide sheet) old
+    → Reads (row_line wide) (IsRowIn sheet wide) old None new
+row-none sheet wide old new none row rest is =
+    line-none (columns wide sheet) old none (shown wide row) rest (length-shown sheet wide row is.0)
 
-pub row-none : (sheet : Sheet) (old new : List ℕ) → None ≡ line_from (width sheet) old → Reads row_line (IsRowOf sheet) old None new
-row-none sheet old new none row rest is = line-none (width sheet) old none row.texts rest (row_width sheet row is)
+-- a line that was read, filled up to a row
+pub row-filled : (sheet : Sheet) (wide : Bool) (texts all : List Text) (count : ℕ) (row : SheetRow) (old new : List ℕ)
+    → (old ≡ line texts ++ new) × (length texts ≡ columns wide sheet) → all ≡ texts ++ replicate (count - length texts) []
+    → row ≡ row_of sheet all → IsRow row → Reads (row_line wide) (IsRowIn sheet wide) old (Some row) new
+row-filled sheet wide texts all count row old new read filled value is =
+    let n : ℕ = count - length texts in
+    let same : row ≡ row_of sheet (texts ++ replicate n []) = value ∙ ap (row_of sheet) filled in (
+      read.0 ∙ ap (λ l. line l ++ new) (sym (filled-shown sheet wide texts n read.1)) ∙ ap (λ r. row_line wide r ++ new) (sym same),
+      ((is, ap (λ (r : SheetRow). r.sheet) same), ap (fits wide) same ∙ filled-fits sheet wide texts n read.1),
+    )
 
-same_row : (sheet : Sheet) (x y : SheetRow) → IsRowOf sheet x → IsRowOf sheet y → x.texts ≡ y.texts → x ≡ y
-same_row sheet x y is_x is_y e =
-    let sheets : x.sheet ≡ y.sheet = is_x.1 ∙ sym is_y.1 in λ i. record { sheet = sheets i; texts = e i }
-
-pub row-one_way : (sheet : Sheet) (x y : SheetRow) (a b : List ℕ) → IsRowOf sheet x → IsRowOf sheet y
-    → row_line x ++ a ≡ row_line y ++ b → (x ≡ y) × (a ≡ b)
-row-one_way sheet x y a b is_x is_y e =
-    let same = line-one_way (width sheet) x.texts y.texts a b (row_width sheet x is_x) (row_width sheet y is_y) e in
-    (same_row sheet x y is_x is_y same.0, same.1)
+pub row-one_way : (sheet : Sheet) (wide : Bool) (x y : SheetRow) (a b : List ℕ) → IsRowIn sheet wide x → IsRowIn sheet wide y
+    → row_line wide x ++ a ≡ row_line wide y ++ b → (x ≡ y) × (a ≡ b)
+row-one_way sheet wide x y a b is_x is_y e =
+    let same = line-one_way (columns wide sheet) (shown wide x) (shown wide y) a b (length-shown sheet wide x is_x.0) (length-shown sheet wide y is_y.0) e in
+    (same_shown sheet wide x y is_x is_y same.0, same.1)
 
 line-some : (texts : List Text) (rest : List ℕ) → 0 < length texts → line texts ++ rest ≢ []
 line-some [] rest some e = absurd (omega arith)
 line-some (text ∷ texts) rest some e = let none : suc (length (drop 1 (line (text ∷ texts) ++ rest))) ≡ 0 = ap length e in absurd (omega arith)
 
-pub row-some : (sheet : Sheet) (row : SheetRow) (rest : List ℕ) → IsRowOf sheet row → row_line row ++ rest ≢ []
-row-some sheet row rest is =
-    let some : 0 < length row.texts = let w = row_width sheet row is in let v = wide sheet in omega arith in line-some row.texts rest some
+pub row-some : (sheet : Sheet) (wide : Bool) (row : SheetRow) (rest : List ℕ) → IsRowIn sheet wide row → row_line wide row ++ rest ≢ []
+row-some sheet wide row rest is = line-some (shown wide row) rest (shown-some sheet wide row is.0)
 
 -- ---- changes
 
@@ -113,17 +112,16 @@ put-utf8 rest is = utf8_behind (34 ∷ 80 ∷ 85 ∷ 84 ∷ 34 ∷ []) rest 44 (
 pub drop-utf8 : (rest : List ℕ) → IsUtf8 (drop_bytes ++ rest) → IsUtf8 rest
 drop-utf8 rest is = utf8_behind (34 ∷ 68 ∷ 82 ∷ 79 ∷ 80 ∷ 34 ∷ []) rest 44 (omega arith) is
 
-pub texts_some : (sheet : Sheet) (row : SheetRow) → IsRowOf sheet row → 0 < length row.texts
-texts_some sheet row is = let w = row_width sheet row is in let v = wide sheet in omega arith
-
 -- the line of a change, behind what becomes of its key
-pub put-print : (sheet : Sheet) (row : SheetRow) (rest : List ℕ) → IsRowOf sheet row
-    → change_line (Change.Put row) ++ rest ≡ put_bytes ++ (row_line row ++ rest)
-put-print sheet row rest is = ap (λ l. l ++ rest) (put-line row.texts (texts_some sheet row is)) ∙ append_assoc put_bytes (row_line row) rest
+pub put-print : (sheet : Sheet) (wide : Bool) (row : SheetRow) (rest : List ℕ) → IsRowOf sheet row
+    → change_line wide (Change.Put row) ++ rest ≡ put_bytes ++ (row_line wide row ++ rest)
+put-print sheet wide row rest is = ap (λ l. l ++ rest) (put-line (shown wide row) (shown-some sheet wide row is))
+    ∙ append_assoc put_bytes (row_line wide row) rest
 
-pub drop-print : (sheet : Sheet) (row : SheetRow) (rest : List ℕ) → IsRowOf sheet row
-    → change_line (Change.Drop row) ++ rest ≡ drop_bytes ++ (row_line row ++ rest)
-drop-print sheet row rest is = ap (λ l. l ++ rest) (drop-line row.texts (texts_some sheet row is)) ∙ append_assoc drop_bytes (row_line row) rest
+pub drop-print : (sheet : Sheet) (wide : Bool) (row : SheetRow) (rest : List ℕ) → IsRowOf sheet row
+    → change_line wide (Change.Drop row) ++ rest ≡ drop_bytes ++ (row_line wide row ++ rest)
+drop-print sheet wide row rest is = ap (λ l. l ++ rest) (drop-line (shown wide row) (shown-some sheet wide row is))
+    ∙ append_assoc drop_bytes (row_line wide row) rest
 
 abbrev second : List ℕ → ℕ
 second (a ∷ b ∷ bytes) = b
@@ -139,68 +137,74 @@ cut_drop : (a b : List ℕ) → drop_bytes ++ a ≡ drop_bytes ++ b → a ≡ b
 cut_drop a b e = ap (drop 7) e
 
 -- a row behind `PUT`
-pub put-read : (sheet : Sheet) (row : SheetRow) (old new : List ℕ) → Reads row_line (IsRowOf sheet) old (Some row) new
-    → Reads change_line (IsChangeOf sheet) (put_bytes ++ old) (Some (Change.Put row)) new
-put-read sheet row old new read =
-    (ap (λ l. put_bytes ++ l) read.0 ∙ sym (put-print sheet row new read.1), (read.1, tt))
+pub put-read : (sheet : Sheet) (wide : Bool) (row : SheetRow) (old new : List ℕ) → Reads (row_line wide) (IsRowIn sheet wide) old (Some row) new
+    → Reads (change_line wide) (IsChangeIn sheet wide) (put_bytes ++ old) (Some (Change.Put row)) new
+put-read sheet wide row old new read =
+    (ap (λ l. put_bytes ++ l) read.0 ∙ sym (put-print sheet wide row new read.1.0), ((read.1.0, tt), read.1.1))
 
-pub put-none : (sheet : Sheet) (old new : List ℕ) → Reads row_line (IsRowOf sheet) old None new
-    → Reads change_line (IsChangeOf sheet) (put_bytes ++ old) None new
-put-none sheet old new none (Change.Put row) rest is e = none row rest is.0 (cut_put old (row_line row ++ rest) (e ∙ put-print sheet row rest is.0))
-put-none sheet old new none (Change.Drop row) rest is e = put≢drop old (row_line row ++ rest) (e ∙ drop-print sheet row rest is.0)
+pub put-none : (sheet : Sheet) (wide : Bool) (old new : List ℕ) → Reads (row_line wide) (IsRowIn sheet wide) old None new
+    → Reads (change_line wide) (IsChangeIn sheet wide) (put_bytes ++ old) None new
+put-none sheet wide old new none (Change.Put row) rest is e = none row rest (is.0.0, is.1) (cut_put old (row_line wide row ++ rest) (e ∙ put-print sheet wide row rest is.0.0))
+put-none sheet wide old new none (Change.Drop row) rest is e = put≢drop old (row_line wide row ++ rest) (e ∙ drop-print sheet wide row rest is.0.0)
 
 -- a row behind `DROP`
-pub drop-read : (sheet : Sheet) (row : SheetRow) (old new : List ℕ) → Reads row_line (IsRowOf sheet) old (Some row) new
-    → is_key_alone row ≡ true → Reads change_line (IsChangeOf sheet) (drop_bytes ++ old) (Some (Change.Drop row)) new
-drop-read sheet row old new read alone =
-    (ap (λ l. drop_bytes ++ l) read.0 ∙ sym (drop-print sheet row new read.1), (read.1, alone))
+pub drop-read : (sheet : Sheet) (wide : Bool) (row : SheetRow) (old new : List ℕ) → Reads (row_line wide) (IsRowIn sheet wide) old (Some row) new
+    → is_key_alone row ≡ true → Reads (change_line wide) (IsChangeIn sheet wide) (drop_bytes ++ old) (Some (Change.Drop row)) new
+drop-read sheet wide row old new read alone =
+    (ap (λ l. drop_bytes ++ l) read.0 ∙ sym (drop-print sheet wide row new read.1.0), ((read.1.0, alone), read.1.1))
 
-pub drop-none : (sheet : Sheet) (old new : List ℕ) → Reads row_line (IsRowOf sheet) old None new
-    → Reads change_line (IsChangeOf sheet) (drop_bytes ++ old) None new
-drop-none sheet old new none (Change.Drop row) rest is e = none row rest is.0 (cut_drop old (row_line row ++ rest) (e ∙ drop-print sheet row rest is.0))
-drop-none sheet old new none (Change.Put row) rest is e = put≢drop (row_line row ++ rest) old (sym (e ∙ put-print sheet row rest is.0))
+pub drop-none : (sheet : Sheet) (wide : Bool) (old new : List ℕ) → Reads (row_line wide) (IsRowIn sheet wide) old None new
+    → Reads (change_line wide) (IsChangeIn sheet wide) (drop_bytes ++ old) None new
+drop-none sheet wide old new none (Change.Drop row) rest is e = none row rest (is.0.0, is.1) (cut_drop old (row_line wide row ++ rest) (e ∙ drop-print sheet wide row rest is.0.0))
+drop-none sheet wide old new none (Change.Put row) rest is e = put≢drop (row_line wide row ++ rest) old (sym (e ∙ put-print sheet wide row rest is.0.0))
 
-pub drop-others : (sheet : Sheet) (row : SheetRow) (old new : List ℕ) → Reads row_line (IsRowOf sheet) old (Some row) new
-    → is_key_alone row ≡ false → (after : List ℕ) → Reads change_line (IsChangeOf sheet) (drop_bytes ++ old) None after
-drop-others sheet row old new read others after (Change.Put x) rest is e = put≢drop (row_line x ++ rest) old (sym (e ∙ put-print sheet x rest is.0))
-drop-others sheet row old new read others after (Change.Drop x) rest is e =
-    let same = row-one_way sheet row x new rest read.1 is.0 (sym read.0 ∙ cut_drop old (row_line x ++ rest) (e ∙ drop-print sheet x rest is.0)) in
-    false≢true (sym others ∙ ap is_key_alone same.0 ∙ is.1)
+pub drop-others : (sheet : Sheet) (wide : Bool) (row : SheetRow) (old new : List ℕ) → Reads (row_line wide) (IsRowIn sheet wide) old (Some row) new
+    → is_key_alone row ≡ false → (after : List ℕ) → Reads (change_line wide) (IsChangeIn sheet wide) (drop_bytes ++ old) None after
+drop-others sheet wide row old new read others after (Change.Put x) rest is e = put≢drop (row_line wide x ++ rest) old (sym (e ∙ put-print sheet wide x rest is.0.0))
+drop-others sheet wide row old new read others after (Change.Drop x) rest is e =
+    let same = row-one_way sheet wide row x new rest read.1 (is.0.0, is.1) (sym read.0 ∙ cut_drop old (row_line wide x ++ rest) (e ∙ drop-print sheet wide x rest is.0.0)) in
+    false≢true (sym others ∙ ap is_key_alone same.0 ∙ is.0.1)
 
 -- neither of the two
-pub change-none : (sheet : Sheet) (old new : List ℕ) → ((rest : List ℕ) → old ≢ put_bytes ++ rest) → ((rest : List ℕ) → old ≢ drop_bytes ++ rest)
-    → Reads change_line (IsChangeOf sheet) old None new
-change-none sheet old new no_put no_drop (Change.Put row) rest is e = no_put (row_line row ++ rest) (e ∙ put-print sheet row rest is.0)
-change-none sheet old new no_put no_drop (Change.Drop row) rest is e = no_drop (row_line row ++ rest) (e ∙ drop-print sheet row rest is.0)
+pub change-none : (sheet : Sheet) (wide : Bool) (old new : List ℕ) → ((rest : List ℕ) → old ≢ put_bytes ++ rest) → ((rest : List ℕ) → old ≢ drop_bytes ++ rest)
+    → Reads (change_line wide) (IsChangeIn sheet wide) old None new
+change-none sheet wide old new no_put no_drop (Change.Put row) rest is e = no_put (row_line wide row ++ rest) (e ∙ put-print sheet wide row rest is.0.0)
+change-none sheet wide old new no_put no_drop (Change.Drop row) rest is e = no_drop (row_line wide row ++ rest) (e ∙ drop-print sheet wide row rest is.0.0)
 
-pub change-one_way : (sheet : Sheet) (x y : Change) (a b : List ℕ) → IsChangeOf sheet x → IsChangeOf sheet y
-    → change_line x ++ a ≡ change_line y ++ b → (x ≡ y) × (a ≡ b)
-change-one_way sheet (Change.Put x) (Change.Put y) a b is_x is_y e =
-    let same = row-one_way sheet x y a b is_x.0 is_y.0 (cut_put (row_line x ++ a) (row_line y ++ b)
-    (sym (put-print sheet x a is_x.0) ∙ e ∙ put-print sheet y b is_y.0)) in
+pub change-one_way : (sheet : Sheet) (wide : Bool) (x y : Change) (a b : List ℕ) → IsChangeIn sheet wide x → IsChangeIn sheet wide y
+    → change_line wide x ++ a ≡ change_line wide y ++ b → (x ≡ y) × (a ≡ b)
+change-one_way sheet wide (Change.Put x) (Change.Put y) a b is_x is_y e =
+    let same = row-one_way sheet wide x y a b (is_x.0.0, is_x.1) (is_y.0.0, is_y.1) (cut_put (row_line wide x ++ a) (row_line wide y ++ b)
+    (sym (put-print sheet wide x a is_x.0.0) ∙ e ∙ put-print sheet wide y b is_y.0.0)) in
     (ap Change.Put same.0, same.1)
-change-one_way sheet (Change.Put x) (Change.Drop y) a b is_x is_y e =
-    absurd (put≢drop (row_line x ++ a) (row_line y ++ b) (sym (put-print sheet x a is_x.0) ∙ e ∙ drop-print sheet y b is_y.0))
-change-one_way sheet (Change.Drop x) (Change.Put y) a b is_x is_y e =
-    absurd (put≢drop (row_line y ++ b) (row_line x ++ a) (sym (sym (drop-print sheet x a is_x.0) ∙ e ∙ put-print sheet y b is_y.0)))
-change-one_way sheet (Change.Drop x) (Change.Drop y) a b is_x is_y e =
-    let same = row-one_way sheet x y a b is_x.0 is_y.0 (cut_drop (row_line x ++ a) (row_line y ++ b)
-    (sym (drop-print sheet x a is_x.0) ∙ e ∙ drop-print sheet y b is_y.0)) in
+change-one_way sheet wide (Change.Put x) (Change.Drop y) a b is_x is_y e =
+    absurd (put≢drop (row_line wide x ++ a) (row_line wide y ++ b) (sym (put-print sheet wide x a is_x.0.0) ∙ e ∙ drop-print sheet wide y b is_y.0.0))
+change-one_way sheet wide (Change.Drop x) (Change.Put y) a b is_x is_y e =
+    absurd (put≢drop (row_line wide y ++ b) (row_line wide x ++ a) (sym (sym (drop-print sheet wide x a is_x.0.0) ∙ e ∙ put-print sheet wide y b is_y.0.0)))
+change-one_way sheet wide (Change.Drop x) (Change.Drop y) a b is_x is_y e =
+    let same = row-one_way sheet wide x y a b (is_x.0.0, is_x.1) (is_y.0.0, is_y.1) (cut_drop (row_line wide x ++ a) (row_line wide y ++ b)
+    (sym (drop-print sheet wide x a is_x.0.0) ∙ e ∙ drop-print sheet wide y b is_y.0.0)) in
     (ap Change.Drop same.0, same.1)
 
-pub change-some : (sheet : Sheet) (change : Change) (rest : List ℕ) → IsChangeOf sheet change → change_line change ++ rest ≢ []
-change-some sheet (Change.Put row) rest is e =
-    let none : suc (length (drop 1 (put_bytes ++ (row_line row ++ rest)))) ≡ 0 = ap length (sym (put-print sheet row rest is.0) ∙ e) in absurd (omega arith)
-change-some sheet (Change.Drop row) rest is e =
-    let none : suc (length (drop 1 (drop_bytes ++ (row_line row ++ rest)))) ≡ 0 = ap length (sym (drop-print sheet row rest is.0) ∙ e) in absurd (omega arith)
+pub change-some : (sheet : Sheet) (wide : Bool) (change : Change) (rest : List ℕ) → IsChangeIn sheet wide change → change_line wide change ++ rest ≢ []
+change-some sheet wide (Change.Put row) rest is e =
+    let none : suc (length (drop 1 (put_bytes ++ (row_line wide row ++ rest)))) ≡ 0 = ap length (sym (put-print sheet wide row rest is.0.0) ∙ e) in absurd (omega arith)
+change-some sheet wide (Change.Drop row) rest is e =
+    let none : suc (length (drop 1 (drop_bytes ++ (row_line wide row ++ rest)))) ≡ 0 = ap length (sym (drop-print sheet wide row rest is.0.0) ∙ e) in absurd (omega arith)
 
 -- ---- printing
 
-pub names-wide : (sheet : Sheet) → length (names sheet) ≡ width sheet
+pub names-full : (sheet : Sheet) → length (names sheet) ≡ width sheet
 unfolding fields relation_fields exception_fields
-names-wide Sheet.Lei = refl
-names-wide Sheet.Rr = refl
-names-wide Sheet.Repex = refl
+names-full Sheet.Lei = refl
+names-full Sheet.Rr = refl
+names-full Sheet.Repex = refl
+
+pub length-names_shown : (wide : Bool) (sheet : Sheet) → length (names_shown wide sheet) ≡ columns wide sheet
+length-names_shown wide sheet =
+    let full = names-full sheet in
+    let within = columns-within wide sheet in
+    length-take-le (columns wide sheet) (names sheet) (omega arith)
 
 text_at-next : (xs : List Text) (i : ℕ) → text_at xs (i + 1) ≡ get_or xs i []
 text_at-next xs i = elim (eqb_tells (i + 1) 0) [
@@ -209,6 +213,10 @@ text_at-next xs i = elim (eqb_tells (i + 1) 0) [
       let same : i + 1 - 1 ≡ i = omega arith in
       ap (λ t. cond t [] (get_or xs (i + 1 - 1) [])) is.0 ∙ ap (λ n. get_or xs n []) same
 ]
+
+-- the texts before a place are those of the front up to there
+pub text_at-take : (xs : List Text) (n i : ℕ) → i < n → text_at xs (i + 1) ≡ text_at (take n xs) (i + 1)
+text_at-take xs n i before = text_at-next xs i ∙ sym (get_or-take n xs i [] before) ∙ sym (text_at-next (take n xs) i)
 
 -- one more field is put
 pub put-step : (xs : List Text) (i : ℕ) (out out' text : List ℕ) (byte : ℕ) → i < length xs
@@ -224,22 +232,22 @@ put-step xs i out out' text byte within put text_is byte_is =
     ∙ (λ j. quoted ((text_is ∙ text_at-next xs i) j) ++ (follows j ∷ line rest)))
     ∙ ap (λ l. out ++ line l) (sym (drop_more xs i [] within))
 
--- ---- a line whose quotes are put with the texts
+-- ---- fields whose quotes are put with the texts
 
 abbrev closes : List Text → List ℕ
-closes [] = 34 ∷ 10 ∷ []
+closes [] = 34 ∷ []
 closes (text ∷ texts) = 34 ∷ 44 ∷ 34 ∷ []
 
--- a line behind its first quote
+-- fields behind the first quote
 abbrev pub opened : List Text → List ℕ
 opened [] = []
 opened (text ∷ texts) = flat_map doubled text ++ (closes texts ++ opened texts)
 
-pub line-opened : (texts : List Text) → 0 < length texts → line texts ≡ 34 ∷ opened texts
-line-opened [] some = absurd (omega arith)
-line-opened (text ∷ []) some = ap (λ l. 34 ∷ l) (append_assoc (flat_map doubled text) (34 ∷ []) (10 ∷ []))
-line-opened (text ∷ next ∷ texts) some =
-    ap (λ l. quoted text ++ (44 ∷ l)) (line-opened (next ∷ texts) (omega arith))
+fields-opened : (texts : List Text) → 0 < length texts → fields_text texts ≡ 34 ∷ opened texts
+fields-opened [] some = absurd (omega arith)
+fields-opened (text ∷ []) some = append-nil (quoted text)
+fields-opened (text ∷ next ∷ texts) some =
+    ap (λ l. quoted text ++ (44 ∷ l)) (fields-opened (next ∷ texts) (omega arith))
     ∙ ap (λ l. 34 ∷ l) (append_assoc (flat_map doubled text) (34 ∷ []) (44 ∷ 34 ∷ opened (next ∷ texts)))
 
 closes-of : (texts : List Text) → closes texts ≡ closing_of (length texts)
@@ -260,12 +268,73 @@ opened-step xs i out mid out' text close within put text_is closed close_is =
     ∙ ap (λ l. out ++ (flat_map doubled l ++ (closes rest ++ opened rest))) (text_is ∙ text_at-next xs i)
     ∙ ap (λ l. out ++ opened l) (sym (drop_more xs i [] within))
 
-pub opened-begin : (xs : List Text) (out out' : List ℕ) → 0 < length xs → out' ≡ out ++ 34 ∷ [] → out' ++ opened (drop 0 xs) ≡ out ++ line xs
-opened-begin xs out out' some put = ap (λ l. l ++ opened xs) put ∙ append_assoc out (34 ∷ []) (opened xs)
-    ∙ ap (λ l. out ++ l) (sym (line-opened xs some))
+pub opened-begin : (xs : List Text) (from : ℕ) (out out' : List ℕ) → from < length xs → out' ≡ out ++ 34 ∷ []
+    → out' ++ opened (drop from xs) ≡ out ++ fields_text (drop from xs)
+opened-begin xs from out out' some put =
+    let rest : List Text = drop from xs in
+    let left : length rest ≡ length xs - from = length-drop from xs in
+    ap (λ l. l ++ opened rest) put ∙ append_assoc out (34 ∷ []) (opened rest)
+    ∙ ap (λ l. out ++ l) (sym (fields-opened rest (omega arith)))
 
 pub opened-end : (xs : List Text) (i : ℕ) (out all : List ℕ) → length xs ≤ i → out ++ opened (drop i xs) ≡ all → out ≡ all
 opened-end xs i out all behind is = sym (append-nil out) ∙ ap (λ l. out ++ opened l) (sym (drop_all i xs behind)) ∙ is
+
+-- ---- a line by its fields
+
+pub line-fields : (texts : List Text) → 0 < length texts → fields_text texts ++ 10 ∷ [] ≡ line texts
+line-fields [] some = absurd (omega arith)
+line-fields (text ∷ []) some = ap (λ l. l ++ 10 ∷ []) (append-nil (quoted text))
+line-fields (text ∷ next ∷ texts) some =
+    append_assoc (quoted text) (44 ∷ fields_text (next ∷ texts)) (10 ∷ [])
+    ∙ ap (λ l. quoted text ++ (44 ∷ l)) (line-fields (next ∷ texts) (omega arith))
+
+fields-append : (xs ys : List Text) → 0 < length xs → fields_text (xs ++ ys) ≡ fields_text xs ++ flat_map after_comma ys
+fields-append [] ys some = absurd (omega arith)
+fields-append (x ∷ xs) ys some = ap (λ l. quoted x ++ l) (flat_map-append after_comma xs ys)
+    ∙ sym (append_assoc (quoted x) (flat_map after_comma xs) (flat_map after_comma ys))
+
+-- the line of a row by its start and what a wide file has more
+pub row-joined : (wide : Bool) (row : SheetRow) → IsRow row
+    → row_start row ++ ((if wide then row_tail row else []) ++ 10 ∷ []) ≡ row_line wide row
+row-joined false row is = line-fields (shown false row) (shown-some row.sheet false row (is, refl))
+row-joined true row is =
+    let n : ℕ = columns false row.sheet in
+    let full : length row.texts ≡ columns true row.sheet = is.full ∙ sym (columns-all row.sheet) in
+    let all : shown true row ≡ row.texts = take_all (columns true row.sheet) row.texts (omega arith) in
+    let split : row.texts ≡ shown false row ++ drop n row.texts = sym (take-append-drop n row.texts) in
+    sym (append_assoc (row_start row) (row_tail row) (10 ∷ []))
+    ∙ ap (λ l. l ++ 10 ∷ []) (sym (fields-append (shown false row) (drop n row.texts) (shown-some row.sheet false row (is, refl))))
+    ∙ ap (λ l. fields_text l ++ 10 ∷ []) (sym split ∙ sym all)
+    ∙ line-fields (shown true row) (shown-some row.sheet true row (is, refl))
+
+-- of a row that fits a narrow file, what a wide one has more is empty fields
+pub tail-empty : (sheet : Sheet) (row : SheetRow) → IsRowIn sheet false row
+    → row_tail row ≡ flat_map after_comma (replicate (width sheet - columns false sheet) [])
+tail-empty sheet row is = ap (flat_map after_comma) (left_out-empty sheet false row is)
+
+-- the fields of a line are put, and LF
+pub row-put : (wide : Bool) (row : SheetRow) (count : ℕ) (out next after : List ℕ) → IsRow row → count ≡ columns wide row.sheet
+    → next ≡ out ++ fields_text (drop 0 (take count row.texts)) → after ≡ next ++ 10 ∷ [] → after ≡ out ++ row_line wide row
+row-put wide row count out next after is count_is put end =
+    end ∙ ap (λ l. l ++ 10 ∷ []) (put ∙ ap (λ n. out ++ fields_text (take n row.texts)) count_is)
+    ∙ append_assoc out (fields_text (shown wide row)) (10 ∷ [])
+    ∙ ap (λ l. out ++ l) (line-fields (shown wide row) (shown-some row.sheet wide row (is, refl)))
+
+comma-fields : (texts : List Text) → 0 < length texts → 44 ∷ fields_text texts ≡ flat_map after_comma texts
+comma-fields [] some = absurd (omega arith)
+comma-fields (text ∷ texts) some = refl
+
+-- a comma is put, and the fields that a narrow line lacks
+pub tail-put : (row : SheetRow) (narrow full : ℕ) (out next after : List ℕ) → IsRow row → narrow ≡ columns false row.sheet
+    → full ≡ width row.sheet → narrow < full → next ≡ out ++ 44 ∷ [] → after ≡ next ++ fields_text (drop narrow (take full row.texts))
+    → after ≡ out ++ row_tail row
+tail-put row narrow full out next after is narrow_is full_is some comma put =
+    let all : length row.texts ≡ full = is.full ∙ sym full_is in
+    let left : length (drop narrow row.texts) ≡ length row.texts - narrow = length-drop narrow row.texts in
+    put ∙ (λ i. comma i ++ fields_text (drop narrow (take_all full row.texts (omega arith) i)))
+    ∙ append_assoc out (44 ∷ []) (fields_text (drop narrow row.texts))
+    ∙ ap (λ l. out ++ l) (comma-fields (drop narrow row.texts) (omega arith))
+    ∙ ap (λ n. out ++ flat_map after_comma (drop n row.texts)) narrow_is
 
 -- where none of several texts has a quote
 pub none-quoted : (texts : List Text) (place : ℕ) → HasNoQuote (concat texts) → 1 ≤ place → HasNoQuote (text_at texts place)
@@ -300,8 +369,14 @@ utf8-line (text ∷ texts) all =
     let both = parts (is_utf8 text) (list_all is_utf8 texts) all in
     utf8_joined (quoted text) (line texts) (separator texts) (low texts) (utf8-quoted text (IsUtf8-from_is_utf8 text both.0)) (utf8-line texts both.1)
 
-pub utf8-row : (sheet : Sheet) (row : SheetRow) → IsRowOf sheet row → IsUtf8 (row_line row)
-utf8-row sheet row is = utf8-line row.texts is.0.utf8
+all-take : (p : Text → Bool) (n : ℕ) (xs : List Text) → list_all p xs ≡ true → list_all p (take n xs) ≡ true
+all-take p zero xs all = refl
+all-take p (suc n) [] all = refl
+all-take p (suc n) (x ∷ xs) all =
+    let both = parts (p x) (list_all p xs) all in ap (λ b. b && list_all p (take n xs)) both.0 ∙ all-take p n xs both.1
+
+pub utf8-row : (sheet : Sheet) (wide : Bool) (row : SheetRow) → IsRowOf sheet row → IsUtf8 (row_line wide row)
+utf8-row sheet wide row is = utf8-line (shown wide row) (all-take is_utf8 (columns wide row.sheet) row.texts is.0.utf8)
 
 before : (b : ℕ) (bytes : List ℕ) → b < 128 → IsUtf8 bytes → IsUtf8 (b ∷ bytes)
 before b bytes low is = utf8_joined [] bytes b low IsUtf8-nil is
@@ -317,94 +392,16 @@ drop_utf8 : IsUtf8 drop_bytes
 drop_utf8 = before 34 (68 ∷ 82 ∷ 79 ∷ 80 ∷ 34 ∷ 44 ∷ []) (omega arith) (before 68 (82 ∷ 79 ∷ 80 ∷ 34 ∷ 44 ∷ []) (omega arith)
     (before 82 (79 ∷ 80 ∷ 34 ∷ 44 ∷ []) (omega arith) (before 79 (80 ∷ 34 ∷ 44 ∷ []) (omega arith) (before 80 (34 ∷ 44 ∷ []) (omega arith) quote_comma))))
 
-pub utf8-change : (sheet : Sheet) (change : Change) → IsChangeOf sheet change → IsUtf8 (change_line change)
-utf8-change sheet (Change.Put row) is = let F : List ℕ → Type 0 = IsUtf8 in
-    subst F (sym (put-line row.texts (texts_some sheet row is.0))) (IsUtf8-append put_bytes (row_line row) put_utf8 (utf8-row sheet row is.0))
-utf8-change sheet (Change.Drop row) is = let F : List ℕ → Type 0 = IsUtf8 in
-    subst F (sym (drop-line row.texts (texts_some sheet row is.0))) (IsUtf8-append drop_bytes (row_line row) drop_utf8 (utf8-row sheet row is.0))
+pub utf8-change : (sheet : Sheet) (wide : Bool) (change : Change) → IsChangeOf sheet change → IsUtf8 (change_line wide change)
+utf8-change sheet wide (Change.Put row) is = let F : List ℕ → Type 0 = IsUtf8 in
+    subst F (sym (put-line (shown wide row) (shown-some sheet wide row is.0)))
+    (IsUtf8-append put_bytes (row_line wide row) put_utf8 (utf8-row sheet wide row is.0))
+utf8-change sheet wide (Change.Drop row) is = let F : List ℕ → Type 0 = IsUtf8 in
+    subst F (sym (drop-line (shown wide row) (shown-some sheet wide row is.0)))
+    (IsUtf8-append drop_bytes (row_line wide row) drop_utf8 (utf8-row sheet wide row is.0))
 
 pub utf8-all : {X : Type 0} (print : X → List ℕ) (Good : X → Type 0) → ((x : X) → Good x → IsUtf8 (print x)) → (xs : List X) → All Good xs
     → IsUtf8 (flat_map print xs)
 utf8-all print Good each [] all = IsUtf8-nil
 utf8-all print Good each (x ∷ xs) all = IsUtf8-append (print x) (flat_map print xs) (each x (All-head Good x xs all))
     (utf8-all print Good each xs (All-tail Good x xs all))
-
--- ---- whole files
-
-comma : (sheet : Sheet) → separator (names sheet) ≡ 44
-comma sheet = separator-of (names sheet) ∙ ap separator_of (names-wide sheet) ∙ is sheet
-  where
-    is : (sheet : Sheet) → separator_of (width sheet) ≡ 44
-    is Sheet.Lei = refl
-    is Sheet.Rr = refl
-    is Sheet.Repex = refl
-
-pub delta-head : (sheet : Sheet) (out next after text : List ℕ) → out ≡ [] → text ≡ codes "Delta.Action" → next ≡ out ++ (quoted text ++ 44 ∷ [])
-    → after ≡ next ++ line (names sheet) → after ≡ line (codes "Delta.Action" ∷ names sheet)
-delta-head sheet out next after text none is one two =
-    two ∙ ap (λ l. l ++ line (names sheet)) (one ∙ (λ i. none i ++ (quoted (is i) ++ 44 ∷ [])))
-    ∙ append_assoc (quoted (codes "Delta.Action")) (44 ∷ []) (line (names sheet))
-    ∙ ap (λ b. quoted (codes "Delta.Action") ++ (b ∷ line (names sheet))) (sym (comma sheet))
-
-pub copy-is : (sheet : Sheet) (rows : List SheetRow) → csv_copy sheet rows ≡ line (names sheet) ++ flat_map row_line rows
-unfolding csv_copy
-copy-is sheet rows = refl
-
-pub delta-is : (sheet : Sheet) (changes : List Change)
-    → csv_delta sheet changes ≡ line (codes "Delta.Action" ∷ names sheet) ++ flat_map change_line changes
-unfolding csv_delta
-delta-is sheet changes = refl
-
--- the rows of what stands behind the first line
-pub copy-read : (sheet : Sheet) (rows : List SheetRow) → AreRows sheet rows → (rest : List ℕ) → rest ≡ flat_map row_line rows
-    → AreRead row_line (IsRowOf sheet) key rest rows
-copy-read sheet rows are rest is = record { printed = is; good = are.each; rising = are.rising }
-
-pub delta-read : (sheet : Sheet) (changes : List Change) → AreChanges sheet changes → (rest : List ℕ) → rest ≡ flat_map change_line changes
-    → AreRead change_line (IsChangeOf sheet) changed_key rest changes
-delta-read sheet changes are rest is = record { printed = is; good = are.each; rising = are.rising }
-
--- and the other way round
-pub behind-head : (head bytes rest more : List ℕ) → bytes ≡ head ++ rest → bytes ≡ head ++ more → rest ≡ more
-behind-head head bytes rest more is other = append_cancel_left head rest more (sym is ∙ other)
-
--- bytes that begin with the first line, by what a comparison of their front says
-pub begins : (head bytes rest : List ℕ) → pointwise ◌==◌ (take (length head) bytes) head ≡ true → rest ≡ drop (length head) bytes
-    → bytes ≡ head ++ rest
-begins head bytes rest test is =
-    let same : take (length head) bytes ≡ head = (bytes_eq-Decides (take (length head) bytes) head).0 test in
-    sym (take-append-drop (length head) bytes) ∙ (λ i. same i ++ sym is i)
-
-pub begins-not : (head bytes rest : List ℕ) → pointwise ◌==◌ (take (length head) bytes) head ≡ false → bytes ≢ head ++ rest
-begins-not head bytes rest test is =
-    let same : take (length head) bytes ≡ head = ap (take (length head)) is ∙ take-append_seam head rest in
-    false≢true (sym test ∙ (bytes_eq-Decides (take (length head) bytes) head).1 same)
-
-pub copy-found : {E : Type 0} (sheet : Sheet) (bytes rest : List ℕ) → bytes ≡ line (names sheet) ++ rest → (r : Result (List SheetRow) E)
-    → IfOk r (AreRead row_line (IsRowOf sheet) key rest) → IfOk r (λ rows. (bytes ≡ csv_copy sheet rows) × AreRows sheet rows)
-copy-found sheet bytes rest all (Ok rows) are =
-    (all ∙ ap (λ l. line (names sheet) ++ l) are.printed ∙ sym (copy-is sheet rows), record { each = are.good; rising = are.rising })
-copy-found sheet bytes rest all (Err e) are = tt
-
-pub delta-found : {E : Type 0} (sheet : Sheet) (bytes rest : List ℕ) → bytes ≡ line (codes "Delta.Action" ∷ names sheet) ++ rest
-    → (r : Result (List Change) E) → IfOk r (AreRead change_line (IsChangeOf sheet) changed_key rest)
-    → IfOk r (λ changes. (bytes ≡ csv_delta sheet changes) × AreChanges sheet changes)
-delta-found sheet bytes rest all (Ok changes) are =
-    (all ∙ ap (λ l. line (codes "Delta.Action" ∷ names sheet) ++ l) are.printed ∙ sym (delta-is sheet changes), record { each = are.good; rising = are.rising })
-delta-found sheet bytes rest all (Err e) are = tt
-
--- ---- no two lists have one text
-
-pub one_copy : (sheet : Sheet) (rows others : List SheetRow) → AreRows sheet rows → AreRows sheet others
-    → csv_copy sheet rows ≡ csv_copy sheet others → rows ≡ others
-one_copy sheet rows others are too e =
-    one_list row_line (IsRowOf sheet) key (row-one_way sheet) (row-some sheet) rows others are.each too.each
-    (append_cancel_left (line (names sheet)) (flat_map row_line rows) (flat_map row_line others)
-    (sym (copy-is sheet rows) ∙ e ∙ copy-is sheet others))
-
-pub one_delta : (sheet : Sheet) (changes others : List Change) → AreChanges sheet changes → AreChanges sheet others
-    → csv_delta sheet changes ≡ csv_delta sheet others → changes ≡ others
-one_delta sheet changes others are too e =
-    one_list change_line (IsChangeOf sheet) changed_key (change-one_way sheet) (change-some sheet) changes others are.each too.each
-    (append_cancel_left (line (codes "Delta.Action" ∷ names sheet)) (flat_map change_line changes) (flat_map change_line others)
-    (sym (delta-is sheet changes) ∙ e ∙ delta-is sheet others))

@@ -1,11 +1,13 @@
 -- The text of a copy and of a delta in CSV (RFC 4180), with every field in quotes and LF at the end of each line.
-use Rattle.std.specs.Prelude.{ℕ, List, [], ◌∷◌, ◌++◌, ◌==◌, if◌then◌else◌, flat_map, codes}
+use Rattle.std.specs.Prelude.{◌≡◌, ℕ, List, [], ◌∷◌, ◌++◌, ◌==◌, Bool, true, false, if◌then◌else◌, flat_map, codes, IsTrue}
+use Rattle.std.specs.List.{All}
 use Rattle.lei_code.specs.Texts.{Text}
 use Rattle.register_words.specs.declared.sheets.Sheet.{Sheet}
 use Rattle.copy_csv.specs.declared.rows.Change.{Change}
 use Rattle.copy_csv.specs.declared.rows.RowTexts.{RowTexts}
 use Rattle.copy_csv.specs.declared.rows.TextChange.{TextChange}
-use Rattle.copy_csv.specs.Sheets.{SheetRow, names}
+use Rattle.copy_csv.specs.Rows.{AreChanges, AreRows, changed_row}
+use Rattle.copy_csv.specs.Sheets.{SheetRow, fits, has_widths, left_out, names_shown, shown}
 
 -- A byte of a field: a quote, the byte 34, stands twice.
 abbrev pub doubled : ℕ → List ℕ
@@ -25,24 +27,64 @@ abbrev pub line : List Text → Text
 line [] = []
 line (text ∷ texts) = quoted text ++ (separator texts ∷ line texts)
 
--- The line of a row.
-abbrev pub row_line : SheetRow → Text
-row_line row = line row.texts
+-- The line of a row in a file of this width.
+abbrev pub row_line : Bool → SheetRow → Text
+row_line wide row = line (shown wide row)
 
 -- The line of a change: its first field says what becomes of the key.
-abbrev pub change_line : Change → Text
-change_line (Change.Put row) = line (codes "PUT" ∷ row.texts)
-change_line (Change.Drop row) = line (codes "DROP" ∷ row.texts)
+abbrev pub change_line : Bool → Change → Text
+change_line wide (Change.Put row) = line (codes "PUT" ∷ shown wide row)
+change_line wide (Change.Drop row) = line (codes "DROP" ∷ shown wide row)
 
--- A copy: a line with the names of the fields, and a line for each row.
-unfoldable pub csv_copy : Sheet → List SheetRow → Text
-csv_copy sheet rows = line (names sheet) ++ flat_map row_line rows
+-- The names at the head of a delta: what becomes of the key, and the fields.
+abbrev pub delta_names : Bool → Sheet → List Text
+delta_names wide sheet = codes "Delta.Action" ∷ names_shown wide sheet
 
--- A delta: a line with the names of the fields, and a line for each change.
-unfoldable pub csv_delta : Sheet → List Change → Text
-csv_delta sheet changes = line (codes "Delta.Action" ∷ names sheet) ++ flat_map change_line changes
+-- A copy of a width: a line with the names of the fields, and a line for each row.
+unfoldable pub csv_copy : Sheet → Bool → List SheetRow → Text
+csv_copy sheet wide rows = line (names_shown wide sheet) ++ flat_map (row_line wide) rows
+
+-- A delta of a width: a line with the names of the fields, and a line for each change.
+unfoldable pub csv_delta : Sheet → Bool → List Change → Text
+csv_delta sheet wide changes = line (delta_names wide sheet) ++ flat_map (change_line wide) changes
+
+-- The bytes are the copy of this width with these rows: rows of the sheet whose keys rise, and which have nothing for
+-- the columns that the copy lacks. Only a sheet that has widths has a wide copy.
+pub record IsCsvCopy (sheet : Sheet) (bytes : Text) (wide : Bool) (rows : List SheetRow) : Type 0 where
+  pub text : bytes ≡ csv_copy sheet wide rows
+  pub wide_is : wide ≡ true → has_widths sheet ≡ true
+  pub rows_are : AreRows sheet rows
+  pub fit : All (λ row. IsTrue (fits wide row)) rows
+
+-- The same of a delta.
+pub record IsCsvDelta (sheet : Sheet) (bytes : Text) (wide : Bool) (changes : List Change) : Type 0 where
+  pub text : bytes ≡ csv_delta sheet wide changes
+  pub wide_is : wide ≡ true → has_widths sheet ≡ true
+  pub changes_are : AreChanges sheet changes
+  pub fit : All (λ change. IsTrue (fits wide (changed_row change))) changes
 
 -- ---- joined
+
+-- A field with the comma before it.
+abbrev pub after_comma : Text → Text
+after_comma text = 44 ∷ quoted text
+
+-- Fields with a comma between each and the next.
+abbrev pub fields_text : List Text → Text
+fields_text [] = []
+fields_text (text ∷ texts) = quoted text ++ flat_map after_comma texts
+
+-- The start of a row's line, up to where the line of a narrow file ends.
+abbrev pub row_start : SheetRow → Text
+row_start row = fields_text (shown false row)
+
+-- What the line of a wide file has more: the further fields, each with the comma before it. Only `lei` has any.
+abbrev pub row_tail : SheetRow → Text
+row_tail row = flat_map after_comma (left_out false row)
+
+-- The line of a row that is rendered.
+abbrev pub joined_line : Bool → RowTexts → Text
+joined_line wide texts = texts.csv ++ ((if wide then texts.tail else []) ++ 10 ∷ [])
 
 -- What a delta has of a key: the texts of the row that is put, or the row of the key that is dropped.
 pub data Rendered : Type 0 where
@@ -55,10 +97,10 @@ rendered_in (TextChange.Put texts) = Rendered.put texts.now
 rendered_in (TextChange.Drop row) = Rendered.drop row
 
 -- The line of a change whose row is rendered.
-abbrev pub rendered_line : Rendered → Text
-rendered_line (Rendered.put texts) = codes "\"PUT\"," ++ texts.csv
-rendered_line (Rendered.drop row) = codes "\"DROP\"," ++ row_line row
+abbrev pub rendered_line : Bool → Rendered → Text
+rendered_line wide (Rendered.put texts) = codes "\"PUT\"," ++ joined_line wide texts
+rendered_line wide (Rendered.drop row) = codes "\"DROP\"," ++ row_line wide row
 
 -- The line of a change that refers to the texts of its row.
-abbrev pub text_change_line : TextChange → Text
-text_change_line change = rendered_line (rendered_in change)
+abbrev pub text_change_line : Bool → TextChange → Text
+text_change_line wide change = rendered_line wide (rendered_in change)

@@ -1,5 +1,5 @@
 -- The rows of golden copies, and of deltas between them, with their heads.
-use Rattle.std.specs.Prelude.{◌≡◌, ◌≤◌, ℕ, List, map, ⊤, IsTrue}
+use Rattle.std.specs.Prelude.{◌≡◌, ◌≤◌, ℕ, Bool, List, map, ⊤, IsTrue}
 use Rattle.std.specs.List.{All}
 use Rattle.std.specs.List.Sorted.{IsStrictlySortedBy}
 use Rattle.lei_shapes.specs.Moment.{IsMoment}
@@ -7,7 +7,7 @@ use Rattle.lei_records.specs.Tables.{KeyTexts, key_cmp}
 use Rattle.register_words.specs.declared.sheets.Sheet.{Sheet}
 use Rattle.copy_csv.specs.declared.heads.Head.{Head}
 use Rattle.copy_csv.specs.declared.rows.Change.{Change}
-use Rattle.copy_csv.specs.Sheets.{IsRow, SheetRow, is_key_alone, key}
+use Rattle.copy_csv.specs.Sheets.{IsRow, SheetRow, fits, is_key_alone, key}
 
 -- The keys rise strictly in byte order, text by text, so none stands twice.
 abbrev pub AreRising : List KeyTexts → Type 0
@@ -54,6 +54,10 @@ pub record IsDeltaHead (head : Head) : Type 0 where
 abbrev pub IsRowOf : Sheet → SheetRow → Type 0
 IsRowOf sheet row = IsRow row × (row.sheet ≡ sheet)
 
+-- A row of this sheet that a file of this width shows whole.
+abbrev pub IsRowIn : Sheet → Bool → SheetRow → Type 0
+IsRowIn sheet wide row = IsRowOf sheet row × IsTrue (fits wide row)
+
 -- The rows of a copy of a sheet: rows of this sheet, whose keys rise.
 pub record AreRows (sheet : Sheet) (rows : List SheetRow) : Type 0 where
   pub each : All (IsRowOf sheet) rows
@@ -62,6 +66,10 @@ pub record AreRows (sheet : Sheet) (rows : List SheetRow) : Type 0 where
 -- A change of a row of this sheet. Of a key that is dropped stands the key alone.
 abbrev pub IsChangeOf : Sheet → Change → Type 0
 IsChangeOf sheet change = IsRowOf sheet (changed_row change) × IsDropOfKey change
+
+-- A change of a row of this sheet that a file of this width shows whole.
+abbrev pub IsChangeIn : Sheet → Bool → Change → Type 0
+IsChangeIn sheet wide change = IsChangeOf sheet change × IsTrue (fits wide (changed_row change))
 
 -- The changes of a delta of a sheet: changes of rows of this sheet, whose keys rise.
 pub record AreChanges (sheet : Sheet) (changes : List Change) : Type 0 where

@@ -1,19 +1,24 @@
 -- What calls that read CSV take of what is left to read, and what they make of it.
 use Rattle.std.specs.Prelude.{◌≡◌, ◌≢◌, ℕ, zero, suc, List, [], ◌∷◌, ◌++◌, ◌==◌, Bool, true, false, Option, None, Some, length, map, flat_map, ◌-◌}
+use Rattle.std.specs.Borrow.{Bor}
 use Rattle.std.specs.List.{All, slice_get}
 use Rattle.std.specs.Option.{option_map}
 use Rattle.std.specs.Ordering.{is_lt}
+use Rattle.std.specs.Str.{IsUtf8}
+use Rattle.lei_code.specs.Texts.{Text}
 use Rattle.lei_records.specs.Tables.{KeyTexts, key_cmp}
+use Rattle.register_words.specs.declared.sheets.Sheet.{Sheet}
+use Rattle.copy_csv.specs.Csv.{line}
 use Rattle.copy_csv.specs.Rows.{AreRising}
+use Rattle.copy_csv.specs.Sheets.{has_widths}
 
 -- No byte is a quote.
 abbrev pub HasNoQuote : List ℕ → Type 0
 HasNoQuote bytes = All (λ byte. (byte == 34) ≡ false) bytes
 
--- What closes a text in a line and opens the next one: a quote, a comma and a quote where more fields follow, and else
--- a quote and LF.
+-- What closes a text and, where more texts follow, opens the next one: a quote, and then a comma and a quote.
 abbrev pub closing_of : ℕ → List ℕ
-closing_of zero = 34 ∷ 10 ∷ []
+closing_of zero = 34 ∷ []
 closing_of (suc more) = 34 ∷ 44 ∷ 34 ∷ []
 
 -- The bytes before the next quote were put behind the others and are no longer to be read, nor is the quote; or there
@@ -65,3 +70,30 @@ put_bytes = 34 ∷ 80 ∷ 85 ∷ 84 ∷ 34 ∷ 44 ∷ []
 -- `"DROP",`, which begins the line of a key that is dropped.
 abbrev pub drop_bytes : List ℕ
 drop_bytes = 34 ∷ 68 ∷ 82 ∷ 79 ∷ 80 ∷ 34 ∷ 44 ∷ []
+
+-- The lines that stand behind the head of a file, and the width that the head tells.
+pub record HasLines (names : Bool → Sheet → List Text) (sheet : Sheet) (bytes : List ℕ) (wide : Bool)
+    (lines : List ℕ) : Type 0 where
+  pub whole : bytes ≡ line (names wide sheet) ++ lines
+  pub wide_is : wide ≡ true → has_widths sheet ≡ true
+  pub utf8 : IsUtf8 lines
+
+-- What was found behind the head of a file: its lines and its width, or that the bytes are no head with lines of UTF-8
+-- behind it.
+abbrev pub FindsLines : (Bool → Sheet → List Text) → Sheet → List ℕ → Option (Bool × List ℕ) → Type 0
+FindsLines names sheet bytes (Some found) = HasLines names sheet bytes found.0 found.1
+FindsLines names sheet bytes None = (wide : Bool) (lines : List ℕ) → HasLines names sheet bytes wide lines → ⊥
+
+-- What was found behind the one of two fronts that the bytes begin with, where it is UTF-8, and whether this front is
+-- the second one. Where both stand there, the first one counts.
+abbrev pub FindsBehind : List ℕ → List ℕ → List ℕ → Option (Bool × List ℕ) → Type 0
+FindsBehind first second bytes (Some (true, rest)) =
+    (bytes ≡ second ++ rest) × IsUtf8 rest × ((others : List ℕ) → bytes ≢ first ++ others)
+FindsBehind first second bytes (Some (false, rest)) = (bytes ≡ first ++ rest) × IsUtf8 rest
+FindsBehind first second bytes None =
+    ((rest : List ℕ) → IsUtf8 rest → bytes ≢ first ++ rest)
+    × ((rest : List ℕ) → IsUtf8 rest → ((others : List ℕ) → bytes ≢ first ++ others) → bytes ≢ second ++ rest)
+
+-- Lines that are lent, with their width.
+abbrev pub read_lines : Option (Bool × Bor (List ℕ)) → Option (Bool × List ℕ)
+read_lines found = option_map (λ lines. (lines.0, lines.1.now)) found

@@ -1,131 +1,195 @@
 //! Copies and deltas in CSV, whole.
-ghost use Rattle.std.specs.Prelude.{◌≡◌, ◌≢◌, ◌∷◌, ◌++◌, List as Items, codes, flat_map, IfOk, OnOk, IsErrOf, IsTrue, MatchOption, ℕ, ◌↔◌};
+ghost use Rattle.std.specs.Prelude.{◌≡◌, ◌++◌, Bool, List as Items, None, flat_map, IfOk, OnOk, IsErrOf, IsTrue, ◌↔◌};
 ghost use Rattle.std.specs.Str.{IsUtf8};
 ghost use Rattle.copy_csv.specs.declared.faults.FormFault.{FormFault};
 ghost use Rattle.copy_csv.specs.declared.rows.Change.{Change as Changed};
-ghost use Rattle.copy_csv.specs.Csv.{csv_copy, csv_delta, line, text_change_line};
-ghost use Rattle.copy_csv.specs.Rows.{AreChanges, AreRows};
-ghost use Rattle.copy_csv.specs.Sheets.{SheetRow, names};
+ghost use Rattle.copy_csv.specs.Csv.{IsCsvCopy, IsCsvDelta, delta_names, joined_line, line, text_change_line};
+ghost use Rattle.copy_csv.specs.Sheets.{SheetRow, names_shown};
+ghost use Rattle.copy_csv.specs.Taking.{FindsBehind, FindsLines, read_lines};
 
 use crate::csv_rows::{read_changes, read_rows};
-use crate::csv_text::{put_field, put_names, put_row};
+use crate::csv_text::{put_field, put_joined, put_names, put_row};
 use crate::faults::FormFault;
-use crate::rows::{Change, Row, RowTexts, TextChange};
-use lei_outside::{Bytes, List, NoMemory};
+use crate::heads::{CopyRead, DeltaRead};
+use crate::rows::{RowTexts, TextChange};
+use lei_outside::{Bytes, NoMemory};
 use register_words::Sheet;
 use std::alloc::Global;
 use std::str;
 
-/// The first line of a copy.
-pub fn copy_head(alloc: Global, sheet: Sheet) -> Result<Vec<u8>, NoMemory>
-    ensures { IfOk result (λ head. head.items ≡ line (names sheet)) }
+/// The first line of a copy of this width.
+pub fn copy_head(alloc: Global, sheet: Sheet, wide: bool) -> Result<Vec<u8>, NoMemory>
+    ensures { IfOk result (λ head. head.items ≡ line (names_shown wide sheet)) }
 {
     let mut head = Vec::new(alloc);
-    put_names(&mut head, sheet)?;
+    put_names(&mut head, wide, sheet)?;
     Ok(head)
 }
 
-// The first line of a delta.
-fn delta_head(alloc: Global, sheet: Sheet) -> Result<Vec<u8>, NoMemory>
-    ensures { IfOk result (λ head. head.items ≡ line (codes "Delta.Action" ∷ names sheet)) }
+// The first line of a delta of this width.
+fn delta_head(alloc: Global, sheet: Sheet, wide: bool) -> Result<Vec<u8>, NoMemory>
+    ensures { IfOk result (λ head. head.items ≡ line (delta_names wide sheet)) }
 {
     let mut head = Vec::new(alloc);
     put_field(&mut head, "Delta.Action".as_bytes(), b',')?;
-    put_names(&mut head, sheet)?;
+    put_names(&mut head, wide, sheet)?;
     Ok(head)
 }
 
-/// The rows of a copy.
-pub fn read_csv_copy(alloc: Global, bytes: &[u8], sheet: Sheet) -> Result<List<Row>, FormFault>
-    ensures found { IfOk result (λ rows. (bytes.now ≡ csv_copy sheet rows) × AreRows sheet rows) }
-    ensures only { IsErrOf result FormFault.NotRead
-        → (rows : Items SheetRow) → AreRows sheet rows → bytes.now ≢ csv_copy sheet rows }
+/// The lines behind the first line of a copy, and whether this is that of a wide one. None says that the bytes have no
+/// such first line, or aren't UTF-8 behind it.
+pub fn copy_lines<'a>(
+    alloc: Global,
+    bytes: &'a [u8],
+    sheet: Sheet,
+) -> Result<Option<(bool, &'a [u8])>, NoMemory>
+    ensures { IfOk result (λ found. FindsLines names_shown sheet bytes.now (read_lines found)) }
 {
-    let head = copy_head(alloc, sheet)?;
-    match text_behind(bytes, &head) {
-        Some(lines) => read_rows(alloc, sheet, lines),
-        None => Err(FormFault::NotRead),
+    let narrow = copy_head(alloc, sheet, false)?;
+    let wide = copy_head(alloc, sheet, true)?;
+    Ok(lines_behind(bytes, &narrow, &wide))
+}
+
+// The same of a delta.
+fn delta_lines<'a>(
+    alloc: Global,
+    bytes: &'a [u8],
+    sheet: Sheet,
+) -> Result<Option<(bool, &'a [u8])>, NoMemory>
+    ensures { IfOk result (λ found. FindsLines delta_names sheet bytes.now (read_lines found)) }
+{
+    let narrow = delta_head(alloc, sheet, false)?;
+    let wide = delta_head(alloc, sheet, true)?;
+    Ok(lines_behind(bytes, &narrow, &wide))
+}
+
+/// A copy that was read. It has no head.
+pub fn read_csv_copy(alloc: Global, bytes: &[u8], sheet: Sheet) -> Result<CopyRead, FormFault>
+    ensures head { IfOk result (λ read. read.head ≡ None) }
+    ensures found { IfOk result (λ read. IsCsvCopy sheet bytes.now read.wide read.rows) }
+    ensures only { IsErrOf result FormFault.NotRead
+        → (wide : Bool) (rows : Items SheetRow) → IsCsvCopy sheet bytes.now wide rows → ⊥ }
+{
+    let Some((wide, lines)) = copy_lines(alloc, bytes, sheet)? else {
+        return Err(FormFault::NotRead);
+    };
+    match read_rows(alloc, sheet, wide, lines) {
+        Ok(rows) => Ok(CopyRead {
+            head: None,
+            wide,
+            rows,
+        }),
+        Err(fault) => Err(fault),
     }
 }
 
-/// The changes of a delta.
-pub fn read_csv_delta(alloc: Global, bytes: &[u8], sheet: Sheet) -> Result<List<Change>, FormFault>
-    ensures found { IfOk result
-        (λ changes. (bytes.now ≡ csv_delta sheet changes) × AreChanges sheet changes) }
+/// A delta that was read. It has no head.
+pub fn read_csv_delta(alloc: Global, bytes: &[u8], sheet: Sheet) -> Result<DeltaRead, FormFault>
+    ensures head { IfOk result (λ read. read.head ≡ None) }
+    ensures found { IfOk result (λ read. IsCsvDelta sheet bytes.now read.wide read.changes) }
     ensures only { IsErrOf result FormFault.NotRead
-        → (changes : Items Changed) → AreChanges sheet changes → bytes.now ≢ csv_delta sheet changes }
+        → (wide : Bool) (changes : Items Changed) → IsCsvDelta sheet bytes.now wide changes → ⊥ }
 {
-    let head = delta_head(alloc, sheet)?;
-    match text_behind(bytes, &head) {
-        Some(lines) => read_changes(alloc, sheet, lines),
-        None => Err(FormFault::NotRead),
+    let Some((wide, lines)) = delta_lines(alloc, bytes, sheet)? else {
+        return Err(FormFault::NotRead);
+    };
+    match read_changes(alloc, sheet, wide, lines) {
+        Ok(changes) => Ok(DeltaRead {
+            head: None,
+            wide,
+            changes,
+        }),
+        Err(fault) => Err(fault),
     }
 }
 
-/// The text of a copy with these lines.
-pub fn csv_copy_text(alloc: Global, sheet: Sheet, rows: &[RowTexts]) -> Result<Bytes, NoMemory>
-    ensures { IfOk result (λ bytes. bytes ≡ line (names sheet) ++ flat_map (λ texts. texts.csv) rows.now) }
+/// The text of a copy of this width with these lines.
+pub fn csv_copy_text(
+    alloc: Global,
+    sheet: Sheet,
+    wide: bool,
+    rows: &[RowTexts],
+) -> Result<Bytes, NoMemory>
+    ensures { IfOk result (λ bytes. bytes ≡
+        line (names_shown wide sheet) ++ flat_map (joined_line wide) rows.now) }
 {
-    let mut out = copy_head(alloc, sheet)?;
-    out.reserve(lines_room(rows))?;
+    let mut out = copy_head(alloc, sheet, wide)?;
+    out.reserve(lines_room(wide, rows))?;
     for texts in rows {
-        out.extend_from_slice(texts.csv.as_slice())?;
+        put_joined(&mut out, wide, texts)?;
     }
     Ok(Bytes::from(out))
 }
 
 // The length of all lines of the rows. A copy of 100,000 rows has some 30 MB, and growing to them would take memory
 // anew at each doubling.
-fn lines_room(rows: &[RowTexts]) -> usize {
+fn lines_room(wide: bool, rows: &[RowTexts]) -> usize {
     let mut room = 0_usize;
     for texts in rows {
-        room = room.saturating_add(texts.csv.as_slice().len());
+        room = room
+            .saturating_add(texts.csv.as_slice().len())
+            .saturating_add(1);
+        if wide {
+            room = room.saturating_add(texts.tail.as_slice().len());
+        }
     }
     room
 }
 
-/// The text of a delta with these changes.
+/// The text of a delta of this width with these changes.
 pub fn csv_delta_text(
     alloc: Global,
     sheet: Sheet,
+    wide: bool,
     changes: &[TextChange<'_>],
 ) -> Result<Bytes, NoMemory>
     ensures { IfOk result (λ bytes. bytes ≡
-        line (codes "Delta.Action" ∷ names sheet) ++ flat_map text_change_line changes.now) }
+        line (delta_names wide sheet) ++ flat_map (text_change_line wide) changes.now) }
 {
-    let mut out = delta_head(alloc, sheet)?;
+    let mut out = delta_head(alloc, sheet, wide)?;
     for change in changes {
-        put_change(&mut out, change)?;
+        put_change(&mut out, wide, change)?;
     }
     Ok(Bytes::from(out))
 }
 
 // Puts the line of a change behind the others.
-fn put_change(out: &mut Vec<u8>, change: &TextChange<'_>) -> Result<(), NoMemory>
-    ensures { OnOk result (out.new.items ≡ out.old.items ++ text_change_line change.now) }
+fn put_change(out: &mut Vec<u8>, wide: bool, change: &TextChange<'_>) -> Result<(), NoMemory>
+    ensures { OnOk result (out.new.items ≡ out.old.items ++ text_change_line wide change.now) }
 {
     match change {
         TextChange::Put(texts) => {
             out.extend_from_slice("\"PUT\",".as_bytes())?;
-            out.extend_from_slice(texts.csv.as_slice())?;
+            put_joined(out, wide, texts)?;
         }
         TextChange::Drop(row) => {
             out.extend_from_slice("\"DROP\",".as_bytes())?;
-            put_row(out, row)?;
+            put_row(out, wide, row)?;
         }
     }
     Ok(())
 }
 
-/// The bytes behind the first line, where they begin with this line and are UTF-8 behind it.
-pub fn text_behind<'a>(bytes: &'a [u8], head: &[u8]) -> Option<&'a [u8]>
-    ensures { MatchOption result ((rest : Items ℕ) → IsUtf8 rest → bytes.now ≢ head.now ++ rest)
-        (λ rest. (bytes.now ≡ head.now ++ rest.now) × IsUtf8 rest.now) }
+// The bytes behind the one of these two first lines that they begin with, and whether it is the second, where they are
+// UTF-8 behind it.
+fn lines_behind<'a>(bytes: &'a [u8], narrow: &[u8], wide: &[u8]) -> Option<(bool, &'a [u8])>
+    ensures { FindsBehind narrow.now wide.now bytes.now (read_lines result) }
 {
-    let Some(rest) = bytes.strip_prefix(head) else {
+    if let Some(lines) = bytes.strip_prefix(narrow) {
+        return if is_text(lines) {
+            Some((false, lines))
+        } else {
+            None
+        };
+    }
+    let Some(lines) = bytes.strip_prefix(wide) else {
         return None;
     };
-    if is_text(rest) { Some(rest) } else { None }
+    if is_text(lines) {
+        Some((true, lines))
+    } else {
+        None
+    }
 }
 
 // Whether the bytes are UTF-8.

@@ -1,50 +1,69 @@
 //! Rows and changes of CSV, read line by line.
-ghost use Rattle.std.specs.Prelude.{◌≡◌, ◌++◌, List as Items, IfOk, IsSome, IsTrue, IsErrOf, map, ◌↔◌};
+ghost use Rattle.std.specs.Prelude.{◌≡◌, ◌≤◌, ◌-◌, ◌++◌, [], List as Items, IfOk, IsSome, IsTrue, IsErrOf, length, map, replicate, ◌↔◌};
 ghost use Rattle.std.specs.Str.{IsUtf8};
 ghost use Rattle.std.specs.List.{All};
 ghost use Rattle.copy_csv.specs.declared.rows.Change.{Change as Changed};
 ghost use Rattle.copy_csv.specs.declared.faults.FormFault.{FormFault};
 ghost use Rattle.copy_csv.specs.Csv.{change_line, row_line};
-ghost use Rattle.copy_csv.specs.Rows.{AreRising, IsChangeOf, IsRowOf, changed_key, changed_row};
+ghost use Rattle.copy_csv.specs.Rows.{AreRising, IsChangeIn, IsChangeOf, IsRowIn, IsRowOf, changed_key, changed_row};
 ghost use Rattle.copy_csv.specs.Sheets.{SheetRow, key};
 ghost use Rattle.copy_csv.specs.Taking.{AreRead, Reads, drop_bytes, is_behind, put_bytes};
 
 use crate::csv_read::Reader;
 use crate::faults::FormFault;
 use crate::rows::{Change, Row};
-use crate::sheets::width;
+use crate::sheets::{columns, width};
+use crate::texts::Texts;
 use lei_outside::{List, NoMemory};
 use register_words::Sheet;
 use std::alloc::Global;
 
-/// The row of the next line.
+/// The row of the next line of a file of this width: what the file lacks of it is empty.
 pub fn read_row(
     alloc: Global,
     sheet: Sheet,
+    wide: bool,
     reader: &mut Reader<'_>,
 ) -> Result<Option<Row>, NoMemory>
     requires { IsUtf8 reader.old }
-    ensures read { IfOk result (λ row. Reads row_line (IsRowOf sheet) reader.old row reader.new) }
+    ensures read { IfOk result
+        (λ row. Reads (row_line wide) (IsRowIn sheet wide) reader.old row reader.new) }
     ensures utf8 { IfOk result (λ row. IsSome row → IsUtf8 reader.new) }
 {
-    match reader.line(alloc, width(sheet))? {
-        Some(texts) => Ok(Some(Row::of(sheet, texts))),
+    match reader.line(alloc, columns(wide, sheet))? {
+        Some(texts) => {
+            let all = filled(texts, width(sheet))?;
+            Ok(Some(Row::of(sheet, all)))
+        }
         None => Ok(None),
     }
+}
+
+// These texts, and behind them an empty one for each that they are fewer than so many.
+fn filled(mut texts: Texts, count: usize) -> Result<Texts, NoMemory>
+    requires { length texts ≤ count }
+    ensures { IfOk result (λ all. all ≡ texts ++ replicate (count - length texts) []) }
+{
+    for _ in texts.len()..count {
+        texts.push("")?;
+    }
+    Ok(texts)
 }
 
 // The change whose row stands behind `PUT`.
 fn read_put(
     alloc: Global,
     sheet: Sheet,
+    wide: bool,
     reader: &mut Reader<'_>,
 ) -> Result<Option<Change>, NoMemory>
     requires { IsUtf8 reader.old }
     ensures read { IfOk result
-        (λ change. Reads change_line (IsChangeOf sheet) (put_bytes ++ reader.old) change reader.new) }
+        (λ change. Reads (change_line wide) (IsChangeIn sheet wide) (put_bytes ++ reader.old) change
+        reader.new) }
     ensures utf8 { IfOk result (λ change. IsSome change → IsUtf8 reader.new) }
 {
-    match read_row(alloc, sheet, reader)? {
+    match read_row(alloc, sheet, wide, reader)? {
         Some(row) => Ok(Some(Change::Put(row))),
         None => Ok(None),
     }
@@ -54,14 +73,16 @@ fn read_put(
 fn read_drop(
     alloc: Global,
     sheet: Sheet,
+    wide: bool,
     reader: &mut Reader<'_>,
 ) -> Result<Option<Change>, NoMemory>
     requires { IsUtf8 reader.old }
     ensures read { IfOk result
-        (λ change. Reads change_line (IsChangeOf sheet) (drop_bytes ++ reader.old) change reader.new) }
+        (λ change. Reads (change_line wide) (IsChangeIn sheet wide) (drop_bytes ++ reader.old) change
+        reader.new) }
     ensures utf8 { IfOk result (λ change. IsSome change → IsUtf8 reader.new) }
 {
-    match read_row(alloc, sheet, reader)? {
+    match read_row(alloc, sheet, wide, reader)? {
         Some(row) => {
             if row.is_key_alone() {
                 Ok(Some(Change::Drop(row)))
@@ -77,17 +98,19 @@ fn read_drop(
 fn read_change(
     alloc: Global,
     sheet: Sheet,
+    wide: bool,
     reader: &mut Reader<'_>,
 ) -> Result<Option<Change>, NoMemory>
     requires { IsUtf8 reader.old }
-    ensures read { IfOk result (λ change. Reads change_line (IsChangeOf sheet) reader.old change reader.new) }
+    ensures read { IfOk result
+        (λ change. Reads (change_line wide) (IsChangeIn sheet wide) reader.old change reader.new) }
     ensures utf8 { IfOk result (λ change. IsSome change → IsUtf8 reader.new) }
 {
     if reader.skip_all(b"\"PUT\",") {
-        return read_put(alloc, sheet, reader);
+        return read_put(alloc, sheet, wide, reader);
     }
     if reader.skip_all(b"\"DROP\",") {
-        return read_drop(alloc, sheet, reader);
+        return read_drop(alloc, sheet, wide, reader);
     }
     Ok(None)
 }
@@ -129,17 +152,22 @@ pub fn are_changes_rising(sheet: Sheet, changes: &[Change]) -> bool
     true
 }
 
-/// The rows whose lines these are. The bytes are UTF-8.
-pub fn read_rows(alloc: Global, sheet: Sheet, bytes: &[u8]) -> Result<List<Row>, FormFault>
+/// The rows whose lines in a file of this width these are. The bytes are UTF-8.
+pub fn read_rows(
+    alloc: Global,
+    sheet: Sheet,
+    wide: bool,
+    bytes: &[u8],
+) -> Result<List<Row>, FormFault>
     requires { IsUtf8 bytes.now }
-    ensures found { IfOk result (λ rows. AreRead row_line (IsRowOf sheet) key bytes.now rows) }
+    ensures found { IfOk result (λ rows. AreRead (row_line wide) (IsRowIn sheet wide) key bytes.now rows) }
     ensures only { IsErrOf result FormFault.NotRead
-        → (rows : Items SheetRow) → AreRead row_line (IsRowOf sheet) key bytes.now rows → ⊥ }
+        → (rows : Items SheetRow) → AreRead (row_line wide) (IsRowIn sheet wide) key bytes.now rows → ⊥ }
 {
     let mut rows = Vec::new(alloc);
     let mut reader = Reader::new(bytes);
     while !reader.is_done() {
-        let row = match read_row(alloc, sheet, &mut reader)? {
+        let row = match read_row(alloc, sheet, wide, &mut reader)? {
             Some(row) => row,
             None => return Err(FormFault::NotRead),
         };
@@ -162,19 +190,24 @@ fn is_change_behind(changes: &[Change], change: &Change) -> bool
     }
 }
 
-/// The changes whose lines these are. The bytes are UTF-8.
-pub fn read_changes(alloc: Global, sheet: Sheet, bytes: &[u8]) -> Result<List<Change>, FormFault>
+/// The changes whose lines in a file of this width these are. The bytes are UTF-8.
+pub fn read_changes(
+    alloc: Global,
+    sheet: Sheet,
+    wide: bool,
+    bytes: &[u8],
+) -> Result<List<Change>, FormFault>
     requires { IsUtf8 bytes.now }
     ensures found { IfOk result
-        (λ changes. AreRead change_line (IsChangeOf sheet) changed_key bytes.now changes) }
+        (λ changes. AreRead (change_line wide) (IsChangeIn sheet wide) changed_key bytes.now changes) }
     ensures only { IsErrOf result FormFault.NotRead
         → (changes : Items Changed)
-        → AreRead change_line (IsChangeOf sheet) changed_key bytes.now changes → ⊥ }
+        → AreRead (change_line wide) (IsChangeIn sheet wide) changed_key bytes.now changes → ⊥ }
 {
     let mut changes = Vec::new(alloc);
     let mut reader = Reader::new(bytes);
     while !reader.is_done() {
-        let change = match read_change(alloc, sheet, &mut reader)? {
+        let change = match read_change(alloc, sheet, wide, &mut reader)? {
             Some(change) => change,
             None => return Err(FormFault::NotRead),
         };

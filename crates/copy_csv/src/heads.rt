@@ -19,6 +19,8 @@ pub struct Head {
 pub struct CopyRead {
     /// None exactly in CSV.
     pub head: Option<Head>,
+    /// Whether it has a column for each field, the last ones too. So only in CSV of `lei`.
+    pub wide: bool,
     pub rows: List<Row>,
 }
 
@@ -27,5 +29,7 @@ pub struct CopyRead {
 pub struct DeltaRead {
     /// None exactly in CSV.
     pub head: Option<Head>,
+    /// Whether it has a column for each field, the last ones too. So only in CSV of `lei`.
+    pub wide: bool,
     pub changes: List<Change>,
 }

@@ -13,11 +13,11 @@ pub mod sheets;
 mod texts;
 
 pub use csv_files::{
-    copy_head, csv_copy_text, csv_delta_text, read_csv_copy, read_csv_delta, text_behind,
+    copy_head, copy_lines, csv_copy_text, csv_delta_text, read_csv_copy, read_csv_delta,
 };
 pub use csv_read::Reader;
 pub use csv_rows::{are_changes_rising, are_rows_rising, read_row};
-pub use csv_text::{line_text, put_row};
+pub use csv_text::{line_texts, put_row};
 pub use ends::Ends;
 pub use faults::FormFault;
 pub use heads::{CopyRead, DeltaRead, Head};

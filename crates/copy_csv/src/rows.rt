@@ -120,10 +120,13 @@ impl Row {
     }
 }
 
-/// The texts of one row: its line in CSV and its record in JSON.
+/// The texts of one row: its line in CSV, without LF, and its record in JSON.
 #[derive(Debug, Drop)]
 pub struct RowTexts {
+    /// The fields that a narrow file shows.
     pub csv: Bytes,
+    /// The further fields of a wide file, each with the comma before it. Only a row of `lei` has any.
+    pub tail: Bytes,
     pub json: Bytes,
 }
 

@@ -22,13 +22,24 @@ pub fn width(sheet: Sheet) -> usize
     ensures { result ≡ spec.width sheet }
 {
     match sheet {
-        Sheet::Lei => 28,
+        Sheet::Lei => 32,
         Sheet::Rr => 11,
         Sheet::Repex => 4,
     }
 }
 
-/// How many of them, from the first, are its key.
+/// How many columns a file in CSV has: in a narrow one of `lei`, none for the fields of an event.
+pub fn columns(wide: bool, sheet: Sheet) -> usize
+    ensures { result ≡ spec.columns wide sheet }
+{
+    match sheet {
+        Sheet::Lei => { if wide { 32 } else { 28 } }
+        Sheet::Rr => 11,
+        Sheet::Repex => 4,
+    }
+}
+
+/// How many texts of a row, from the first, are its key.
 pub fn key_len(sheet: Sheet) -> usize
     ensures { result ≡ spec.key_len sheet }
 {

@@ -125,7 +125,7 @@ utf8-map texts (place ∷ places) all = rw (utf8-at texts place all) (utf8-map t
 
 pub placed-again : (row : SheetRow) → IsRow row → placed row.sheet (in_json_order row) ≡ row
 unfolding placed
-placed-again row is = ap (row_of row.sheet) (back row.sheet row.texts ∙ all_places row.texts (width row.sheet) is.wide)
+placed-again row is = ap (row_of row.sheet) (back row.sheet row.texts ∙ all_places row.texts (width row.sheet) is.full)
 
 pub record-again : (row : SheetRow) (rest : List ℕ) → IsRow row → record_from row.sheet (json_record row ++ rest) ≡ Some (row, rest)
 unfolding record_from
@@ -151,7 +151,7 @@ placed-taken sheet bytes texts rest taken =
     let order : in_json_order row ≡ texts = there sheet texts ∙ all_places texts (width sheet) long in
     record {
       is = ap (λ l. 123 ∷ l) taken.is ∙ ap (λ t. 123 ∷ (fields_text false (zip (json_names sheet) t) ++ rest)) (sym order) ∙ ap (λ l. l ++ rest) (sym (record-text row));
-      holds = record { wide = length-map (json_ranks sheet) (text_at texts) ∙ length-ranks sheet; utf8 = utf8-map texts (json_ranks sheet) taken.utf8 };
+      holds = record { full = length-map (json_ranks sheet) (text_at texts) ∙ length-ranks sheet; utf8 = utf8-map texts (json_ranks sheet) taken.utf8 };
       belongs = refl;
     }
 

@@ -1,6 +1,6 @@
 -- Deltas between the publications of a sound trail.
 use Rattle.std.proofs.Common.{◌≡◌, ℕ, zero, suc, ◌+◌, ◌-◌, ◌<◌, ◌≤◌, T, Bool, true, false, ◌&&◌, ◌||◌, cond, Option, None, Some, List, [], ◌∷◌, ◌++◌, length, map, take, drop, refl, sym, ap, subst, ◌∙◌, arith, length-append, zero-add}
-use Rattle.std.specs.Prelude.{is_some, codes, replicate, unwrap_or}
+use Rattle.std.specs.Prelude.{IsTrue, is_some, codes, replicate, unwrap_or}
 use Rattle.std.specs.FinMap.{IsAntisymmetric, empty, entries, len-empty, len-entries, entries-from_sorted, entries-insert, entries_sorted, find, from_entries, from_sorted, get, get-from_entries, get-from_sorted, get-insert, get-remove, is_sorted, keys, contains_key-keys, nat_cmp-IsAntisymmetric, same_map, slice_cmp-IsAntisymmetric, values}
 use Rattle.std.specs.FinMap.Entries.{below_all, is_some-find, put, by_order}
 use Rattle.std.specs.List.{All, AllByRecursion, list_all, list_any, slice_get}
@@ -18,12 +18,14 @@ use Rattle.lei_records.specs.Tables.{KeyTexts, key_cmp}
 use Rattle.copy_csv.specs.declared.rows.Change.{Change}
 use Rattle.register_words.specs.declared.sheets.Form.{Form}
 use Rattle.register_words.specs.declared.sheets.Sheet.{Sheet}
-use Rattle.copy_forms.specs.Files.{copy}
+use Rattle.copy_forms.specs.Files.{FitsIn, copy, may_be_wide}
 use Rattle.copy_forms.specs.Patching.{IsPatched, Keyed, all_changed, changed, keyed, patched}
-use Rattle.copy_csv.specs.Rows.{AreChanges, AreRising, AreRows, IsChangeOf, IsRowOf, changed_key}
-use Rattle.copy_csv.specs.Sheets.{SheetRow, key, key_len, width}
-use Rattle.copy_forms.specs.Trails.{DeltasLeadOn, FollowOn, IsKeyOf, IsSound, Publication, Trail, change_of, change_to, changes_between, copy_head, copy_of, delta_between, delta_head, dropped_row, in_order, is_among, no_rows, publication_at, row_under, touched_in}
+use Rattle.copy_csv.specs.Rows.{AreChanges, AreRising, AreRows, IsChangeOf, IsRowOf, changed_key, changed_row}
+use Rattle.copy_csv.specs.Sheets.{SheetRow, fits, key, key_len, width}
+use Rattle.copy_forms.specs.Trails.{DeltasLeadOn, FollowOn, IsKeyOf, IsSound, Publication, Trail, change_of, change_to, changes_between, copy_head, copy_of, delta_between, delta_head, dropped_row, in_order, is_among, is_wide_in, nothing_published, publication_at, row_under, touched_in}
 use Rattle.copy_csv.proofs.RowLemmas.{key_total}
+use Rattle.copy_csv.proofs.WidthLemmas.{fits-all, fits-alone}
+use Rattle.copy_forms.proofs.CopyLemmas.{always}
 
 pub key_same : IsAntisymmetric key_cmp
 key_same = slice_cmp-IsAntisymmetric (slice_cmp-IsAntisymmetric nat_cmp-IsAntisymmetric)
@@ -79,7 +81,7 @@ under rows k = get-from_entries key_total (map (λ row. (key row, row)) rows) k
 -- ---- a change, and many
 
 key_dropped : (sheet : Sheet) (k : KeyTexts) → IsKeyOf sheet k → key (dropped_row sheet k) ≡ k
-key_dropped sheet k is = take_at k (replicate (width sheet - key_len sheet) (codes "")) (key_len sheet) is.wide
+key_dropped sheet k is = take_at k (replicate (width sheet - key_len sheet) (codes "")) (key_len sheet) is.full
 
 -- the key of a change is the key that it is made of
 key_change : (sheet : Sheet) (now : List SheetRow) (k : KeyTexts) → IsKeyOf sheet k → changed_key (change_of sheet now k) ≡ k
@@ -129,10 +131,10 @@ among_ordered touched k =
 
 -- ---- soundness
 
--- the rows of the last publication, or those of before
-abbrev last_rows : (Sheet → List SheetRow) → List Publication → Sheet → List SheetRow
-last_rows before [] = before
-last_rows before (next ∷ later) = last_rows next.rows later
+-- the last publication, or the one before
+abbrev last_of : Publication → List Publication → Publication
+last_of before [] = before
+last_of before (next ∷ later) = last_of next later
 
 either : (a b : Bool) → (a || b) ≡ false → (a ≡ false) × (b ≡ false)
 either true b e = absurd (false≢true (sym e))
@@ -147,19 +149,19 @@ any-append k (x ∷ xs) ys = by (eq_by_cmp key_cmp k x) (any-append k xs ys)
     by false e = e
 
 -- a key that isn't touched has the row of before
-kept_all : (before : Sheet → List SheetRow) (later : List Publication) → FollowOn before later → (sheet : Sheet) (k : KeyTexts)
-    → is_among k (touched_in sheet later) ≡ false → row_under (last_rows before later sheet) k ≡ row_under (before sheet) k
+kept_all : (before : Publication) (later : List Publication) → FollowOn before later → (sheet : Sheet) (k : KeyTexts)
+    → is_among k (touched_in sheet later) ≡ false → row_under ((last_of before later).rows sheet) k ≡ row_under (before.rows sheet) k
 kept_all before [] on sheet k un = refl
 kept_all before (next ∷ later) on sheet k un =
     let parts = either (is_among k (next.touched sheet)) (is_among k (touched_in sheet later))
     (sym (any-append k (next.touched sheet) (touched_in sheet later)) ∙ un) in
-    kept_all next.rows later on.1 sheet k parts.1 ∙ on.0.kept sheet k parts.0
+    kept_all next later on.1 sheet k parts.1 ∙ on.0.kept sheet k parts.0
 
-keys_all : (before : Sheet → List SheetRow) (later : List Publication) → FollowOn before later → (sheet : Sheet)
+keys_all : (before : Publication) (later : List Publication) → FollowOn before later → (sheet : Sheet)
     → All (IsKeyOf sheet) (touched_in sheet later)
 keys_all before [] on sheet = All-nil (IsKeyOf sheet)
 keys_all before (next ∷ later) on sheet =
-    All-append (IsKeyOf sheet) (next.touched sheet) (touched_in sheet later) (on.0.keys_are sheet) (keys_all next.rows later on.1 sheet)
+    All-append (IsKeyOf sheet) (next.touched sheet) (touched_in sheet later) (on.0.keys_are sheet) (keys_all next later on.1 sheet)
 
 -- ---- what stands in the order of keys
 
@@ -229,22 +231,22 @@ values_keyed rows rising =
 
 -- ---- patching leads on
 
-pub leads_on : (before : Sheet → List SheetRow) (later : List Publication) → FollowOn before later → (sheet : Sheet)
-    → AreRising (map key (last_rows before later sheet))
-    → patched (before sheet) (map (change_of sheet (last_rows before later sheet)) (in_order (touched_in sheet later))) ≡ last_rows before later sheet
+pub leads_on : (before : Publication) (later : List Publication) → FollowOn before later → (sheet : Sheet)
+    → AreRising (map key ((last_of before later).rows sheet))
+    → patched (before.rows sheet) (map (change_of sheet ((last_of before later).rows sheet)) (in_order (touched_in sheet later))) ≡ (last_of before later).rows sheet
 leads_on before later on sheet rising =
-    let now : List SheetRow = last_rows before later sheet in
+    let now : List SheetRow = (last_of before later).rows sheet in
     let touched : List KeyTexts = touched_in sheet later in
     let good : All (IsKeyOf sheet) (in_order touched) = ordered-all (IsKeyOf sheet) touched (keys_all before later on sheet) in
-    let same : all_changed (keyed (before sheet)) (map (change_of sheet now) (in_order touched)) ≡ keyed now =
-    same_map key_total key_same (all_changed (keyed (before sheet)) (map (change_of sheet now) (in_order touched))) (keyed now)
-    (λ k. get_all sheet now (keyed (before sheet)) (in_order touched) good k
-    ∙ ap (λ t. cond t (row_under now k) (row_under (before sheet) k)) (among_ordered touched k)
+    let same : all_changed (keyed (before.rows sheet)) (map (change_of sheet now) (in_order touched)) ≡ keyed now =
+    same_map key_total key_same (all_changed (keyed (before.rows sheet)) (map (change_of sheet now) (in_order touched))) (keyed now)
+    (λ k. get_all sheet now (keyed (before.rows sheet)) (in_order touched) good k
+    ∙ ap (λ t. cond t (row_under now k) (row_under (before.rows sheet) k)) (among_ordered touched k)
     ∙ settled k (is_among k touched) refl) in
     ap (λ m. values m) same ∙ values_keyed now rising
   where
     settled : (k : KeyTexts) (b : Bool) → is_among k (touched_in sheet later) ≡ b
-        → cond b (row_under (last_rows before later sheet) k) (row_under (before sheet) k) ≡ row_under (last_rows before later sheet) k
+        → cond b (row_under ((last_of before later).rows sheet) k) (row_under (before.rows sheet) k) ≡ row_under ((last_of before later).rows sheet) k
     settled k true e = refl
     settled k false e = sym (kept_all before later on sheet k e)
 
@@ -271,18 +273,18 @@ good_drop : (sheet : Sheet) (k : KeyTexts) → IsKeyOf sheet k → IsChangeOf sh
 good_drop sheet k is =
     let n : ℕ = width sheet - key_len sheet in
     let fits : key_len sheet ≤ width sheet = key_fits sheet in
-    let wide : length k ≡ key_len sheet = is.wide in
+    let long : length k ≡ key_len sheet = is.full in
     let all : length (k ++ replicate n (codes "")) ≡ length k + n =
     length-append k (replicate n (codes "")) ∙ ap (λ m. length k + m) (length-replicate n (codes "")) in (
       (
         record {
-          wide = all ∙ omega arith;
+          full = all ∙ omega arith;
           utf8 = list_all-append is_utf8 k (replicate n (codes ""))
               ∙ joined (list_all is_utf8 k) (list_all is_utf8 (replicate n (codes ""))) is.utf8 (all_utf8 n);
         },
         refl,
       ),
-      ap (list_all (λ text. bytes_eq text (codes ""))) (drop_at k (replicate n (codes "")) (key_len sheet) wide) ∙ all_empty n,
+      ap (list_all (λ text. bytes_eq text (codes ""))) (drop_at k (replicate n (codes "")) (key_len sheet) long) ∙ all_empty n,
     )
 
 good_change : (sheet : Sheet) (now : List SheetRow) (k : KeyTexts) → All (IsRowOf sheet) now → IsKeyOf sheet k
@@ -325,34 +327,93 @@ are_changes sheet now touched rows keys =
     true_of true t = refl
     true_of false t = absurd t
 
+-- ---- what each width shows
+
+all-each : {X : Type 0} (P Q : X → Type 0) → ((x : X) → P x → Q x) → (xs : List X) → All P xs → All Q xs
+all-each P Q each [] all = All-nil Q
+all-each P Q each (x ∷ xs) all = All-cons Q x xs (each x (All-head P x xs all)) (all-each P Q each xs (All-tail P x xs all))
+
+-- a publication whose rows are such, and which are narrow where it is narrow
+record Stands (publication : Publication) : Type 0 where
+  moment_is : IsMoment publication.moment
+  rows_are : (sheet : Sheet) → AreRows sheet (publication.rows sheet)
+  plain : publication.wide ≡ false → All (λ row. IsTrue (fits false row)) (publication.rows Sheet.Lei)
+
+rows-fit : (publication : Publication) → Stands publication → (sheet : Sheet) (form : Form)
+    → All (FitsIn form (is_wide_in publication sheet form)) (publication.rows sheet)
+rows-fit publication is sheet Form.Json = always (publication.rows sheet)
+rows-fit publication is Sheet.Lei Form.Csv = by publication.wide refl
+  where
+    by : (wide : Bool) → publication.wide ≡ wide → All (FitsIn Form.Csv (wide && true)) (publication.rows Sheet.Lei)
+    by true e = let are : AreRows Sheet.Lei (publication.rows Sheet.Lei) = is.rows_are Sheet.Lei in
+        all-each (IsRowOf Sheet.Lei) (FitsIn Form.Csv true) (λ row row_is. fits-all Sheet.Lei true row row_is refl)
+        (publication.rows Sheet.Lei) are.each
+    by false e = is.plain e
+rows-fit publication is Sheet.Rr Form.Csv = let are : AreRows Sheet.Rr (publication.rows Sheet.Rr) = is.rows_are Sheet.Rr in
+    all-each (IsRowOf Sheet.Rr) (FitsIn Form.Csv (publication.wide && false))
+    (λ row row_is. fits-all Sheet.Rr (publication.wide && false) row row_is refl) (publication.rows Sheet.Rr) are.each
+rows-fit publication is Sheet.Repex Form.Csv = let are : AreRows Sheet.Repex (publication.rows Sheet.Repex) = is.rows_are Sheet.Repex in
+    all-each (IsRowOf Sheet.Repex) (FitsIn Form.Csv (publication.wide && false))
+    (λ row row_is. fits-all Sheet.Repex (publication.wide && false) row row_is refl) (publication.rows Sheet.Repex) are.each
+
+drop-fits : (sheet : Sheet) (form : Form) (wide : Bool) (k : KeyTexts) → IsKeyOf sheet k → FitsIn form wide (dropped_row sheet k)
+drop-fits sheet Form.Json wide k is = tt
+drop-fits sheet Form.Csv wide k is = fits-alone wide (dropped_row sheet k) (good_drop sheet k is).1
+
+change-fits : (sheet : Sheet) (form : Form) (wide : Bool) (now : List SheetRow) (k : KeyTexts) → All (FitsIn form wide) now → IsKeyOf sheet k
+    → FitsIn form wide (changed_row (change_of sheet now k))
+change-fits sheet form wide now k fit is = by (row_under now k) refl
+  where
+    by : (r : Option SheetRow) → row_under now k ≡ r → FitsIn form wide (changed_row (change_to sheet k r))
+    by None e = drop-fits sheet form wide k is
+    by (Some row) e = one_of (FitsIn form wide) now k row fit e
+
+pub changes-fit : (sheet : Sheet) (form : Form) (wide : Bool) (now : List SheetRow) (ks : List KeyTexts) → All (FitsIn form wide) now
+    → All (IsKeyOf sheet) ks → All (λ change. FitsIn form wide (changed_row change)) (map (change_of sheet now) ks)
+changes-fit sheet form wide now [] fit keys = All-nil (λ change. FitsIn form wide (changed_row change))
+changes-fit sheet form wide now (k ∷ ks) fit keys =
+    All-cons (λ change. FitsIn form wide (changed_row change)) (change_of sheet now k) (map (change_of sheet now) ks)
+    (change-fits sheet form wide now k fit (All-head (IsKeyOf sheet) k ks keys)) (changes-fit sheet form wide now ks fit (All-tail (IsKeyOf sheet) k ks keys))
+
+-- the changes of a delta in the order of their keys fit the width that all rows fit
+pub ordered-fit : (sheet : Sheet) (form : Form) (wide : Bool) (now : List SheetRow) (touched : List KeyTexts) → All (FitsIn form wide) now
+    → All (IsKeyOf sheet) touched → All (λ change. FitsIn form wide (changed_row change)) (map (change_of sheet now) (in_order touched))
+ordered-fit sheet form wide now touched fit keys =
+    changes-fit sheet form wide now (in_order touched) fit (ordered-all (IsKeyOf sheet) touched keys)
+
 -- ---- parts of a trail
 
 -- behind a publication of a sound trail the others follow on
-pub follow_on : (before : Sheet → List SheetRow) (trail : Trail) (n : ℕ) (base : Publication) → FollowOn before trail
-    → slice_get trail n ≡ Some base → FollowOn base.rows (drop (suc n) trail)
+pub follow_on : (before : Publication) (trail : Trail) (n : ℕ) (base : Publication) → FollowOn before trail
+    → slice_get trail n ≡ Some base → FollowOn base (drop (suc n) trail)
 follow_on before [] n base on e = cc
 follow_on before (next ∷ later) zero base on e =
     let is : next ≡ base = ap (λ r. unwrap_or r next) e in
-    subst (λ (b : Publication). FollowOn b.rows later) is on.1
-follow_on before (next ∷ later) (suc n) base on e = follow_on next.rows later n base on.1 e
+    subst (λ (b : Publication). FollowOn b later) is on.1
+follow_on before (next ∷ later) (suc n) base on e = follow_on next later n base on.1 e
 
-pub is_next : (before : Sheet → List SheetRow) (trail : Trail) (n : ℕ) (base : Publication) → FollowOn before trail
-    → slice_get trail n ≡ Some base → IsMoment base.moment × ((sheet : Sheet) → AreRows sheet (base.rows sheet))
+is_next : (before : Publication) (trail : Trail) (n : ℕ) (base : Publication) → FollowOn before trail
+    → slice_get trail n ≡ Some base → Stands base
 is_next before [] n base on e = cc
 is_next before (next ∷ later) zero base on e =
     let is : next ≡ base = ap (λ r. unwrap_or r next) e in
-    subst (λ (b : Publication). IsMoment b.moment × ((sheet : Sheet) → AreRows sheet (b.rows sheet))) is (on.0.moment_is, on.0.rows_are)
-is_next before (next ∷ later) (suc n) base on e = is_next next.rows later n base on.1 e
+    subst Stands is (record { moment_is = on.0.moment_is; rows_are = on.0.rows_are; plain = on.0.plain })
+is_next before (next ∷ later) (suc n) base on e = is_next next later n base on.1 e
 
-follow_take : (before : Sheet → List SheetRow) (trail : Trail) (n : ℕ) → FollowOn before trail → FollowOn before (take n trail)
+follow_take : (before : Publication) (trail : Trail) (n : ℕ) → FollowOn before trail → FollowOn before (take n trail)
 follow_take before trail zero on = tt
 follow_take before [] (suc n) on = tt
-follow_take before (next ∷ later) (suc n) on = (on.0, follow_take next.rows later n on.1)
+follow_take before (next ∷ later) (suc n) on = (on.0, follow_take next later n on.1)
+
+-- behind a wide one all are wide
+widened : (before : Publication) (later : List Publication) → FollowOn before later → before.wide ≡ true → (last_of before later).wide ≡ true
+widened before [] on wide = wide
+widened before (next ∷ later) on wide = widened next later on.1 (on.0.widens wide)
 
 -- the last of the first few, or the one before them where they are none
 last_take : (base : Publication) (trail : Trail) (n : ℕ) (latest : Publication) → slice_get (base ∷ trail) n ≡ Some latest
-    → last_rows base.rows (take n trail) ≡ latest.rows
-last_take base trail zero latest e = ap (λ (b : Publication). b.rows) (ap (λ r. unwrap_or r base) e)
+    → last_of base (take n trail) ≡ latest
+last_take base trail zero latest e = ap (λ r. unwrap_or r base) e
 last_take base [] (suc n) latest e = cc
 last_take base (next ∷ later) (suc n) latest e = last_take next later n latest e
 
@@ -373,49 +434,63 @@ within_trail [] n base e = cc
 within_trail (x ∷ trail) zero base e = omega arith
 within_trail (x ∷ trail) (suc n) base e = let h : n < length trail = within_trail trail n base e in omega arith
 
--- the byte law, with the heads of the copy and of the delta
+-- the byte law, with the heads and the widths of the copy and of the delta
 pub leads_with_heads : (trail : Trail) → IsSound trail → length trail ≤ 1_000_000
     → (p q : ℕ) (base latest : Publication) → 1 ≤ p → p ≤ q → publication_at trail p ≡ Some base → publication_at trail q ≡ Some latest
     → (sheet : Sheet) (form : Form)
     → (is : IsPatched (copy_of p base sheet form) (delta_between trail p q latest sheet form) (copy_of q latest sheet form) sheet form)
     × (is.base_head ≡ copy_head p base) × (is.head ≡ delta_head p q latest)
+    × (is.base_wide ≡ is_wide_in base sheet form) × (is.wide ≡ is_wide_in latest sheet form)
 leads_with_heads trail on few p q base latest from_one ordered e_p e_q sheet form =
     let next : suc (p - 1) ≡ p = omega arith in
     let place : p - 1 + (q - p) ≡ q - 1 = omega arith in
     let later : List Publication = take (q - p) (drop p trail) in
     let last_place : q - 1 < length trail = within_trail trail (q - 1) latest e_q in
-    let behind : FollowOn base.rows (drop p trail) =
-    subst (λ (n : ℕ). FollowOn base.rows (drop n trail)) next (follow_on no_rows trail (p - 1) base on e_p) in
-    let on_later : FollowOn base.rows (take (q - p) (drop p trail)) = follow_take base.rows (drop p trail) (q - p) behind in
+    let behind : FollowOn base (drop p trail) =
+    subst (λ (n : ℕ). FollowOn base (drop n trail)) next (follow_on nothing_published trail (p - 1) base on e_p) in
+    let on_later : FollowOn base (take (q - p) (drop p trail)) = follow_take base (drop p trail) (q - p) behind in
     let there : slice_get (base ∷ drop p trail) (q - p) ≡ Some latest =
     ap (λ n. slice_get (base ∷ drop n trail) (q - p)) (sym next) ∙ get_behind trail (p - 1) (q - p) base e_p
     ∙ ap (slice_get trail) place ∙ e_q in
-    let last : last_rows base.rows (take (q - p) (drop p trail)) ≡ latest.rows = last_take base (drop p trail) (q - p) latest there in
-    let base_is = is_next no_rows trail (p - 1) base on e_p in
-    let latest_is = is_next no_rows trail (q - 1) latest on e_q in
-    let rising : AreRising (map key (latest.rows sheet)) = let are : AreRows sheet (latest.rows sheet) = latest_is.1 sheet in are.rising in
-    let F : (Sheet → List SheetRow) → Type 0 = λ now. AreRising (map key (now sheet))
-    → patched (base.rows sheet) (map (change_of sheet (now sheet)) (in_order (touched_in sheet (take (q - p) (drop p trail))))) ≡ now sheet in
-    let led : F latest.rows = subst F last (leads_on base.rows (take (q - p) (drop p trail)) on_later sheet) in (
+    let last : last_of base (take (q - p) (drop p trail)) ≡ latest = last_take base (drop p trail) (q - p) latest there in
+    let base_is : Stands base = is_next nothing_published trail (p - 1) base on e_p in
+    let latest_is : Stands latest = is_next nothing_published trail (q - 1) latest on e_q in
+    let are : AreRows sheet (latest.rows sheet) = latest_is.rows_are sheet in
+    let rising : AreRising (map key (latest.rows sheet)) = are.rising in
+    let keys : All (IsKeyOf sheet) (touched_in sheet (take (q - p) (drop p trail))) = keys_all base (take (q - p) (drop p trail)) on_later sheet in
+    let F : Publication → Type 0 = λ now. AreRising (map key (now.rows sheet))
+    → patched (base.rows sheet) (map (change_of sheet (now.rows sheet)) (in_order (touched_in sheet (take (q - p) (drop p trail))))) ≡ now.rows sheet in
+    let led : F latest = subst F last (leads_on base (take (q - p) (drop p trail)) on_later sheet) in
+    let W : Publication → Type 0 = λ now. base.wide ≡ true → now.wide ≡ true in
+    let widens : W latest = subst W last (widened base (take (q - p) (drop p trail)) on_later) in (
       record {
         base_head = copy_head p base;
+        base_wide = is_wide_in base sheet form;
         rows = base.rows sheet;
         base_is = record {
           text = refl;
-          head_is = record { moment = base_is.0; publication = (from_one, omega arith); from = refl };
-          rows_are = base_is.1 sheet;
+          head_is = record { moment = base_is.moment_is; publication = (from_one, omega arith); from = refl };
+          wide_is = λ wide. (both base.wide (may_be_wide sheet form) wide).1;
+          rows_are = base_is.rows_are sheet;
+          fit = rows-fit base base_is sheet form;
         };
         head = delta_head p q latest;
+        wide = is_wide_in latest sheet form;
         changes = changes_between trail p q latest sheet;
         delta_is = record {
           text = refl;
-          head_is = record { moment = latest_is.0; publication = (omega arith, omega arith); from = (from_one, omega arith) };
-          changes_are = are_changes sheet (latest.rows sheet) (touched_in sheet (take (q - p) (drop p trail)))
-              (let are : AreRows sheet (latest.rows sheet) = latest_is.1 sheet in are.each)
-              (keys_all base.rows (take (q - p) (drop p trail)) on_later sheet);
+          head_is = record { moment = latest_is.moment_is; publication = (omega arith, omega arith); from = (from_one, omega arith) };
+          wide_is = λ wide. (both latest.wide (may_be_wide sheet form) wide).1;
+          changes_are = are_changes sheet (latest.rows sheet) (touched_in sheet (take (q - p) (drop p trail))) are.each keys;
+          fit = ordered-fit sheet form (is_wide_in latest sheet form) (latest.rows sheet) (touched_in sheet (take (q - p) (drop p trail)))
+              (rows-fit latest latest_is sheet form) keys;
         };
-        bytes_are = ap (copy sheet form (copy_head q latest)) (sym (led rising));
+        newer = λ wide. let parts = both base.wide (may_be_wide sheet form) wide in
+            joined latest.wide (may_be_wide sheet form) (widens parts.0) parts.1;
+        bytes_are = ap (copy sheet form (is_wide_in latest sheet form) (copy_head q latest)) (sym (led rising));
       },
+      refl,
+      refl,
       refl,
       refl,
     )

@@ -18,8 +18,8 @@ use Rattle.copy_csv.specs.Sheets.{SheetRow, names}
 -- The places of a sheet's fields in byte order of their names: `Entity.EntityCategory` is the 17th field of a record.
 abbrev pub json_places : Sheet → List ℕ
 json_places Sheet.Lei =
-    17 ∷ 20 ∷ 19 ∷ 10 ∷ 12 ∷ 9 ∷ 13 ∷ 11 ∷ 5 ∷ 7 ∷ 4 ∷ 8 ∷ 6 ∷ 18 ∷ 16 ∷ 2 ∷ 3 ∷ 15 ∷ 14 ∷ 21 ∷ 1 ∷ 28 ∷ 22
-    ∷ 23 ∷ 26 ∷ 25 ∷ 24 ∷ 27 ∷ []
+    17 ∷ 20 ∷ 19 ∷ 30 ∷ 31 ∷ 32 ∷ 29 ∷ 10 ∷ 12 ∷ 9 ∷ 13 ∷ 11 ∷ 5 ∷ 7 ∷ 4 ∷ 8 ∷ 6 ∷ 18 ∷ 16 ∷ 2 ∷ 3 ∷ 15 ∷ 14
+    ∷ 21 ∷ 1 ∷ 28 ∷ 22 ∷ 23 ∷ 26 ∷ 25 ∷ 24 ∷ 27 ∷ []
 json_places Sheet.Rr = 7 ∷ 8 ∷ 10 ∷ 9 ∷ 11 ∷ 6 ∷ 3 ∷ 4 ∷ 2 ∷ 5 ∷ 1 ∷ []
 json_places Sheet.Repex = 2 ∷ 3 ∷ 4 ∷ 1 ∷ []
 

@@ -109,8 +109,8 @@ fields_from (name ∷ names) later bytes =
 -- Where each field of a sheet, in order of place, stands in byte order of the names.
 abbrev pub json_ranks : Sheet → List ℕ
 json_ranks Sheet.Lei =
-    21 ∷ 16 ∷ 17 ∷ 11 ∷ 9 ∷ 13 ∷ 10 ∷ 12 ∷ 6 ∷ 4 ∷ 8 ∷ 5 ∷ 7 ∷ 19 ∷ 18 ∷ 15 ∷ 1 ∷ 14 ∷ 3 ∷ 2 ∷ 20 ∷ 23 ∷ 24
-    ∷ 27 ∷ 26 ∷ 25 ∷ 28 ∷ 22 ∷ []
+    25 ∷ 20 ∷ 21 ∷ 15 ∷ 13 ∷ 17 ∷ 14 ∷ 16 ∷ 10 ∷ 8 ∷ 12 ∷ 9 ∷ 11 ∷ 23 ∷ 22 ∷ 19 ∷ 1 ∷ 18 ∷ 3 ∷ 2 ∷ 24 ∷ 27 ∷ 28
+    ∷ 31 ∷ 30 ∷ 29 ∷ 32 ∷ 26 ∷ 7 ∷ 4 ∷ 5 ∷ 6 ∷ []
 json_ranks Sheet.Rr = 11 ∷ 9 ∷ 7 ∷ 8 ∷ 10 ∷ 6 ∷ 1 ∷ 2 ∷ 4 ∷ 3 ∷ 5 ∷ []
 json_ranks Sheet.Repex = 4 ∷ 1 ∷ 2 ∷ 3 ∷ []
 

@@ -1,5 +1,5 @@
 -- A copy patched by a delta: this project's profile.
-use Rattle.std.specs.Prelude.{◌≡◌, List, [], ◌∷◌, map}
+use Rattle.std.specs.Prelude.{◌≡◌, Bool, List, true, [], ◌∷◌, map}
 use Rattle.std.specs.FinMap.{FinMap, from_entries, insert, remove, values}
 use Rattle.lei_code.specs.Texts.{Text}
 use Rattle.lei_records.specs.Tables.{key_cmp}
@@ -37,12 +37,16 @@ patched rows changes = values (all_changed (keyed rows) changes)
 abbrev pub patched_head : Head → Head
 patched_head head = record { moment = head.moment; publication = head.publication; from = 0 }
 
--- The bytes are the copy after the delta: that of the patched rows with the delta's head.
+-- The bytes are the copy after the delta: that of the patched rows with the delta's head, in the delta's width. A wide
+-- copy has no narrow delta.
 pub record IsPatched (base delta bytes : Text) (sheet : Sheet) (form : Form) : Type 0 where
   pub base_head : Head
+  pub base_wide : Bool
   pub rows : List SheetRow
-  pub base_is : IsCopy base sheet form base_head rows
+  pub base_is : IsCopy base sheet form base_head base_wide rows
   pub head : Head
+  pub wide : Bool
   pub changes : List Change
-  pub delta_is : IsDelta delta sheet form head changes
-  pub bytes_are : bytes ≡ copy sheet form (patched_head head) (patched rows changes)
+  pub delta_is : IsDelta delta sheet form head wide changes
+  pub newer : base_wide ≡ true → wide ≡ true
+  pub bytes_are : bytes ≡ copy sheet form wide (patched_head head) (patched rows changes)

@@ -1,5 +1,5 @@
 -- Trails: publications one behind the other, with the keys that were touched between them.
-use Rattle.std.specs.Prelude.{◌≡◌, ◌≤◌, ◌-◌, ℕ, ℤ, List, [], ◌∷◌, ◌++◌, map, take, drop, length, flat_map, Bool, false, Option, None, Some, ⊤, IsTrue, codes, replicate}
+use Rattle.std.specs.Prelude.{◌≡◌, ◌≤◌, ◌-◌, ℕ, ℤ, List, [], ◌∷◌, ◌++◌, map, take, drop, length, flat_map, ◌&&◌, Bool, false, true, Option, None, Some, ⊤, IsTrue, codes, pos, replicate}
 use Rattle.std.specs.FinMap.{from_entries, get, keys}
 use Rattle.std.specs.List.{All, list_all, list_any, slice_get}
 use Rattle.std.specs.Ordering.{eq_by_cmp}
@@ -11,14 +11,16 @@ use Rattle.copy_csv.specs.declared.heads.Head.{Head}
 use Rattle.copy_csv.specs.declared.rows.Change.{Change}
 use Rattle.register_words.specs.declared.sheets.Form.{Form}
 use Rattle.register_words.specs.declared.sheets.Sheet.{Sheet}
-use Rattle.copy_forms.specs.Files.{copy, delta}
+use Rattle.copy_forms.specs.Files.{copy, delta, may_be_wide}
 use Rattle.copy_forms.specs.Patching.{IsPatched, keyed}
 use Rattle.copy_csv.specs.Rows.{AreRows}
-use Rattle.copy_csv.specs.Sheets.{SheetRow, key_len, row_of, width}
+use Rattle.copy_csv.specs.Sheets.{SheetRow, fits, key_len, row_of, width}
 
--- A publication: its moment, its rows of each sheet, and the keys that were touched since the one before.
+-- A publication: its moment, whether its files are wide where they may be, its rows of each sheet, and the keys that
+-- were touched since the one before.
 pub record Publication : Type 0 where
   pub moment : ℤ
+  pub wide : Bool
   pub rows : Sheet → List SheetRow
   pub touched : Sheet → List KeyTexts
 
@@ -42,32 +44,35 @@ in_order touched = keys (from_entries {R = key_cmp} (map (λ k. (k, k)) touched)
 
 -- A key of a sheet: so many texts as its rows have in their keys, each UTF-8.
 pub record IsKeyOf (sheet : Sheet) (k : KeyTexts) : Type 0 where
-  pub wide : length k ≡ key_len sheet
+  pub full : length k ≡ key_len sheet
   pub utf8 : IsTrue (list_all is_utf8 k)
 
 -- ---- sound trails
 
--- A publication follows one with the rows of before: its rows are rows of the sheet whose keys rise, and a key that was
--- not touched has the same row as before, or none as before.
-pub record IsNext (before : Sheet → List SheetRow) (next : Publication) : Type 0 where
+-- A publication follows another one: its rows are rows of the sheet whose keys rise, and a key that was not touched has
+-- the same row as before, or none as before. Behind a wide one it is wide, and where it isn't, its rows of `lei` have
+-- nothing for the columns that only a wide file has.
+pub record IsNext (before next : Publication) : Type 0 where
   pub moment_is : IsMoment next.moment
   pub rows_are : (sheet : Sheet) → AreRows sheet (next.rows sheet)
   pub keys_are : (sheet : Sheet) → All (IsKeyOf sheet) (next.touched sheet)
   pub kept : (sheet : Sheet) (k : KeyTexts) → is_among k (next.touched sheet) ≡ false
-      → row_under (next.rows sheet) k ≡ row_under (before sheet) k
+      → row_under (next.rows sheet) k ≡ row_under (before.rows sheet) k
+  pub widens : before.wide ≡ true → next.wide ≡ true
+  pub plain : next.wide ≡ false → All (λ row. IsTrue (fits false row)) (next.rows Sheet.Lei)
 
 -- Each publication follows the one before it.
-abbrev pub FollowOn : (Sheet → List SheetRow) → Trail → Type 0
+abbrev pub FollowOn : Publication → Trail → Type 0
 FollowOn before [] = ⊤
-FollowOn before (next ∷ later) = IsNext before next × FollowOn next.rows later
+FollowOn before (next ∷ later) = IsNext before next × FollowOn next later
 
--- Before the first publication there are no rows.
-abbrev pub no_rows : Sheet → List SheetRow
-no_rows sheet = []
+-- What stands before the first publication: a narrow one with no rows. Its moment says nothing.
+abbrev pub nothing_published : Publication
+nothing_published = record { moment = pos 0; wide = false; rows = λ sheet. []; touched = λ sheet. [] }
 
 -- A trail is sound where each publication follows the one before it.
 abbrev pub IsSound : Trail → Type 0
-IsSound trail = FollowOn no_rows trail
+IsSound trail = FollowOn nothing_published trail
 
 -- ---- copies and deltas of a trail
 
@@ -79,9 +84,14 @@ copy_head number publication = record { moment = publication.moment; publication
 abbrev pub delta_head : ℕ → ℕ → Publication → Head
 delta_head from number publication = record { moment = publication.moment; publication = number; from = from }
 
--- The copy of a publication.
+-- Whether the files of a publication of this sheet and form are wide.
+abbrev pub is_wide_in : Publication → Sheet → Form → Bool
+is_wide_in publication sheet form = publication.wide && may_be_wide sheet form
+
+-- The copy of a publication, in its width.
 abbrev pub copy_of : ℕ → Publication → Sheet → Form → Text
-copy_of number publication sheet form = copy sheet form (copy_head number publication)
+copy_of number publication sheet form =
+    copy sheet form (is_wide_in publication sheet form) (copy_head number publication)
     (publication.rows sheet)
 
 -- The row of a key that is dropped: the key, and no other texts.
@@ -111,10 +121,10 @@ abbrev pub changes_between : Trail → ℕ → ℕ → Publication → Sheet →
 changes_between trail from number publication sheet =
     map (change_of sheet (publication.rows sheet)) (in_order (touched_in sheet (between trail from number)))
 
--- The delta between two publications.
+-- The delta between two publications, in the width of the later one.
 abbrev pub delta_between : Trail → ℕ → ℕ → Publication → Sheet → Form → Text
 delta_between trail from number publication sheet form =
-    delta sheet form (delta_head from number publication)
+    delta sheet form (is_wide_in publication sheet form) (delta_head from number publication)
     (changes_between trail from number publication sheet)
 
 -- The publication with this number, counted from 1.

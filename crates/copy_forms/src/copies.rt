@@ -1,5 +1,5 @@
 //! Copies and deltas in both forms: printed, and read back where they are printed so.
-ghost use Rattle.std.specs.Prelude.{◌≡◌, List as Items, map, IfOk, IsErrOf};
+ghost use Rattle.std.specs.Prelude.{◌≡◌, Bool, List as Items, map, IfOk, IsErrOf};
 ghost use Rattle.copy_csv.specs.declared.faults.FormFault.{FormFault};
 ghost use Rattle.copy_csv.specs.declared.heads.Head.{Head as DeclaredHead};
 ghost use Rattle.register_words.specs.declared.sheets.Form.{Form};
@@ -8,7 +8,7 @@ ghost use Rattle.std.specs.List.{All};
 ghost use Rattle.copy_csv.specs.Csv.{csv_copy, csv_delta, rendered_in};
 ghost use Rattle.copy_forms.specs.Json.{json_copy, json_delta};
 ghost use Rattle.copy_forms.specs.Files.{IsCopy, IsCopyRead, IsDelta, IsDeltaRead, copy, delta, rendered, rendered_change};
-ghost use Rattle.copy_csv.specs.Rows.{IsChangeOf};
+ghost use Rattle.copy_csv.specs.Rows.{IsChangeOf, IsRowOf};
 ghost use Rattle.copy_csv.specs.Sheets.{SheetRow};
 
 use crate::json_files::{read_json_copy, read_json_delta};
@@ -21,7 +21,7 @@ use lei_outside::{Bytes, List, NoMemory};
 use std::alloc::Global;
 
 /// Reads a copy: Ok exactly where the bytes are the text of some head and some rows of the sheet whose keys rise, and
-/// of UTF-8. `NotRead` says that they are none.
+/// of UTF-8, in one of the widths that there are. `NotRead` says that they are none.
 pub fn read_copy(
     alloc: Global,
     bytes: &[u8],
@@ -30,7 +30,8 @@ pub fn read_copy(
 ) -> Result<CopyRead, FormFault>
     ensures found { IfOk result (λ read. IsCopyRead bytes.now sheet form read) }
     ensures only { IsErrOf result FormFault.NotRead
-        → (head : DeclaredHead) (rows : Items SheetRow) → IsCopy bytes.now sheet form head rows → ⊥ }
+        → (head : DeclaredHead) (wide : Bool) (rows : Items SheetRow)
+        → IsCopy bytes.now sheet form head wide rows → ⊥ }
 {
     match form {
         Form::Csv => read_copy_in_csv(alloc, bytes, sheet),
@@ -41,24 +42,24 @@ pub fn read_copy(
 fn read_copy_in_csv(alloc: Global, bytes: &[u8], sheet: Sheet) -> Result<CopyRead, FormFault>
     ensures found { IfOk result (λ read. IsCopyRead bytes.now sheet Form.Csv read) }
     ensures only { IsErrOf result FormFault.NotRead
-        → (head : DeclaredHead) (rows : Items SheetRow) → IsCopy bytes.now sheet Form.Csv head rows → ⊥ }
+        → (head : DeclaredHead) (wide : Bool) (rows : Items SheetRow)
+        → IsCopy bytes.now sheet Form.Csv head wide rows → ⊥ }
 {
-    match read_csv_copy(alloc, bytes, sheet) {
-        Ok(rows) => Ok(CopyRead { head: None, rows }),
-        Err(fault) => Err(fault),
-    }
+    read_csv_copy(alloc, bytes, sheet)
 }
 
 fn read_copy_in_json(alloc: Global, bytes: &[u8], sheet: Sheet) -> Result<CopyRead, FormFault>
     ensures found { IfOk result (λ read. IsCopyRead bytes.now sheet Form.Json read) }
     ensures only { IsErrOf result FormFault.NotRead
-        → (head : DeclaredHead) (rows : Items SheetRow) → IsCopy bytes.now sheet Form.Json head rows → ⊥ }
+        → (head : DeclaredHead) (wide : Bool) (rows : Items SheetRow)
+        → IsCopy bytes.now sheet Form.Json head wide rows → ⊥ }
 {
     match read_json_copy(alloc, bytes, sheet) {
         Ok((head, rows)) => {
             if are_rows_rising(sheet, &rows) {
                 Ok(CopyRead {
                     head: Some(head),
+                    wide: false,
                     rows: List::from(rows),
                 })
             } else {
@@ -70,7 +71,8 @@ fn read_copy_in_json(alloc: Global, bytes: &[u8], sheet: Sheet) -> Result<CopyRe
 }
 
 /// Reads a delta: Ok exactly where the bytes are the text of some head and some changes of the sheet whose keys rise,
-/// each of UTF-8, and of a key that is dropped the key alone. `NotRead` says that they are none.
+/// each of UTF-8, and of a key that is dropped the key alone, in one of the widths that there are. `NotRead` says that
+/// they are none.
 pub fn read_delta(
     alloc: Global,
     bytes: &[u8],
@@ -79,7 +81,8 @@ pub fn read_delta(
 ) -> Result<DeltaRead, FormFault>
     ensures found { IfOk result (λ read. IsDeltaRead bytes.now sheet form read) }
     ensures only { IsErrOf result FormFault.NotRead
-        → (head : DeclaredHead) (changes : Items Change) → IsDelta bytes.now sheet form head changes → ⊥ }
+        → (head : DeclaredHead) (wide : Bool) (changes : Items Change)
+        → IsDelta bytes.now sheet form head wide changes → ⊥ }
 {
     match form {
         Form::Csv => read_delta_in_csv(alloc, bytes, sheet),
@@ -90,28 +93,24 @@ pub fn read_delta(
 fn read_delta_in_csv(alloc: Global, bytes: &[u8], sheet: Sheet) -> Result<DeltaRead, FormFault>
     ensures found { IfOk result (λ read. IsDeltaRead bytes.now sheet Form.Csv read) }
     ensures only { IsErrOf result FormFault.NotRead
-        → (head : DeclaredHead) (changes : Items Change) → IsDelta bytes.now sheet Form.Csv head changes → ⊥ }
+        → (head : DeclaredHead) (wide : Bool) (changes : Items Change)
+        → IsDelta bytes.now sheet Form.Csv head wide changes → ⊥ }
 {
-    match read_csv_delta(alloc, bytes, sheet) {
-        Ok(changes) => Ok(DeltaRead {
-            head: None,
-            changes,
-        }),
-        Err(fault) => Err(fault),
-    }
+    read_csv_delta(alloc, bytes, sheet)
 }
 
 fn read_delta_in_json(alloc: Global, bytes: &[u8], sheet: Sheet) -> Result<DeltaRead, FormFault>
     ensures found { IfOk result (λ read. IsDeltaRead bytes.now sheet Form.Json read) }
     ensures only { IsErrOf result FormFault.NotRead
-        → (head : DeclaredHead) (changes : Items Change)
-        → IsDelta bytes.now sheet Form.Json head changes → ⊥ }
+        → (head : DeclaredHead) (wide : Bool) (changes : Items Change)
+        → IsDelta bytes.now sheet Form.Json head wide changes → ⊥ }
 {
     match read_json_delta(alloc, bytes, sheet) {
         Ok((head, changes)) => {
             if are_changes_rising(sheet, &changes) {
                 Ok(DeltaRead {
                     head: Some(head),
+                    wide: false,
                     changes: List::from(changes),
                 })
             } else {
@@ -122,28 +121,35 @@ fn read_delta_in_json(alloc: Global, bytes: &[u8], sheet: Sheet) -> Result<Delta
     }
 }
 
-/// The text of a copy whose rows are rendered, under this head. In CSV the head isn't printed.
+/// The text of a copy whose rows are rendered, in this width and under this head. In CSV the head isn't printed. The
+/// width matters only in CSV of `lei`.
 pub fn copy_text(
     alloc: Global,
     sheet: Sheet,
     form: Form,
+    wide: bool,
     head: &Head,
     rows: &[RowTexts],
 ) -> Result<Bytes, NoMemory>
     ensures { IfOk result (λ bytes. (sheet_rows : Items SheetRow) → rows.now ≡ map rendered sheet_rows
-        → bytes ≡ copy sheet form head.now sheet_rows) }
+        → All (IsRowOf sheet) sheet_rows → bytes ≡ copy sheet form wide head.now sheet_rows) }
 {
     match form {
-        Form::Csv => copy_in_csv(alloc, sheet, rows),
+        Form::Csv => copy_in_csv(alloc, sheet, wide, rows),
         Form::Json => copy_in_json(alloc, head, rows),
     }
 }
 
-fn copy_in_csv(alloc: Global, sheet: Sheet, rows: &[RowTexts]) -> Result<Bytes, NoMemory>
+fn copy_in_csv(
+    alloc: Global,
+    sheet: Sheet,
+    wide: bool,
+    rows: &[RowTexts],
+) -> Result<Bytes, NoMemory>
     ensures { IfOk result (λ bytes. (sheet_rows : Items SheetRow) → rows.now ≡ map rendered sheet_rows
-        → bytes ≡ csv_copy sheet sheet_rows) }
+        → All (IsRowOf sheet) sheet_rows → bytes ≡ csv_copy sheet wide sheet_rows) }
 {
-    csv_copy_text(alloc, sheet, rows)
+    csv_copy_text(alloc, sheet, wide, rows)
 }
 
 fn copy_in_json(alloc: Global, head: &Head, rows: &[RowTexts]) -> Result<Bytes, NoMemory>
@@ -153,30 +159,37 @@ fn copy_in_json(alloc: Global, head: &Head, rows: &[RowTexts]) -> Result<Bytes, 
     json_copy_text(alloc, head, rows)
 }
 
-/// The text of a delta with these changes, each rendered of one that a delta of the sheet has, under this head.
+/// The text of a delta with these changes, each rendered of one that a delta of the sheet has, in this width and under
+/// this head. The width matters only in CSV of `lei`.
 pub fn delta_text(
     alloc: Global,
     sheet: Sheet,
     form: Form,
+    wide: bool,
     head: &Head,
     changes: &[TextChange<'_>],
 ) -> Result<Bytes, NoMemory>
     ensures { IfOk result (λ bytes. (sheet_changes : Items Change)
         → map rendered_in changes.now ≡ map rendered_change sheet_changes
-        → All (IsChangeOf sheet) sheet_changes → bytes ≡ delta sheet form head.now sheet_changes) }
+        → All (IsChangeOf sheet) sheet_changes → bytes ≡ delta sheet form wide head.now sheet_changes) }
 {
     match form {
-        Form::Csv => delta_in_csv(alloc, sheet, changes),
+        Form::Csv => delta_in_csv(alloc, sheet, wide, changes),
         Form::Json => delta_in_json(alloc, head, changes),
     }
 }
 
-fn delta_in_csv(alloc: Global, sheet: Sheet, changes: &[TextChange<'_>]) -> Result<Bytes, NoMemory>
+fn delta_in_csv(
+    alloc: Global,
+    sheet: Sheet,
+    wide: bool,
+    changes: &[TextChange<'_>],
+) -> Result<Bytes, NoMemory>
     ensures { IfOk result (λ bytes. (sheet_changes : Items Change)
         → map rendered_in changes.now ≡ map rendered_change sheet_changes
-        → All (IsChangeOf sheet) sheet_changes → bytes ≡ csv_delta sheet sheet_changes) }
+        → All (IsChangeOf sheet) sheet_changes → bytes ≡ csv_delta sheet wide sheet_changes) }
 {
-    csv_delta_text(alloc, sheet, changes)
+    csv_delta_text(alloc, sheet, wide, changes)
 }
 
 fn delta_in_json(alloc: Global, head: &Head, changes: &[TextChange<'_>]) -> Result<Bytes, NoMemory>

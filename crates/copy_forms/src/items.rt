@@ -63,7 +63,7 @@ fn put_field(
     texts: &FieldTexts,
     place: usize,
 ) -> Result<(), NoMemory>
-    requires wide { length texts.now ≡ Sheets.width sheet }
+    requires full { length texts.now ≡ Sheets.width sheet }
     requires first { 1 ≤ place }
     requires last { place ≤ Sheets.width sheet }
     ensures before { out.new.before ≡ out.old.before }

@@ -13,9 +13,9 @@ use lei_outside::{Bytes, NoMemory};
 use std::alloc::Global;
 
 // The places of each sheet's fields in byte order of their names.
-const LEI_PLACES: [u8; 28] = [
-    17, 20, 19, 10, 12, 9, 13, 11, 5, 7, 4, 8, 6, 18, 16, 2, 3, 15, 14, 21, 1, 28, 22, 23, 26, 25,
-    24, 27,
+const LEI_PLACES: [u8; 32] = [
+    17, 20, 19, 30, 31, 32, 29, 10, 12, 9, 13, 11, 5, 7, 4, 8, 6, 18, 16, 2, 3, 15, 14, 21, 1, 28,
+    22, 23, 26, 25, 24, 27,
 ];
 
 const RR_PLACES: [u8; 11] = [7, 8, 10, 9, 11, 6, 3, 4, 2, 5, 1];

@@ -3,16 +3,15 @@ ghost use Rattle.std.specs.Prelude.{◌≡◌, IfOk};
 ghost use Rattle.copy_forms.specs.Files.{rendered};
 
 use crate::json_text::record_text;
-use copy_csv::{Row, RowTexts, line_text};
+use copy_csv::{Row, RowTexts, line_texts};
 use lei_outside::NoMemory;
 use std::alloc::Global;
 
-/// The texts of a row: its line in CSV and its record in JSON.
+/// The texts of a row: its line in CSV, in two parts, and its record in JSON.
 pub fn row_texts(alloc: Global, row: &Row) -> Result<RowTexts, NoMemory>
     ensures { IfOk result (λ texts. texts ≡ rendered row.now) }
 {
-    Ok(RowTexts {
-        csv: line_text(alloc, row)?,
-        json: record_text(alloc, row)?,
-    })
+    let (csv, tail) = line_texts(alloc, row)?;
+    let json = record_text(alloc, row)?;
+    Ok(RowTexts { csv, tail, json })
 }

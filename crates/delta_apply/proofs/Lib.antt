@@ -1,4 +1,5 @@
 pub mod Merged
 pub mod Passing
+pub mod Widening
 pub mod Putting
 pub mod Answering

@@ -1,5 +1,5 @@
 -- What comes of a copy and a delta: the copy after the delta, or why there is none.
-use Rattle.std.specs.Prelude.{◌≡◌, ◌≢◌, ◌≤◌, ℕ, List, length, Result, Ok, Err, Some, ⊤}
+use Rattle.std.specs.Prelude.{◌≡◌, ◌≢◌, ◌≤◌, ℕ, Bool, List, length, false, true, Result, Ok, Err, Some, ⊤}
 use Rattle.lei_code.specs.Texts.{Text}
 use Rattle.copy_csv.specs.declared.heads.Head.{Head}
 use Rattle.copy_csv.specs.declared.rows.Change.{Change}
@@ -12,26 +12,30 @@ use Rattle.copy_forms.specs.Trails.{IsSound, Publication, Trail, copy_of, delta_
 use Rattle.delta_apply.specs.declared.fault.ApplyFault.{ApplyFault}
 use Rattle.delta_apply.specs.declared.fault.ApplyFault.TheVariants as faults
 
--- The bytes are the copy of a sheet with some head and some rows.
+-- The bytes are the copy of a sheet in some width, with some head and some rows.
 pub record IsSomeCopy (bytes : Text) (sheet : Sheet) (form : Form) : Type 0 where
   pub head : Head
+  pub wide : Bool
   pub rows : List SheetRow
-  pub is : IsCopy bytes sheet form head rows
+  pub is : IsCopy bytes sheet form head wide rows
 
--- The bytes are no copy of a sheet, whatever head and rows.
+-- The bytes are no copy of a sheet, whatever head, width and rows.
 abbrev pub IsNoCopy : Text → Sheet → Form → Type 0
-IsNoCopy bytes sheet form = (head : Head) (rows : List SheetRow) → IsCopy bytes sheet form head rows → ⊥
+IsNoCopy bytes sheet form =
+    (head : Head) (wide : Bool) (rows : List SheetRow) → IsCopy bytes sheet form head wide rows → ⊥
 
--- The bytes are no delta of a sheet, whatever head and changes.
+-- The bytes are no delta of a sheet, whatever head, width and changes.
 abbrev pub IsNoDelta : Text → Sheet → Form → Type 0
-IsNoDelta bytes sheet form = (head : Head) (changes : List Change) → IsDelta bytes sheet form head changes → ⊥
+IsNoDelta bytes sheet form =
+    (head : Head) (wide : Bool) (changes : List Change) → IsDelta bytes sheet form head wide changes → ⊥
 
 -- In JSON a delta goes from the publication of the copy. In CSV no head is printed, so nothing is asked.
 abbrev pub GoesFrom : Form → Head → Head → Type 0
 GoesFrom Form.Csv base head = ⊤
 GoesFrom Form.Json base head = base.publication ≡ head.from
 
--- The bytes are the copy after the delta, and in JSON the delta goes from the copy's publication.
+-- The bytes are the copy after the delta, in the delta's width, which isn't narrower than the copy's. In JSON the delta
+-- goes from the copy's publication.
 pub record IsApplied (copy delta bytes : Text) (sheet : Sheet) (form : Form) : Type 0 where
   pub patched : IsPatched copy delta bytes sheet form
   pub goes_from : GoesFrom form patched.base_head patched.head
@@ -41,17 +45,30 @@ pub record IsOfOtherBase (copy delta : Text) (sheet : Sheet) (form : Form)
     (publication from : ℕ) : Type 0 where
   pub in_json : form ≡ Form.Json
   pub base_head : Head
+  pub base_wide : Bool
   pub rows : List SheetRow
-  pub base_is : IsCopy copy sheet form base_head rows
+  pub base_is : IsCopy copy sheet form base_head base_wide rows
   pub head : Head
+  pub wide : Bool
   pub changes : List Change
-  pub delta_is : IsDelta delta sheet form head changes
+  pub delta_is : IsDelta delta sheet form head wide changes
   pub publication_is : publication ≡ base_head.publication
   pub from_is : from ≡ head.from
   pub differ : publication ≢ from
 
+-- The two are a copy and a delta in CSV, and the copy is wide and the delta isn't. Only `lei` has files of two widths.
+pub record IsOlder (copy delta : Text) (sheet : Sheet) (form : Form) : Type 0 where
+  pub in_csv : form ≡ Form.Csv
+  pub base_head : Head
+  pub rows : List SheetRow
+  pub base_is : IsCopy copy sheet form base_head true rows
+  pub head : Head
+  pub changes : List Change
+  pub delta_is : IsDelta delta sheet form head false changes
+
 -- What is to be answered of a copy and a delta, in this order: that the one is no copy, that the other is no delta,
--- that they don't go together, or the copy after the delta. Want of memory is never to be answered.
+-- that they don't go together by their publications or by their widths, or the copy after the delta. Want of memory is
+-- never to be answered.
 abbrev pub IsAnswer : Text → Text → Sheet → Form → Result Text ApplyFault → Type 0
 IsAnswer copy delta sheet form (Ok bytes) = IsApplied copy delta bytes sheet form
 IsAnswer copy delta sheet form (Err faults.CopyNotRead) = IsNoCopy copy sheet form
@@ -59,6 +76,7 @@ IsAnswer copy delta sheet form (Err faults.DeltaNotRead) = IsSomeCopy copy sheet
     × IsNoDelta delta sheet form
 IsAnswer copy delta sheet form (Err (faults.WrongBase publication from)) = IsOfOtherBase copy delta sheet form
     publication from
+IsAnswer copy delta sheet form (Err faults.OlderDelta) = IsOlder copy delta sheet form
 IsAnswer copy delta sheet form (Err faults.NoMemory) = ⊥
 
 -- This holds, unless memory was wanting.
@@ -67,6 +85,7 @@ UnlessNoMemory (Ok bytes) P = P
 UnlessNoMemory (Err faults.CopyNotRead) P = P
 UnlessNoMemory (Err faults.DeltaNotRead) P = P
 UnlessNoMemory (Err (faults.WrongBase publication from)) P = P
+UnlessNoMemory (Err faults.OlderDelta) P = P
 UnlessNoMemory (Err faults.NoMemory) P = ⊤
 
 -- Of the copy of a publication of a sound trail and the delta from there to a later one, or to itself, the copy of that

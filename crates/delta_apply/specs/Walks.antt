@@ -1,11 +1,11 @@
 -- What a walk over rows and changes puts.
-use Rattle.std.specs.Prelude.{◌≡◌, ◌≢◌, ℕ, List, ◌∷◌, ◌++◌, drop, flat_map, Result, Ok, Err, ⊤}
+use Rattle.std.specs.Prelude.{◌≡◌, ◌≢◌, ◌-◌, ℕ, Bool, List, ◌∷◌, ◌++◌, codes, drop, take, length, flat_map, false, true, Result, Ok, Err, ⊤}
 use Rattle.lei_code.specs.Texts.{Text}
 use Rattle.copy_csv.specs.declared.heads.Head.{Head}
 use Rattle.copy_csv.specs.declared.rows.Change.{Change}
 use Rattle.register_words.specs.declared.sheets.Sheet.{Sheet}
-use Rattle.copy_csv.specs.Csv.{csv_copy, row_line}
-use Rattle.copy_csv.specs.Rows.{AreRows, IsRowOf}
+use Rattle.copy_csv.specs.Csv.{IsCsvCopy, csv_copy, row_line}
+use Rattle.copy_csv.specs.Rows.{IsRowIn}
 use Rattle.copy_csv.specs.Sheets.{SheetRow, key}
 use Rattle.copy_csv.specs.Taking.{AreRead}
 use Rattle.copy_forms.specs.Json.{json_copy}
@@ -23,22 +23,55 @@ PassesRow print changes row at old next new =
     → new ++ flat_map print (merged more (drop next changes))
     ≡ old ++ flat_map print (merged (row ∷ more) (drop at changes))
 
--- The bytes are lines of rows of a sheet whose keys rise, and the lines of these rows after the changes were put behind
--- the others.
-pub record PutsLines (sheet : Sheet) (bytes : Text) (changes : List Change) (old new : Text) : Type 0 where
-  pub rows : List SheetRow
-  pub are : AreRead row_line (IsRowOf sheet) key bytes rows
-  pub put : new ≡ old ++ flat_map row_line (merged rows changes)
+-- ---- in CSV
 
--- The bytes are a copy in CSV, and the others are the copy of its rows after the changes.
-pub record IsPatchedCsv (sheet : Sheet) (copy : Text) (changes : List Change) (bytes : Text) : Type 0 where
+-- The line of a row that stays: as it stands, or in a copy that becomes wide with four empty columns before its LF.
+abbrev pub kept_line : Bool → Text → Text
+kept_line false line = line
+kept_line true line = take (length line - 1) line ++ codes ",\"\",\"\",\"\",\"\"\n"
+
+-- The bytes are lines of rows of a sheet in the base's width, whose keys rise, and the lines of these rows after the
+-- changes were put after the others, in another width.
+pub record PutsLines (sheet : Sheet) (base_wide wide : Bool) (bytes : Text) (changes : List Change)
+    (old new : Text) : Type 0 where
   pub rows : List SheetRow
-  pub text : copy ≡ csv_copy sheet rows
-  pub rows_are : AreRows sheet rows
-  pub bytes_are : bytes ≡ csv_copy sheet (patched rows changes)
+  pub are : AreRead (row_line base_wide) (IsRowIn sheet base_wide) key bytes rows
+  pub put : new ≡ old ++ flat_map (row_line wide) (merged rows changes)
+
+-- The lines are those of rows of a sheet in the base's width, whose keys rise, and the bytes are the copy of these rows
+-- after the changes, in another width.
+pub record AreLinesPatched (sheet : Sheet) (base_wide wide : Bool) (lines : Text) (changes : List Change)
+    (bytes : Text) : Type 0 where
+  pub rows : List SheetRow
+  pub are : AreRead (row_line base_wide) (IsRowIn sheet base_wide) key lines rows
+  pub bytes_are : bytes ≡ csv_copy sheet wide (patched rows changes)
+
+-- The first text is a copy in CSV, not wider than the changes are, and the bytes are the copy of its rows after the
+-- changes, in their width.
+pub record IsCopyPatched (sheet : Sheet) (copy : Text) (wide : Bool) (changes : List Change)
+    (bytes : Text) : Type 0 where
+  pub base_wide : Bool
+  pub rows : List SheetRow
+  pub is : IsCsvCopy sheet copy base_wide rows
+  pub newer : base_wide ≡ true → wide ≡ true
+  pub bytes_are : bytes ≡ csv_copy sheet wide (patched rows changes)
+
+-- What comes in CSV of a copy and of changes that were read in this width: the copy after the changes, that there is no
+-- copy, or that there is a wide one and the changes aren't. Of want of memory nothing is said.
+abbrev pub IsPatchedCsv : Sheet → Text → Bool → List Change → Result Text ApplyFault → Type 0
+IsPatchedCsv sheet copy wide changes (Ok bytes) = IsCopyPatched sheet copy wide changes bytes
+IsPatchedCsv sheet copy wide changes (Err faults.CopyNotRead) =
+    (base_wide : Bool) (rows : List SheetRow) → IsCsvCopy sheet copy base_wide rows → ⊥
+IsPatchedCsv sheet copy wide changes (Err faults.DeltaNotRead) = ⊥
+IsPatchedCsv sheet copy wide changes (Err (faults.WrongBase publication from)) = ⊥
+IsPatchedCsv sheet copy wide changes (Err faults.OlderDelta) =
+    (rows : List SheetRow) × IsCsvCopy sheet copy true rows × (wide ≡ false)
+IsPatchedCsv sheet copy wide changes (Err faults.NoMemory) = ⊤
+
+-- ---- in JSON
 
 -- Rows and changes that were read of JSON with these heads, patched: the text under the delta's head, or the wrong base
--- with both numbers. Neither of the two is unread, and of want of memory nothing is said.
+-- with both numbers. Neither of the two is unread, there is one width, and of want of memory nothing is said.
 abbrev pub IsPatchedJson : Head → List SheetRow → Head → List Change → Result Text ApplyFault → Type 0
 IsPatchedJson base rows head changes (Ok bytes) =
     (base.publication ≡ head.from) × (bytes ≡ json_copy (patched_head head) (patched rows changes))
@@ -46,4 +79,5 @@ IsPatchedJson base rows head changes (Err faults.CopyNotRead) = ⊥
 IsPatchedJson base rows head changes (Err faults.DeltaNotRead) = ⊥
 IsPatchedJson base rows head changes (Err (faults.WrongBase publication from)) =
     (publication ≡ base.publication) × (from ≡ head.from) × (base.publication ≢ head.from)
+IsPatchedJson base rows head changes (Err faults.OlderDelta) = ⊥
 IsPatchedJson base rows head changes (Err faults.NoMemory) = ⊤

@@ -1,7 +1,8 @@
 //! A delta, applied to a copy.
-ghost use Rattle.std.specs.Prelude.{◌≡◌, Result as Results};
+ghost use Rattle.std.specs.Prelude.{◌≡◌, IsSome, Result as Results, Some};
 ghost use Rattle.lei_code.specs.Texts.{Text};
 ghost use Rattle.register_words.specs.declared.sheets.Form.{Form};
+ghost use Rattle.copy_csv.specs.declared.heads.Head.{Head as DeclaredHead};
 ghost use Rattle.copy_csv.specs.Rows.{AreChanges, AreRows};
 ghost use Rattle.delta_apply.specs.declared.fault.ApplyFault.{ApplyFault as Fault};
 ghost use Rattle.delta_apply.specs.Applying.{IsAnswer, IsNoDelta, LeadsOn, UnlessNoMemory};
@@ -10,12 +11,15 @@ ghost use Rattle.delta_apply.specs.Walks.{IsPatchedJson};
 use crate::csv::patch_csv;
 use crate::fault::ApplyFault;
 use crate::json::patch_json;
-use copy_forms::{Change, Form, FormFault, Head, Row, Sheet, read_copy, read_delta};
+use copy_forms::{CopyRead, DeltaRead, Form, FormFault, Head, Sheet, read_copy, read_delta};
 use lei_outside::{Bytes, NoMemory};
 use std::alloc::Global;
 
-/// The copy after the delta. The faults are told in the order of `ApplyFault`; in CSV no heads are printed, and so no
-/// delta has the wrong base. Except that memory may be wanting, what is answered is the one answer that there is.
+/// The copy after the delta, in the delta's width. The faults are reported in the order of `ApplyFault`. `CopyNotRead`
+/// and `DeltaNotRead` come if the bytes aren't printed as a copy, or a delta, of this sheet and form. In CSV no heads
+/// are printed, so `WrongBase` comes in JSON alone: if the delta goes from another publication than the copy's.
+/// `OlderDelta` comes in CSV of `lei` alone: if the copy is wide and the delta isn't. Except that memory may be
+/// wanting, what is answered is the one answer that there is.
 pub fn apply(
     alloc: Global,
     copy: &[u8],
@@ -43,11 +47,7 @@ fn apply_in_csv(alloc: Global, copy: &[u8], delta: &[u8], sheet: Sheet) -> Resul
         Err(FormFault::NoMemory) => return Err(ApplyFault::NoMemory),
     };
     let room = copy.len().saturating_add(delta.len());
-    match patch_csv(alloc, sheet, copy, read.changes.as_slice(), room) {
-        Ok(bytes) => Ok(bytes),
-        Err(FormFault::NotRead) => Err(ApplyFault::CopyNotRead),
-        Err(FormFault::NoMemory) => Err(ApplyFault::NoMemory),
-    }
+    patch_csv(alloc, sheet, copy, &read, room)
 }
 
 // In CSV: what is to be answered where the delta is none.
@@ -83,34 +83,33 @@ fn apply_in_json(
         Err(FormFault::NotRead) => return Err(ApplyFault::DeltaNotRead),
         Err(FormFault::NoMemory) => return Err(ApplyFault::NoMemory),
     };
-    match (base.head, read.head) {
-        (Some(base_head), Some(head)) => {
-            let room = copy.len().saturating_add(delta.len());
-            let (rows, changes) = (base.rows.as_slice(), read.changes.as_slice());
-            patch_read(alloc, sheet, base_head, rows, head, changes, room)
-        }
-        _ => unreachable!(),
-    }
+    let room = copy.len().saturating_add(delta.len());
+    patch_read(alloc, sheet, &base, &read, room)
 }
 
-// The copy of these rows after the changes, where the delta goes from the copy's publication.
+// The copy of the base's rows after the changes, if the delta goes from the base's publication.
 fn patch_read(
     alloc: Global,
     sheet: Sheet,
-    base: Head,
-    rows: &[Row],
-    head: Head,
-    changes: &[Change],
+    base: &CopyRead,
+    delta: &DeltaRead,
     room: usize,
 ) -> Result<Bytes, ApplyFault>
-    requires rows { AreRows sheet rows.now }
-    requires changes { AreChanges sheet changes.now }
-    ensures { IsPatchedJson base rows.now head changes.now result }
+    requires base { IsSome base.now.head }
+    requires delta { IsSome delta.now.head }
+    requires rows { AreRows sheet base.now.rows }
+    requires changes { AreChanges sheet delta.now.changes }
+    ensures { (base_head head : DeclaredHead) → base.now.head ≡ Some base_head → delta.now.head ≡ Some head
+        → IsPatchedJson base_head base.now.rows head delta.now.changes result }
 {
-    if base.publication != head.from {
-        return Err(ApplyFault::WrongBase(base.publication, head.from));
+    let (Some(base_head), Some(head)) = (base.head, delta.head) else {
+        unreachable!()
+    };
+    if base_head.publication != head.from {
+        return Err(ApplyFault::WrongBase(base_head.publication, head.from));
     }
     let patched_head = Head { from: 0, ..head };
+    let (rows, changes) = (base.rows.as_slice(), delta.changes.as_slice());
     match patch_json(alloc, sheet, &patched_head, rows, changes, room) {
         Ok(bytes) => Ok(bytes),
         Err(NoMemory) => Err(ApplyFault::NoMemory),

@@ -1,78 +1,144 @@
-//! A copy in CSV, patched as it is read: the line of a row that stays is copied as it stands.
-ghost use Rattle.std.specs.Prelude.{◌≡◌, ◌≢◌, ◌≤◌, ◌++◌, List as Items, drop, flat_map, length, IfOk, IsErrOf, OnOk, Some};
+//! A copy in CSV, patched as it is read: the line of a row that stays is copied.
+ghost use Rattle.std.specs.Prelude.{◌≡◌, ◌<◌, ◌≤◌, ◌++◌, [], false, true, List as Items, drop, flat_map, if◌then◌else◌, length, IfOk, IsErrOf, OnOk, Some};
 ghost use Rattle.std.specs.List.{All};
 ghost use Rattle.std.specs.Str.{IsUtf8};
+ghost use Rattle.lei_code.specs.Texts.{Text};
 ghost use Rattle.copy_csv.specs.declared.faults.FormFault.{FormFault};
-ghost use Rattle.copy_csv.specs.Csv.{csv_copy, row_line};
-ghost use Rattle.copy_csv.specs.Rows.{AreChanges, AreRows, IsChangeOf, IsRowOf, changed_row};
-ghost use Rattle.copy_csv.specs.Sheets.{SheetRow, key};
-ghost use Rattle.copy_csv.specs.Taking.{AreRead, comes_after};
+ghost use Rattle.copy_csv.specs.declared.rows.Change.{Change as Changed};
+ghost use Rattle.copy_csv.specs.Csv.{row_line};
+ghost use Rattle.copy_csv.specs.Rows.{AreChanges, IsChangeOf, IsRowIn, changed_row};
+ghost use Rattle.copy_csv.specs.Sheets.{SheetRow, has_widths, key, names_shown};
+ghost use Rattle.copy_csv.specs.Taking.{AreRead, HasLines, comes_after};
 ghost use Rattle.delta_apply.specs.Merging.{put_by};
-ghost use Rattle.delta_apply.specs.Walks.{IsPatchedCsv, PassesRow, PutsLines};
+ghost use Rattle.delta_apply.specs.Walks.{AreLinesPatched, IsPatchedCsv, PassesRow, PutsLines, kept_line};
 
-use copy_csv::{Reader, copy_head, put_row, read_row, text_behind};
-use copy_forms::{Change, FormFault, Row, Sheet};
+use crate::fault::ApplyFault;
+use copy_csv::{Reader, copy_head, copy_lines, put_row, read_csv_copy, read_row};
+use copy_forms::{Change, DeltaRead, FormFault, Row, Sheet};
 use lei_outside::{Bytes, NoMemory};
 use std::alloc::Global;
 use std::cmp::Ordering;
 
-/// The copy after these changes, with room for so many bytes. `NotRead` says that the bytes are no copy.
+/// The copy after this delta, with room for so many bytes. `CopyNotRead` says that the bytes are no copy, and
+/// `OlderDelta` that they are a wide one and the delta is narrow.
 pub fn patch_csv(
     alloc: Global,
     sheet: Sheet,
     copy: &[u8],
-    changes: &[Change],
+    delta: &DeltaRead,
+    room: usize,
+) -> Result<Bytes, ApplyFault>
+    requires changes { AreChanges sheet delta.now.changes }
+    requires widths { delta.now.wide ≡ true → has_widths sheet ≡ true }
+    ensures { IsPatchedCsv sheet copy.now delta.now.wide delta.now.changes result }
+{
+    let (base_wide, lines) = match copy_lines(alloc, copy, sheet) {
+        Ok(Some(found)) => found,
+        Ok(None) => return Err(ApplyFault::CopyNotRead),
+        Err(NoMemory) => return Err(ApplyFault::NoMemory),
+    };
+    if base_wide && !delta.wide {
+        return answer_older(alloc, copy, sheet);
+    }
+    match patch_lines(alloc, sheet, base_wide, lines, delta, room) {
+        Ok(bytes) => Ok(bytes),
+        Err(FormFault::NotRead) => Err(ApplyFault::CopyNotRead),
+        Err(FormFault::NoMemory) => Err(ApplyFault::NoMemory),
+    }
+}
+
+// What is to be answered if the copy has the first line of a wide one and the delta is narrow.
+fn answer_older(alloc: Global, copy: &[u8], sheet: Sheet) -> Result<Bytes, ApplyFault>
+    ensures { (lines : Text) (changes : Items Changed) → HasLines names_shown sheet copy.now true lines
+        → IsPatchedCsv sheet copy.now false changes result }
+{
+    match read_csv_copy(alloc, copy, sheet) {
+        Ok(read) => {
+            drop(read);
+            Err(ApplyFault::OlderDelta)
+        }
+        Err(FormFault::NotRead) => Err(ApplyFault::CopyNotRead),
+        Err(FormFault::NoMemory) => Err(ApplyFault::NoMemory),
+    }
+}
+
+// The copy after this delta of what stands in these lines of a copy, which isn't the wider one. `NotRead` says that
+// they are no lines of rows whose keys rise.
+fn patch_lines(
+    alloc: Global,
+    sheet: Sheet,
+    base_wide: bool,
+    lines: &[u8],
+    delta: &DeltaRead,
     room: usize,
 ) -> Result<Bytes, FormFault>
-    requires { AreChanges sheet changes.now }
-    ensures found { IfOk result (λ bytes. IsPatchedCsv sheet copy.now changes.now bytes) }
-    ensures only { IsErrOf result FormFault.NotRead
-        → (rows : Items SheetRow) → AreRows sheet rows → copy.now ≢ csv_copy sheet rows }
+    requires utf8 { IsUtf8 lines.now }
+    requires changes { AreChanges sheet delta.now.changes }
+    requires newer { base_wide ≡ true → delta.now.wide ≡ true }
+    requires widths { delta.now.wide ≡ true → has_widths sheet ≡ true }
+    ensures found { IfOk result
+        (λ bytes. AreLinesPatched sheet base_wide delta.now.wide lines.now delta.now.changes bytes) }
+    ensures only { IsErrOf result FormFault.NotRead → (rows : Items SheetRow)
+        → AreRead (row_line base_wide) (IsRowIn sheet base_wide) key lines.now rows → ⊥ }
 {
-    let head = copy_head(alloc, sheet)?;
-    let Some(lines) = text_behind(copy, &head) else {
-        return Err(FormFault::NotRead);
-    };
+    let head = copy_head(alloc, sheet, delta.wide)?;
+    let room = room.saturating_add(wider_by(lines, base_wide != delta.wide));
     let mut out = Vec::with_capacity(alloc, room)?;
     out.extend_from_slice(&head)?;
-    match put_patched(alloc, sheet, lines, changes, &mut out) {
+    match put_patched(alloc, sheet, base_wide, lines, delta, &mut out) {
         Ok(()) => Ok(Bytes::from(out)),
         Err(fault) => Err(fault),
     }
 }
 
-// Puts the lines of the rows after the changes behind the others. `NotRead` says that the bytes are no lines of rows
-// whose keys rise.
+// How many bytes the columns take that lines get if they are widened: 12 for each, and a line of 28 columns has at
+// least 84 bytes.
+fn wider_by(lines: &[u8], widens: bool) -> usize {
+    if widens { lines.len() / 7 } else { 0 }
+}
+
+// Puts the lines of the rows after the changes of a delta behind the others, in its width. `NotRead` says that the
+// bytes are no lines of rows whose keys rise.
 fn put_patched(
     alloc: Global,
     sheet: Sheet,
+    base_wide: bool,
     bytes: &[u8],
-    changes: &[Change],
+    delta: &DeltaRead,
     out: &mut Vec<u8>,
 ) -> Result<(), FormFault>
     requires utf8 { IsUtf8 bytes.now }
-    requires changes { All (IsChangeOf sheet) changes.now }
-    ensures found { OnOk result (PutsLines sheet bytes.now changes.now out.old.items out.new.items) }
-    ensures only { IsErrOf result FormFault.NotRead
-        → (rows : Items SheetRow) → AreRead row_line (IsRowOf sheet) key bytes.now rows → ⊥ }
+    requires changes { All (IsChangeOf sheet) delta.now.changes }
+    requires newer { base_wide ≡ true → delta.now.wide ≡ true }
+    requires widths { delta.now.wide ≡ true → has_widths sheet ≡ true }
+    ensures found { OnOk result (PutsLines sheet base_wide delta.now.wide bytes.now delta.now.changes
+        out.old.items out.new.items) }
+    ensures only { IsErrOf result FormFault.NotRead → (rows : Items SheetRow)
+        → AreRead (row_line base_wide) (IsRowIn sheet base_wide) key bytes.now rows → ⊥ }
 {
+    let widens = base_wide != delta.wide;
+    let changes = delta.changes.as_slice();
     let mut reader = Reader::new(bytes);
     let mut last = None;
     let mut next = 0;
     while !reader.is_done() {
         let start = bytes.len() - reader.rest().len();
-        let row = match read_row(alloc, sheet, &mut reader)? {
+        let row = match read_row(alloc, sheet, base_wide, &mut reader)? {
             Some(row) => row,
             None => return Err(FormFault::NotRead),
         };
         if !follows(&last, &row) {
             return Err(FormFault::NotRead);
         }
-        let end = bytes.len() - reader.rest().len();
-        next = put_next(out, changes, next, &row, &bytes[start..end])?;
+        let (left, stays) = put_next(out, delta.wide, changes, next, &row)?;
+        if stays {
+            let end = bytes.len() - reader.rest().len();
+            put_kept(out, &bytes[start..end], widens)?;
+        }
+        next = left;
         last = Some(row);
     }
-    put_all(out, &changes[next..])?;
+    put_all(out, delta.wide, &changes[next..])?;
     Ok(())
 }
 
@@ -87,56 +153,67 @@ fn follows(last: &Option<Row>, row: &Row) -> bool
     }
 }
 
-// Puts the lines of what the changes from a place on put before a row, and of what stands in its place: its own line
-// where no change has its key. Gives the place of the first change that is left.
+// Puts the lines of what the changes from a place on put before a row and in its place. Gives the place of the first
+// change that is left, and whether the row stays, which it does if no change has its key.
 fn put_next(
     out: &mut Vec<u8>,
+    wide: bool,
     changes: &[Change],
     at: usize,
     row: &Row,
-    line: &[u8],
-) -> Result<usize, NoMemory>
+) -> Result<(usize, bool), NoMemory>
     requires place { at ≤ length changes.now }
     requires sheets { All (λ change. (changed_row change).sheet ≡ row.now.sheet) changes.now }
-    requires line { line.now ≡ row_line row.now }
-    ensures put { IfOk result
-        (λ next. PassesRow row_line changes.now row.now at out.old.items next out.new.items) }
-    ensures place { IfOk result (λ next. next ≤ length changes.now) }
+    ensures put { IfOk result (λ left. PassesRow (row_line wide) changes.now row.now at out.old.items left.0
+        (out.new.items ++ (if left.1 then row_line wide row.now else []))) }
+    ensures place { IfOk result (λ left. left.0 ≤ length changes.now) }
 {
     for index in at..changes.len() {
         let change = &changes[index];
         match change.row().order(row) {
-            Ordering::Less => put_change(out, change)?,
+            Ordering::Less => put_change(out, wide, change)?,
             Ordering::Equal => {
-                put_change(out, change)?;
-                return Ok(index + 1);
+                put_change(out, wide, change)?;
+                return Ok((index + 1, false));
             }
-            Ordering::Greater => {
-                out.extend_from_slice(line)?;
-                return Ok(index);
-            }
+            Ordering::Greater => return Ok((index, true)),
         }
     }
-    out.extend_from_slice(line)?;
-    Ok(changes.len())
+    Ok((changes.len(), true))
+}
+
+// Puts the line of a row that stays behind the others. In a copy that becomes wide it gets the columns that it lacks,
+// which are empty.
+fn put_kept(out: &mut Vec<u8>, line: &[u8], widens: bool) -> Result<(), NoMemory>
+    requires { 0 < length line.now }
+    ensures { OnOk result (out.new.items ≡ out.old.items ++ kept_line widens line.now) }
+{
+    if widens {
+        out.extend_from_slice(&line[..line.len() - 1])?;
+        out.extend_from_slice(b",\"\",\"\",\"\",\"\"\n")?;
+    } else {
+        out.extend_from_slice(line)?;
+    }
+    Ok(())
 }
 
 // Puts the lines of what all of these changes put behind the others.
-fn put_all(out: &mut Vec<u8>, changes: &[Change]) -> Result<(), NoMemory>
-    ensures { OnOk result (out.new.items ≡ out.old.items ++ flat_map row_line (flat_map put_by changes.now)) }
+fn put_all(out: &mut Vec<u8>, wide: bool, changes: &[Change]) -> Result<(), NoMemory>
+    ensures { OnOk result
+        (out.new.items ≡ out.old.items ++ flat_map (row_line wide) (flat_map put_by changes.now)) }
 {
     for change in changes {
-        put_change(out, change)?;
+        put_change(out, wide, change)?;
     }
     Ok(())
 }
 
 // Puts the line of what a change puts behind the others.
-fn put_change(out: &mut Vec<u8>, change: &Change) -> Result<(), NoMemory>
-    ensures { OnOk result (out.new.items ≡ out.old.items ++ flat_map row_line (put_by change.now)) }
+fn put_change(out: &mut Vec<u8>, wide: bool, change: &Change) -> Result<(), NoMemory>
+    ensures { OnOk result (out.new.items ≡ out.old.items ++ flat_map (row_line wide) (put_by change.now)) }
 {
     match change {
-        Change::Put(row) => put_row(out, row),
+        Change::Put(row) => put_row(out, wide, row),
         Change::Drop(_) => Ok(()),
     }
 }

@@ -9,6 +9,8 @@ pub enum ApplyFault {
     DeltaNotRead,
     /// In JSON: the number of the copy's publication, and the other one that the delta goes from.
     WrongBase(u32, u32),
+    /// In CSV of `lei`: the copy is wide, and the delta lacks columns that it has.
+    OlderDelta,
     /// Memory ran out.
     NoMemory,
 }

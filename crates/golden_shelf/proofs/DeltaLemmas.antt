@@ -23,7 +23,7 @@ use Rattle.golden_shelf.specs.declared.sides.Sides.{Sides}
 use Rattle.golden_shelf.specs.Parts.{kept_of, side_of}
 use Rattle.golden_shelf.specs.Sides.{SideState}
 use Rattle.golden_shelf.proofs.Publishing.{kept_lines, latest_sound}
-use Rattle.copy_csv.specs.Rows.{AreRows, IsChangeOf}
+use Rattle.copy_csv.specs.Rows.{AreRows, IsChangeOf, IsRowOf}
 use Rattle.copy_csv.specs.Sheets.{SheetRow, key_len, row_of, width}
 use Rattle.lei_code.specs.Texts.{Text}
 use Rattle.lei_records.specs.declared.view.RowKey.{RowKey}
@@ -31,13 +31,13 @@ use Rattle.golden_shelf.specs.Keys.{is_of, key_texts}
 use Rattle.copy_csv.proofs.RowLemmas.{key_total}
 use Rattle.copy_forms.specs.Files.{delta, rendered, rendered_change}
 use Rattle.register_words.specs.declared.sheets.Form.{Form}
-use Rattle.copy_forms.specs.Trails.{FollowOn, IsKeyOf, IsSound, Publication, Trail, change_of, change_to, changes_between, delta_between, dropped_row, in_order, is_among, no_rows, row_under, touched_in}
+use Rattle.copy_forms.specs.Trails.{FollowOn, IsKeyOf, IsSound, Publication, Trail, change_of, change_to, changes_between, delta_between, dropped_row, in_order, is_among, is_wide_in, nothing_published, row_under, touched_in}
 use Rattle.copy_forms.proofs.TrailLemmas.{are_changes}
 use Rattle.golden_shelf.specs.declared.issue.Issue.{Issue}
 use Rattle.golden_shelf.specs.declared.order.TextKey.{TextKey}
 use Rattle.golden_shelf.specs.Deltas.{changed_in, shown, shown_in, texts_in}
 use Rattle.golden_shelf.specs.Lines.{Line, line_of}
-use Rattle.golden_shelf.specs.Shelves.{AreIssuesOf, Keeps, Kept, latest, lines_of, rows_in}
+use Rattle.golden_shelf.specs.Shelves.{AreIssuesOf, Keeps, Kept, latest, lines_of}
 use Rattle.golden_shelf.proofs.Keeping.{find_lines, joined, under_keys}
 use Rattle.golden_shelf.proofs.SideLemmas.{tied}
 use Rattle.golden_shelf.proofs.Woven.{key_same}
@@ -161,17 +161,17 @@ changed_touched sheet (i ∷ issues) (p ∷ trail) are =
 take_rest : {X : Type 0} (xs : List X) (n : ℕ) → take (length xs - n) (drop n xs) ≡ drop n xs
 take_rest xs n = take_all (length xs - n) (drop n xs) (let l = length-drop n xs in omega (arith, l))
 
-keys_all : (before : Sheet → List SheetRow) (later : List Publication) → FollowOn before later → (sheet : Sheet)
+keys_all : (before : Publication) (later : List Publication) → FollowOn before later → (sheet : Sheet)
     → All (IsKeyOf sheet) (touched_in sheet later)
 keys_all before [] on sheet = All-nil (IsKeyOf sheet)
 keys_all before (next ∷ later) on sheet =
-    All-append (IsKeyOf sheet) (next.touched sheet) (touched_in sheet later) (on.0.keys_are sheet) (keys_all next.rows later on.1 sheet)
+    All-append (IsKeyOf sheet) (next.touched sheet) (touched_in sheet later) (on.0.keys_are sheet) (keys_all next later on.1 sheet)
 
-keys_behind : (before : Sheet → List SheetRow) (trail : Trail) (n : ℕ) → FollowOn before trail → (sheet : Sheet)
+keys_behind : (before : Publication) (trail : Trail) (n : ℕ) → FollowOn before trail → (sheet : Sheet)
     → All (IsKeyOf sheet) (touched_in sheet (drop n trail))
 keys_behind before trail zero on sheet = keys_all before trail on sheet
 keys_behind before [] (suc n) on sheet = All-nil (IsKeyOf sheet)
-keys_behind before (next ∷ later) (suc n) on sheet = keys_behind next.rows later n on.1 sheet
+keys_behind before (next ∷ later) (suc n) on sheet = keys_behind next later n on.1 sheet
 
 -- ---- what is joined
 
@@ -216,7 +216,7 @@ pub changes_good : (sheet : Sheet) (trail : Trail) (last : Publication) (n : ℕ
     → All (IsChangeOf sheet) (changes_between trail n (length trail) last sheet)
 changes_good sheet trail last n sound rows =
     subst (λ t. All (IsChangeOf sheet) (map (change_of sheet (last.rows sheet)) (in_order (touched_in sheet t)))) (sym (take_rest trail n))
-    (are_changes sheet (last.rows sheet) (touched_in sheet (drop n trail)) rows.each (keys_behind no_rows trail n sound sheet)).each
+    (are_changes sheet (last.rows sheet) (touched_in sheet (drop n trail)) rows.each (keys_behind nothing_published trail n sound sheet)).each
 
 -- ---- keys that are collected, one behind the other
 
@@ -311,19 +311,25 @@ found_behind sheet issues sides now n side slice keys handed changes read view s
 -- ---- the delta
 
 pub rows_latest : (trail : Trail) (last : Publication) (sheet : Sheet) → IsSound trail → latest trail ≡ Some last → AreRows sheet (last.rows sheet)
-rows_latest trail last sheet sound is = subst (λ o. AreRows sheet (rows_in o sheet)) is (latest_sound trail sound sheet)
+rows_latest trail last sheet sound is = subst (λ o. AreRows sheet ((unwrap_or o nothing_published).rows sheet)) is (latest_sound trail sound sheet)
+
+pub rows_each : (trail : Trail) (last : Publication) (sheet : Sheet) → IsSound trail → latest trail ≡ Some last → All (IsRowOf sheet) (last.rows sheet)
+rows_each trail last sheet sound is = let are = rows_latest trail last sheet sound is in are.each
 
 pub lines_latest : (trail : Trail) (last : Publication) (now : Kept) (sheet : Sheet) → Keeps trail now → latest trail ≡ Some last
     → lines_of now sheet ≡ map line_of (last.rows sheet)
-lines_latest trail last now sheet keeps is = keeps.lines_are sheet ∙ ap (λ o. map line_of (rows_in o sheet)) is
+lines_latest trail last now sheet keeps is = keeps.lines_are sheet ∙ ap (λ o. map line_of ((unwrap_or o nothing_published).rows sheet)) is
 
-pub delta_given : (trail : Trail) (last : Publication) (sheet : Sheet) (form : Form) (text : Text) (from publication : ℕ) (moment : ℤ) → latest trail ≡ Some last
+pub delta_given : (trail : Trail) (last : Publication) (sheet : Sheet) (form : Form) (wide : Bool) (text : Text) (from publication : ℕ) (moment : ℤ)
+    → latest trail ≡ Some last
     → ◌≡◌ {A = Option (ℕ × ℤ)} (Some (publication, moment)) (option_map (λ (p : Publication). (length trail, p.moment)) (latest trail))
-    → text ≡ delta sheet form (record { moment = moment; publication = publication; from = from }) (changes_between trail from (length trail) last sheet)
+    → wide ≡ is_wide_in last sheet form
+    → text ≡ delta sheet form wide (record { moment = moment; publication = publication; from = from }) (changes_between trail from (length trail) last sheet)
     → text ≡ delta_between trail from (length trail) last sheet form
-delta_given trail last sheet form text from publication moment is told text_is =
+delta_given trail last sheet form wide text from publication moment is told width text_is =
     let first : publication ≡ length trail = ap (λ (o : Option (ℕ × ℤ)). (unwrap_or {T = ℕ × ℤ} o (publication, moment)).0) (told ∙ ap (option_map (λ (p : Publication). (length trail, p.moment))) is) in
     let second : moment ≡ last.moment = ap (λ (o : Option (ℕ × ℤ)). (unwrap_or {T = ℕ × ℤ} o (publication, moment)).1) (told ∙ ap (option_map (λ (p : Publication). (length trail, p.moment))) is) in
     text_is
-    ∙ ap (λ n. delta sheet form (record { moment = moment; publication = n; from = from }) (changes_between trail from (length trail) last sheet)) first
-    ∙ ap (λ m. delta sheet form (record { moment = m; publication = length trail; from = from }) (changes_between trail from (length trail) last sheet)) second
+    ∙ ap (λ w. delta sheet form w (record { moment = moment; publication = publication; from = from }) (changes_between trail from (length trail) last sheet)) width
+    ∙ ap (λ n. delta sheet form (is_wide_in last sheet form) (record { moment = moment; publication = n; from = from }) (changes_between trail from (length trail) last sheet)) first
+    ∙ ap (λ m. delta sheet form (is_wide_in last sheet form) (record { moment = m; publication = length trail; from = from }) (changes_between trail from (length trail) last sheet)) second

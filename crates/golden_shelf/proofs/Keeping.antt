@@ -1,6 +1,6 @@
 -- Keeping: what becomes of a trail that is kept when a publication follows.
 use Rattle.std.proofs.Common.{◌≡◌, ℤ, Bool, true, false, ◌&&◌, ◌||◌, cond, Option, None, Some, List, [], ◌∷◌, T, map, refl, sym, ap, subst, ◌∙◌}
-use Rattle.std.specs.Prelude.{IfSome, is_some, option_map, unwrap_or}
+use Rattle.std.specs.Prelude.{IfSome, IsTrue, is_some, option_map, unwrap_or}
 use Rattle.std.specs.Cmp.{tied_itself}
 use Rattle.std.specs.FinMap.{entries, entries_sorted, get, get-entries, get-from_entries, get-insert, get-remove, values}
 use Rattle.std.specs.FinMap.Entries.{below_all, find, is_sorted, same_entries}
@@ -17,12 +17,12 @@ use Rattle.lei_records.specs.Tables.{KeyTexts, key_cmp}
 use Rattle.copy_csv.specs.declared.rows.Change.{Change}
 use Rattle.register_words.specs.declared.sheets.Sheet.{Sheet}
 use Rattle.copy_csv.specs.Rows.{AreRising, AreRows, IsRowOf}
-use Rattle.copy_csv.specs.Sheets.{SheetRow, key, key_len}
+use Rattle.copy_csv.specs.Sheets.{SheetRow, fits, key, key_len}
 use Rattle.copy_csv.proofs.RowLemmas.{key_total}
 use Rattle.copy_forms.specs.Files.{rendered}
 use Rattle.copy_forms.specs.Patching.{Keyed, all_changed, changed, keyed, patched}
 use Rattle.copy_forms.specs.Trails.{IsKeyOf, IsNext, Publication, change_to, dropped_row, is_among, row_under}
-use Rattle.golden_shelf.specs.Changes.{AreOwnChanges, Changes, IsIssued, IsOwnChange, IsRowUnder, changes_of, in_sheet, touched_by}
+use Rattle.golden_shelf.specs.Changes.{AreOwnChanges, ArePlain, Changes, IsIssued, IsOwnChange, IsPlain, IsRowUnder, changes_of, in_sheet, touched_by}
 use Rattle.golden_shelf.specs.Keys.{is_of, key_texts, sheet_of}
 use Rattle.golden_shelf.specs.Lines.{LineChange, line_of, with_lines}
 use Rattle.golden_shelf.proofs.SideLemmas.{after, after_none, find_with_lines, is_changed, tied}
@@ -83,7 +83,7 @@ good_pairs sheet (c ∷ cs) own = by (good_pairs sheet cs own.1) (is_of sheet c.
 -- ---- rows after changes
 
 key_dropped : (sheet : Sheet) (k : KeyTexts) → IsKeyOf sheet k → key (dropped_row sheet k) ≡ k
-key_dropped sheet k is = take_at k _ (key_len sheet) is.wide
+key_dropped sheet k is = take_at k _ (key_len sheet) is.full
 
 changed_one : (sheet : Sheet) (m : Keyed) (p : Pair) → IsGood sheet p → (k : KeyTexts)
     → get (changed m (to_change sheet p)) k ≡ cond (eq_by_cmp key_cmp k p.0) p.1 (get m k)
@@ -252,7 +252,67 @@ new_rows sheet rows ps are good =
           ∙ sym (find_lines (values m) k));
     }
 
+-- ---- what all rows after changes are
+
+-- a row is such where those of before are, and those of the changes
+after_such : (P : SheetRow → Type 0) (ps : List Pair) (k : KeyTexts) (found : Option SheetRow)
+    → AllByRecursion (λ (p : Pair). IfSome p.1 P) ps → ((row : SheetRow) → found ≡ Some row → P row) → (row : SheetRow)
+    → after ps k found ≡ Some row → P row
+after_such P [] k found such was row e = was row e
+after_such P (p ∷ ps) k found such was row e =
+    after_such P ps k (cond (eq_by_cmp key_cmp k p.0) p.1 found) such.1 (by (eq_by_cmp key_cmp k p.0)) row e
+  where
+    by : (b : Bool) (row : SheetRow) → cond b p.1 found ≡ Some row → P row
+    by true row e = some_of P p.1 row such.0 e
+    by false row e = was row e
+
+-- a row that is found under a key is one of the rows
+found_such : (P : SheetRow → Type 0) (rows : List SheetRow) → All P rows → (k : KeyTexts) (row : SheetRow)
+    → find key_cmp k (under_keys rows) ≡ Some row → P row
+found_such P [] all k row e = absurd (false≢true (ap is_some e))
+found_such P (x ∷ rows) all k row e = by (found_such P rows (All-tail P x rows all) k row) (eq_by_cmp key_cmp k (key x)) e
+  where
+    by : (find key_cmp k (under_keys rows) ≡ Some row → P row) → (b : Bool) → cond b (Some x) (find key_cmp k (under_keys rows)) ≡ Some row → P row
+    by later true e = subst P (ap (λ r. unwrap_or r x) e) (All-head P x rows all)
+    by later false e = later e
+
+-- and all rows are such where each is that is found
+such_rows : (P : SheetRow → Type 0) (rows : List SheetRow) → AreRising (map key rows)
+    → ((k : KeyTexts) (row : SheetRow) → find key_cmp k (under_keys rows) ≡ Some row → P row) → All P rows
+such_rows P rows rising each = listed rows (each_entry (λ k row. P row) (under_keys rows) (sorted_rows rows rising) each)
+  where
+    listed : (rows : List SheetRow) → AllByRecursion (λ (e : KeyTexts × SheetRow). P e.1) (under_keys rows) → All P rows
+    listed [] all = All-nil P
+    listed (x ∷ rows) all = All-cons P x rows all.0 (listed rows all.1)
+
+stay_such : (P : SheetRow → Type 0) (sheet : Sheet) (rows : List SheetRow) (ps : List Pair) (after_all : List SheetRow)
+    → AreNewRows sheet rows ps after_all → All P rows → AllByRecursion (λ (p : Pair). IfSome p.1 P) ps → All P after_all
+stay_such P sheet rows ps after_all are old such =
+    such_rows P after_all are.rows_are.rising
+    (λ k row e. after_such P ps k (row_under rows k) such
+    (λ row e. found_such P rows old k row (sym (get-from_entries key_total (under_keys rows) k) ∙ e)) row
+    (sym (are.found k) ∙ get-from_entries key_total (under_keys after_all) k ∙ e))
+
+-- rows have nothing for the columns that only a wide file has
+abbrev pub IsPlainRow : SheetRow → Type 0
+IsPlainRow row = IsTrue (fits false row)
+
+plain_pairs : (changes : Changes) → AllByRecursion IsPlain changes
+    → AllByRecursion (λ (p : Pair). IfSome p.1 IsPlainRow) (map (λ c. (key_texts c.0, c.1)) changes)
+plain_pairs [] all = tt
+plain_pairs (c ∷ changes) all = (all.0, plain_pairs changes all.1)
+
 -- ---- the publication that follows
+
+-- a publication whose rows are such, and plain where it is narrow
+pub record Stands (publication : Publication) : Type 0 where
+  pub rows_are : (sheet : Sheet) → AreRows sheet (publication.rows sheet)
+  pub plain : publication.wide ≡ false → All IsPlainRow (publication.rows Sheet.Lei)
+
+-- what is narrow after another one shows that this was narrow
+narrow_before : (before wide : Bool) → (before ≡ true → wide ≡ true) → wide ≡ false → before ≡ false
+narrow_before true wide widens narrow = absurd (false≢true (sym narrow ∙ widens refl))
+narrow_before false wide widens narrow = refl
 
 changed_is : (k : KeyTexts) (ps : List Pair) → is_changed k ps ≡ is_among k (map (λ (p : Pair). p.0) ps)
 changed_is k [] = refl
@@ -262,21 +322,26 @@ keys_good : (sheet : Sheet) (ps : List Pair) → AllByRecursion (IsGood sheet) p
 keys_good sheet [] good = All-nil (IsKeyOf sheet)
 keys_good sheet (p ∷ ps) good = All-cons (IsKeyOf sheet) p.0 (map (λ (p : Pair). p.0) ps) good.0.key_is (keys_good sheet ps good.1)
 
-pub follows : (before : Sheet → List SheetRow) (moment : ℤ) (changes : Changes) (next : Publication) → ((sheet : Sheet) → AreRows sheet (before sheet))
-    → IsMoment moment → AreOwnChanges changes → IsIssued before moment changes next
-    → ((sheet : Sheet) → AreNewRows sheet (before sheet) (pairs_of sheet changes) (next.rows sheet)) × IsNext before next
-follows before moment changes next are is own issued =
-    let news : (sheet : Sheet) → AreNewRows sheet (before sheet) (pairs_of sheet changes) (next.rows sheet) = λ sheet.
-    subst (AreNewRows sheet (before sheet) (pairs_of sheet changes))
-    (sym (issued.rows_are sheet ∙ ap (patched (before sheet)) (changes_pairs sheet changes)))
-    (new_rows sheet (before sheet) (pairs_of sheet changes) (are sheet) (good_pairs sheet changes own.each)) in (
+pub follows : (before : Publication) (moment : ℤ) (wide : Bool) (changes : Changes) (next : Publication) → Stands before
+    → IsMoment moment → AreOwnChanges changes → (before.wide ≡ true → wide ≡ true) → (wide ≡ false → ArePlain changes)
+    → IsIssued before.rows moment wide changes next
+    → ((sheet : Sheet) → AreNewRows sheet (before.rows sheet) (pairs_of sheet changes) (next.rows sheet)) × IsNext before next
+follows before moment wide changes next stands is own widens plain issued =
+    let news : (sheet : Sheet) → AreNewRows sheet (before.rows sheet) (pairs_of sheet changes) (next.rows sheet) = λ sheet.
+    subst (AreNewRows sheet (before.rows sheet) (pairs_of sheet changes))
+    (sym (issued.rows_are sheet ∙ ap (patched (before.rows sheet)) (changes_pairs sheet changes)))
+    (new_rows sheet (before.rows sheet) (pairs_of sheet changes) (stands.rows_are sheet) (good_pairs sheet changes own.each)) in (
       news,
       record {
         moment_is = subst IsMoment (sym issued.moment_is) is;
         rows_are = λ sheet. (news sheet).rows_are;
         keys_are = λ sheet. subst (All (IsKeyOf sheet)) (sym (issued.touched_are sheet ∙ touched_pairs sheet changes))
             (keys_good sheet (pairs_of sheet changes) (good_pairs sheet changes own.each));
-        kept = λ sheet k un. (news sheet).found k ∙ after_none (pairs_of sheet changes) k (row_under (before sheet) k)
+        kept = λ sheet k un. (news sheet).found k ∙ after_none (pairs_of sheet changes) k (row_under (before.rows sheet) k)
             (changed_is k (pairs_of sheet changes) ∙ ap (is_among k) (sym (issued.touched_are sheet ∙ touched_pairs sheet changes)) ∙ un);
+        widens = λ before_wide. issued.wide_is ∙ widens before_wide;
+        plain = λ next_narrow. let narrow : wide ≡ false = sym issued.wide_is ∙ next_narrow in
+            stay_such IsPlainRow Sheet.Lei (before.rows Sheet.Lei) (pairs_of Sheet.Lei changes) (next.rows Sheet.Lei) (news Sheet.Lei)
+            (stands.plain (narrow_before before.wide wide widens narrow)) (plain_pairs (in_sheet Sheet.Lei changes) (plain narrow));
       },
     )

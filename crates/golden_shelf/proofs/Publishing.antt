@@ -1,6 +1,6 @@
 -- Publishing: a trail with one more publication is kept.
-use Rattle.std.proofs.Common.{◌≡◌, ℕ, suc, ◌-◌, ℤ, Bool, true, false, cond, Option, None, Some, List, [], ◌∷◌, ◌++◌, length, map, refl, sym, ap, subst, ◌∙◌, arith, Bor}
-use Rattle.std.specs.Prelude.{Err, IfOk, Ok, Result, is_some, option_map, unwrap_or}
+use Rattle.std.proofs.Common.{◌≡◌, ℕ, suc, ◌-◌, ℤ, Bool, true, false, ◌&&◌, cond, Option, None, Some, List, [], ◌∷◌, ◌++◌, length, map, refl, sym, ap, subst, ◌∙◌, arith, Bor}
+use Rattle.std.specs.Prelude.{Err, IfOk, IfSome, Ok, Result, is_some, option_map, unwrap_or}
 use Rattle.std.specs.FinMap.Entries.{below_all, is_sorted}
 use Rattle.std.specs.Fn.{FnReturnsAt, Shared}
 use Rattle.std.specs.List.{AllByRecursion, AllZip, filter, slice_get}
@@ -18,18 +18,18 @@ use Rattle.copy_csv.specs.Rows.{AreRising, AreRows, IsRowOf}
 use Rattle.copy_csv.specs.Sheets.{SheetRow}
 use Rattle.register_words.specs.declared.sheets.Form.{Form}
 use Rattle.lei_code.specs.Texts.{Text}
-use Rattle.copy_forms.specs.Files.{copy, rendered}
-use Rattle.copy_forms.specs.Trails.{FollowOn, IsNext, IsSound, Publication, Trail, copy_of, no_rows}
+use Rattle.copy_forms.specs.Files.{copy, may_be_wide, rendered}
+use Rattle.copy_forms.specs.Trails.{FollowOn, IsNext, IsSound, Publication, Trail, copy_of, is_wide_in, nothing_published}
 use Rattle.golden_shelf.specs.declared.issue.Issue.{Issue}
 use Rattle.golden_shelf.specs.declared.lines.Note.{Note}
 use Rattle.golden_shelf.specs.declared.sides.Sides.{Sides}
-use Rattle.golden_shelf.specs.Changes.{AreOwnChanges, Changes, IsIssued, in_sheet, touched_by}
+use Rattle.golden_shelf.specs.Changes.{AreOwnChanges, ArePlain, Changes, IsIssued, in_sheet, touched_by}
 use Rattle.golden_shelf.specs.Keys.{is_of, key_texts}
 use Rattle.golden_shelf.specs.Lines.{Line, line_of, with_lines}
 use Rattle.golden_shelf.specs.Parts.{kept_of, side_of}
-use Rattle.golden_shelf.specs.Shelves.{AreIssuesOf, IsIssueOf, Keeps, Kept, last_behind, latest, latest_rows, lines_of, rows_in}
+use Rattle.golden_shelf.specs.Shelves.{AreIssuesOf, IsIssueOf, Keeps, Kept, MayFollow, last_behind, latest, latest_or_nothing, latest_rows, lines_of}
 use Rattle.golden_shelf.specs.Sides.{AreRisingChanges, IsChanged, IsNoteOf, IsSame, SideState, notes_of}
-use Rattle.golden_shelf.proofs.Keeping.{Pair, follows, joined, pairs_of, rising_rows, to_line, touched_pairs}
+use Rattle.golden_shelf.proofs.Keeping.{IsPlainRow, Pair, Stands, follows, joined, pairs_of, rising_rows, to_line, touched_pairs}
 
 -- ---- the latest publication
 
@@ -41,34 +41,33 @@ pub latest_push : (trail : Trail) (next : Publication) → latest (trail ++ next
 latest_push [] next = refl
 latest_push (first ∷ later) next = ap Some (last_pushed first later next)
 
--- the rows of the last publication, or those of before
-abbrev pub last_rows : (Sheet → List SheetRow) → Trail → Sheet → List SheetRow
-last_rows before [] = before
-last_rows before (next ∷ later) = last_rows next.rows later
-
-last_is : (first : Publication) (later : Trail) → last_rows first.rows later ≡ (last_behind first later).rows
-last_is first [] = refl
-last_is first (p ∷ later) = last_is p later
-
-latest_is : (trail : Trail) → last_rows no_rows trail ≡ latest_rows trail
+-- it is the last behind what stands before the first
+latest_is : (trail : Trail) → last_behind nothing_published trail ≡ latest_or_nothing trail
 latest_is [] = refl
-latest_is (first ∷ later) = last_is first later
+latest_is (first ∷ later) = refl
 
-follow_push : (before : Sheet → List SheetRow) (trail : Trail) (next : Publication) → FollowOn before trail
-    → IsNext (last_rows before trail) next → FollowOn before (trail ++ next ∷ [])
+follow_push : (before : Publication) (trail : Trail) (next : Publication) → FollowOn before trail
+    → IsNext (last_behind before trail) next → FollowOn before (trail ++ next ∷ [])
 follow_push before [] next on is = (is, tt)
-follow_push before (p ∷ later) next on is = (on.0, follow_push p.rows later next on.1 is)
+follow_push before (p ∷ later) next on is = (on.0, follow_push p later next on.1 is)
 
-rows_sound : (before : Sheet → List SheetRow) (trail : Trail) → ((sheet : Sheet) → AreRows sheet (before sheet)) → FollowOn before trail
-    → (sheet : Sheet) → AreRows sheet (last_rows before trail sheet)
-rows_sound before [] are on = are
-rows_sound before (p ∷ later) are on = rows_sound p.rows later on.0.rows_are on.1
+last_stands : (before : Publication) (trail : Trail) → Stands before → FollowOn before trail → Stands (last_behind before trail)
+last_stands before [] stands on = stands
+last_stands before (p ∷ later) stands on = last_stands p later (record { rows_are = on.0.rows_are; plain = on.0.plain }) on.1
 
--- the latest rows of a sound trail
+-- the latest publication of a sound trail, and what stands before its first
+latest_stands : (trail : Trail) → IsSound trail → Stands (latest_or_nothing trail)
+latest_stands trail sound =
+    subst Stands (latest_is trail)
+    (last_stands nothing_published trail
+    (record {
+      rows_are = λ sheet. record { each = All-nil (IsRowOf sheet); rising = rising_rows [] refl };
+      plain = λ narrow. All-nil IsPlainRow;
+    })
+    sound)
+
 pub latest_sound : (trail : Trail) → IsSound trail → (sheet : Sheet) → AreRows sheet (latest_rows trail sheet)
-latest_sound trail sound sheet =
-    subst (λ rows. AreRows sheet (rows sheet)) (latest_is trail)
-    (rows_sound no_rows trail (λ sheet. record { each = All-nil (IsRowOf sheet); rising = rising_rows [] refl }) sound sheet)
+latest_sound trail sound sheet = let stands = latest_stands trail sound in stands.rows_are sheet
 
 -- ---- issues
 
@@ -85,18 +84,51 @@ length_issues [] (p ∷ trail) are = absurd are
 length_issues (i ∷ issues) [] are = absurd are
 length_issues (i ∷ issues) (p ∷ trail) are = ap suc (length_issues issues trail are.1)
 
--- the moment of the last issue is that of the latest publication
+-- what the last issue has of the latest publication
+latest_of : {X : Type 0} (f : Issue → X) (g : Publication → X) → ((issue : Issue) (p : Publication) → IsIssueOf issue p → f issue ≡ g p)
+    → (issues : List Issue) (trail : Trail) → AreIssuesOf issues trail
+    → option_map f (slice_get issues (length issues - 1)) ≡ option_map g (latest trail)
+latest_of f g same [] [] are = refl
+latest_of f g same [] (p ∷ trail) are = absurd are
+latest_of f g same (i ∷ issues) [] are = absurd are
+latest_of f g same (i ∷ []) (p ∷ []) are = ap Some (same i p are.0)
+latest_of f g same (i ∷ []) (p ∷ q ∷ trail) are = absurd are.1
+latest_of f g same (i ∷ j ∷ issues) (p ∷ []) are = absurd are.1
+latest_of f g same (i ∷ j ∷ issues) (p ∷ q ∷ trail) are =
+    let e : length (i ∷ j ∷ issues) - 1 ≡ suc (length (j ∷ issues) - 1) = omega arith in
+    ap (λ n. option_map f (slice_get (i ∷ j ∷ issues) n)) e ∙ latest_of f g same (j ∷ issues) (q ∷ trail) are.1
+
 latest_moment : (issues : List Issue) (trail : Trail) → AreIssuesOf issues trail
     → option_map (λ (i : Issue). i.moment) (slice_get issues (length issues - 1)) ≡ option_map (λ (p : Publication). p.moment) (latest trail)
-latest_moment [] [] are = refl
-latest_moment [] (p ∷ trail) are = absurd are
-latest_moment (i ∷ issues) [] are = absurd are
-latest_moment (i ∷ []) (p ∷ []) are = ap Some are.0.moment_is
-latest_moment (i ∷ []) (p ∷ q ∷ trail) are = absurd are.1
-latest_moment (i ∷ j ∷ issues) (p ∷ []) are = absurd are.1
-latest_moment (i ∷ j ∷ issues) (p ∷ q ∷ trail) are =
-    let e : length (i ∷ j ∷ issues) - 1 ≡ suc (length (j ∷ issues) - 1) = omega arith in
-    ap (λ n. option_map (λ (i : Issue). i.moment) (slice_get (i ∷ j ∷ issues) n)) e ∙ latest_moment (j ∷ issues) (q ∷ trail) are.1
+latest_moment = latest_of (λ i. i.moment) (λ p. p.moment) (λ i p is. is.moment_is)
+
+latest_width : (issues : List Issue) (trail : Trail) → AreIssuesOf issues trail
+    → option_map (λ (i : Issue). i.wide) (slice_get issues (length issues - 1)) ≡ option_map (λ (p : Publication). p.wide) (latest trail)
+latest_width = latest_of (λ i. i.wide) (λ p. p.wide) (λ i p is. is.wide_is)
+
+-- so what may follow the issues may follow the publications
+may_widen : (issues : List Issue) (trail : Trail) (wide : Bool) → AreIssuesOf issues trail → MayFollow issues wide
+    → (latest_or_nothing trail).wide ≡ true → wide ≡ true
+may_widen issues trail wide are may =
+    by (slice_get issues (length issues - 1)) (latest trail) (latest_width issues trail are) may
+  where
+    by : (i : Option Issue) (p : Option Publication) → option_map (λ (i : Issue). i.wide) i ≡ option_map (λ (p : Publication). p.wide) p
+        → IfSome i (λ i. i.wide ≡ true → wide ≡ true) → (unwrap_or p nothing_published).wide ≡ true → wide ≡ true
+    by i None e may is = absurd (false≢true is)
+    by None (Some p) e may is = absurd (false≢true (ap is_some e))
+    by (Some i) (Some p) e may is = may (ap (λ o. unwrap_or o i.wide) e ∙ is)
+
+-- and the other way round
+pub may_follow : (trail : Trail) (kept : Kept) (wide : Bool) → Keeps trail kept → ((latest_or_nothing trail).wide ≡ true → wide ≡ true)
+    → MayFollow kept.issues wide
+may_follow trail kept wide keeps may =
+    by (slice_get kept.issues (length kept.issues - 1)) (latest trail) (latest_width kept.issues trail keeps.issues_are) may
+  where
+    by : (i : Option Issue) (p : Option Publication) → option_map (λ (i : Issue). i.wide) i ≡ option_map (λ (p : Publication). p.wide) p
+        → ((unwrap_or p nothing_published).wide ≡ true → wide ≡ true) → IfSome i (λ i. i.wide ≡ true → wide ≡ true)
+    by None p e may = tt
+    by (Some i) None e may = absurd (false≢true (sym (ap is_some e)))
+    by (Some i) (Some p) e may = λ is. may (sym (ap (λ o. unwrap_or o i.wide) e) ∙ is)
 
 pub latest_told : (issues : List Issue) (trail : Trail) (n : ℕ) (issue : Issue) → AreIssuesOf issues trail → n ≡ length trail
     → Some issue ≡ slice_get issues (length issues - 1)
@@ -163,21 +195,24 @@ noted_rising sheet changes notes items are own is =
 -- ---- the trail that follows
 
 pub keeps_next : (trail : Trail) (kept new : Kept) (changes : Changes) (issue : Issue) (next : Publication) → AreOwnChanges changes
+    → MayFollow kept.issues issue.wide → (issue.wide ≡ false → ArePlain changes)
     → IsMoment issue.moment → new.issues ≡ kept.issues ++ issue ∷ [] → issue.keys ≡ map (λ c. c.0) changes
     → ((sheet : Sheet) → lines_of new sheet ≡ with_lines (lines_of kept sheet) (map to_line (pairs_of sheet changes)))
-    → Keeps trail kept → IsIssued (latest_rows trail) issue.moment changes next → Keeps (trail ++ next ∷ []) new
-keeps_next trail kept new changes issue next own is issues keys lines keeps issued =
-    let step = follows (latest_rows trail) issue.moment changes next (latest_sound trail keeps.sound) is own issued in
+    → Keeps trail kept → IsIssued (latest_rows trail) issue.moment issue.wide changes next → Keeps (trail ++ next ∷ []) new
+keeps_next trail kept new changes issue next own may plain is issues keys lines keeps issued =
+    let step = follows (latest_or_nothing trail) issue.moment issue.wide changes next (latest_stands trail keeps.sound) is own
+    (may_widen kept.issues trail issue.wide keeps.issues_are may) plain issued in
     record {
-      sound = follow_push no_rows trail next keeps.sound (subst (λ rows. IsNext rows next) (sym (latest_is trail)) step.1);
+      sound = follow_push nothing_published trail next keeps.sound (subst (λ before. IsNext before next) (sym (latest_is trail)) step.1);
       issues_are = subst (λ l. AreIssuesOf l (trail ++ next ∷ [])) (sym issues)
           (issues_push kept.issues trail issue next keeps.issues_are
           (record {
             moment_is = sym issued.moment_is;
+            wide_is = sym issued.wide_is;
             touched_are = λ sheet. issued.touched_are sheet ∙ touched_keys sheet changes ∙ ap (λ l. map key_texts (filter (is_of sheet) l)) (sym keys);
           }));
       lines_are = λ sheet. lines sheet ∙ ap (λ l. with_lines l (map to_line (pairs_of sheet changes))) (keeps.lines_are sheet)
-          ∙ (step.0 sheet).lines_are ∙ ap (λ o. map line_of (rows_in o sheet)) (sym (latest_push trail next));
+          ∙ (step.0 sheet).lines_are ∙ ap (λ o. map line_of ((unwrap_or o nothing_published).rows sheet)) (sym (latest_push trail next));
     }
 
 -- ---- what is read of a shelf
@@ -196,17 +231,36 @@ pub rows_kept : (issues : List Issue) (sides : Sides) (now : Kept) (trail : Trai
     → texts ≡ map rendered (last.rows sheet)
 rows_kept issues sides now trail last sheet texts view keeps is are =
     are ∙ ap (map (λ (line : Line). line.1)) (kept_lines issues sides sheet ∙ ap (λ k. lines_of k sheet) view ∙ keeps.lines_are sheet)
-    ∙ texts_of_rows (latest_rows trail sheet) ∙ ap (λ o. map rendered (rows_in o sheet)) is
+    ∙ texts_of_rows (latest_rows trail sheet) ∙ ap (λ o. map rendered ((unwrap_or o nothing_published).rows sheet)) is
 
-pub copied : (trail : Trail) (last : Publication) (sheet : Sheet) (form : Form) (text : Text) (publication : ℕ) (moment : ℤ) → latest trail ≡ Some last
+-- the files of the latest publication are wide where those of its issue are
+pub wide_told : (issues : List Issue) (now : List Issue) (trail : Trail) (last : Publication) (sheet : Sheet) (form : Form) (issue : Issue)
+    → issues ≡ now → AreIssuesOf now trail → latest trail ≡ Some last → Some issue ≡ slice_get issues (length issues - 1)
+    → (issue.wide && may_be_wide sheet form) ≡ is_wide_in last sheet form
+wide_told issues now trail last sheet form issue same are is at =
+    ap (λ o. unwrap_or o issue.wide && may_be_wide sheet form)
+    (ap (option_map (λ (i : Issue). i.wide)) (at ∙ ap (λ l. slice_get l (length l - 1)) same) ∙ latest_width now trail are
+    ∙ ap (option_map (λ (p : Publication). p.wide)) is)
+
+-- without an issue there is no publication
+pub none_told : (issues now : List Issue) (trail : Trail) (last : Publication) → issues ≡ now → AreIssuesOf now trail → latest trail ≡ Some last
+    → None ≡ slice_get issues (length issues - 1) → ⊥
+none_told issues now trail last same are is at =
+    false≢true (ap is_some (ap (option_map (λ (i : Issue). i.wide)) (at ∙ ap (λ l. slice_get l (length l - 1)) same) ∙ latest_width now trail are
+    ∙ ap (option_map (λ (p : Publication). p.wide)) is))
+
+pub copied : (trail : Trail) (last : Publication) (sheet : Sheet) (form : Form) (wide : Bool) (text : Text) (publication : ℕ) (moment : ℤ)
+    → latest trail ≡ Some last
     → ◌≡◌ {A = Option (ℕ × ℤ)} (Some (publication, moment)) (option_map (λ (p : Publication). (length trail, p.moment)) (latest trail))
-    → text ≡ copy sheet form (record { moment = moment; publication = publication; from = 0 }) (last.rows sheet)
+    → wide ≡ is_wide_in last sheet form
+    → text ≡ copy sheet form wide (record { moment = moment; publication = publication; from = 0 }) (last.rows sheet)
     → text ≡ copy_of (length trail) last sheet form
-copied trail last sheet form text publication moment is told text_is =
+copied trail last sheet form wide text publication moment is told width text_is =
     let first : publication ≡ length trail = ap (λ (o : Option (ℕ × ℤ)). (unwrap_or {T = ℕ × ℤ} o (publication, moment)).0) (told ∙ ap (option_map (λ (p : Publication). (length trail, p.moment))) is) in
     let second : moment ≡ last.moment = ap (λ (o : Option (ℕ × ℤ)). (unwrap_or {T = ℕ × ℤ} o (publication, moment)).1) (told ∙ ap (option_map (λ (p : Publication). (length trail, p.moment))) is) in
-    text_is ∙ ap (λ n. copy sheet form (record { moment = moment; publication = n; from = 0 }) (last.rows sheet)) first
-    ∙ ap (λ m. copy sheet form (record { moment = m; publication = length trail; from = 0 }) (last.rows sheet)) second
+    text_is ∙ ap (λ w. copy sheet form w (record { moment = moment; publication = publication; from = 0 }) (last.rows sheet)) width
+    ∙ ap (λ n. copy sheet form (is_wide_in last sheet form) (record { moment = moment; publication = n; from = 0 }) (last.rows sheet)) first
+    ∙ ap (λ m. copy sheet form (is_wide_in last sheet form) (record { moment = m; publication = length trail; from = 0 }) (last.rows sheet)) second
 
 -- ---- what is rendered
 

@@ -1,12 +1,12 @@
 -- What a publication changes, and what comes of it.
-use Rattle.std.specs.Prelude.{◌≡◌, ℤ, List, Option, IfSome, map}
+use Rattle.std.specs.Prelude.{◌≡◌, ℤ, Bool, false, List, Option, IfSome, IsTrue, map}
 use Rattle.std.specs.List.{AllByRecursion, filter}
 use Rattle.lei_records.specs.declared.view.RowKey.{RowKey}
 use Rattle.lei_records.specs.Tables.{KeyTexts}
 use Rattle.copy_csv.specs.declared.rows.Change.{Change}
 use Rattle.register_words.specs.declared.sheets.Sheet.{Sheet}
 use Rattle.copy_csv.specs.Rows.{AreRising, IsRowOf}
-use Rattle.copy_csv.specs.Sheets.{SheetRow, key}
+use Rattle.copy_csv.specs.Sheets.{SheetRow, fits, key}
 use Rattle.copy_forms.specs.Patching.{patched}
 use Rattle.copy_forms.specs.Trails.{IsKeyOf, Publication, change_to}
 use Rattle.golden_shelf.specs.Keys.{is_of, key_texts, sheet_of}
@@ -43,10 +43,19 @@ pub record AreOwnChanges (changes : Changes) : Type 0 where
   pub each : AllByRecursion IsOwnChange changes
   pub rising : (sheet : Sheet) → AreRising (touched_by sheet changes)
 
--- The publication that follows rows by these changes: it has the moment, the rows of each sheet patched by the changes
--- of this sheet, and the keys that changed.
-pub record IsIssued (before : Sheet → List SheetRow) (moment : ℤ) (changes : Changes)
+-- The row of a change, if it has one, has nothing for the columns that only a wide file has.
+abbrev pub IsPlain : RowKey × Option SheetRow → Type 0
+IsPlain change = IfSome change.1 (λ row. IsTrue (fits false row))
+
+-- Each change of `lei` is so. A narrow publication has no others.
+abbrev pub ArePlain : Changes → Type 0
+ArePlain changes = AllByRecursion IsPlain (in_sheet Sheet.Lei changes)
+
+-- The publication that follows rows by these changes: it has the moment and the width, the rows of each sheet patched
+-- by the changes of this sheet, and the keys that changed.
+pub record IsIssued (before : Sheet → List SheetRow) (moment : ℤ) (wide : Bool) (changes : Changes)
     (next : Publication) : Type 0 where
   pub moment_is : next.moment ≡ moment
+  pub wide_is : next.wide ≡ wide
   pub rows_are : (sheet : Sheet) → next.rows sheet ≡ patched (before sheet) (changes_of sheet changes)
   pub touched_are : (sheet : Sheet) → next.touched sheet ≡ touched_by sheet changes

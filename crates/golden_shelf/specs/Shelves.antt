@@ -1,9 +1,9 @@
 -- Shelves: what is kept of a trail of publications.
-use Rattle.std.specs.Prelude.{◌≡◌, List, [], ◌∷◌, Option, Some, None, map, ⊤}
-use Rattle.std.specs.List.{filter}
+use Rattle.std.specs.Prelude.{◌≡◌, ◌-◌, Bool, true, List, [], ◌∷◌, length, Option, Some, None, IfSome, map, unwrap_or, ⊤}
+use Rattle.std.specs.List.{filter, slice_get}
 use Rattle.register_words.specs.declared.sheets.Sheet.{Sheet}
 use Rattle.copy_csv.specs.Sheets.{SheetRow}
-use Rattle.copy_forms.specs.Trails.{IsSound, Publication, Trail, no_rows}
+use Rattle.copy_forms.specs.Trails.{IsSound, Publication, Trail, nothing_published}
 use Rattle.golden_shelf.specs.declared.issue.Issue.{Issue}
 use Rattle.golden_shelf.specs.Keys.{is_of, key_texts}
 use Rattle.golden_shelf.specs.Lines.{Line, line_of}
@@ -20,19 +20,18 @@ abbrev pub latest : Trail → Option Publication
 latest [] = None
 latest (first ∷ later) = Some (last_behind first later)
 
--- The rows of a publication, and no rows without one.
-abbrev pub rows_in : Option Publication → Sheet → List SheetRow
-rows_in None = no_rows
-rows_in (Some publication) = publication.rows
+-- The latest publication of a trail; without one, what stands before the first.
+abbrev pub latest_or_nothing : Trail → Publication
+latest_or_nothing trail = unwrap_or (latest trail) nothing_published
 
--- The rows of the latest publication, by sheet.
+-- Its rows, by sheet.
 abbrev pub latest_rows : Trail → Sheet → List SheetRow
-latest_rows trail = rows_in (latest trail)
+latest_rows trail = (latest_or_nothing trail).rows
 
 -- ---- what is kept
 
--- What is kept: of each publication its moment and the keys that changed, and of the latest one the texts of its rows
--- under their keys.
+-- What is kept: of each publication its moment, its width and the keys that changed, and of the latest one the texts of
+-- its rows under their keys.
 pub record Kept : Type 0 where
   pub issues : List Issue
   pub lei : List Line
@@ -55,11 +54,17 @@ pub record ShelfState : Type 0 where
   pub now : Kept
   pub before : Option Kept
 
+-- A publication of this width may follow those of which this is kept: after a wide one comes no narrow one.
+abbrev pub MayFollow : List Issue → Bool → Type 0
+MayFollow issues wide =
+    IfSome (slice_get issues (length issues - 1)) (λ issue. issue.wide ≡ true → wide ≡ true)
+
 -- ---- shelves of trails
 
 -- This is kept of a publication.
 pub record IsIssueOf (issue : Issue) (publication : Publication) : Type 0 where
   pub moment_is : issue.moment ≡ publication.moment
+  pub wide_is : issue.wide ≡ publication.wide
   pub touched_are : (sheet : Sheet)
       → publication.touched sheet ≡ map key_texts (filter (is_of sheet) issue.keys)
 

@@ -1,16 +1,16 @@
 //! The shelf.
-ghost use Rattle.std.specs.Prelude.{◌≡◌, ◌+◌, ◌<◌, ◌≤◌, ◌++◌, ◌∷◌, ◌↔◌, ◌⊎◌, [], ℕ, None, Some, Ok, Err, List as Items, MatchResult, drop, map, IfErr, IfOk, IsErrOf, IsSome, OnErr, OnOk, length, option_map};
+ghost use Rattle.std.specs.Prelude.{◌≡◌, ◌+◌, ◌<◌, ◌≤◌, ◌++◌, ◌∷◌, ◌↔◌, ◌⊎◌, ◌&&◌, [], ℕ, false, None, Some, Ok, Err, List as Items, MatchResult, drop, map, IfErr, IfOk, IsErrOf, IsSome, OnErr, OnOk, length, option_map};
 ghost use Rattle.std.specs.List.{All};
 ghost use Rattle.register_words.specs.declared.sheets.Sheet.{Sheet as DeclaredSheet};
 ghost use Rattle.copy_csv.specs.declared.rows.Change.{Change};
 ghost use Rattle.copy_csv.specs.Rows.{IsChangeOf};
-ghost use Rattle.copy_forms.specs.Files.{delta, rendered_change};
-ghost use Rattle.copy_forms.specs.Trails.{Publication, Trail, copy_of, delta_between, in_order};
+ghost use Rattle.copy_forms.specs.Files.{delta, may_be_wide, rendered_change};
+ghost use Rattle.copy_forms.specs.Trails.{Publication, Trail, copy_of, delta_between, in_order, is_wide_in};
 ghost use Rattle.golden_shelf.specs.declared.fault.ShelfFault.{ShelfFault as DeclaredFault};
 ghost use Rattle.golden_shelf.specs.Bases.{base_in, moments_in, moments_of};
-ghost use Rattle.golden_shelf.specs.Changes.{AreOwnChanges, IsIssued};
+ghost use Rattle.golden_shelf.specs.Changes.{AreOwnChanges, ArePlain, IsIssued};
 ghost use Rattle.golden_shelf.specs.Deltas.{changed_in, shown_in};
-ghost use Rattle.golden_shelf.specs.Shelves.{Keeps, latest, latest_rows, lines_of, nothing_kept};
+ghost use Rattle.golden_shelf.specs.Shelves.{Keeps, MayFollow, latest, latest_rows, lines_of, nothing_kept};
 
 use crate::bases::base_number;
 use crate::deltas::changes_of;
@@ -74,20 +74,25 @@ impl Shelf {
     }
 
     /// Publishes the rows of the latest publication with these changes: of each key its row now, or none where the key
-    /// has no row any more. Each change is a step, and no other row is rendered. The condition is that keys are those
-    /// of their rows and rise within each sheet, and that there were fewer than 1,000,000 publications. Where memory is
-    /// wanting, all stays as it was, also what can be taken back.
+    /// has no row any more. Each change is a step, and no other row is rendered, also where this publication is the
+    /// first wide one. The condition is that keys are those of their rows and rise within each sheet, that there were
+    /// fewer than 1,000,000 publications, and that the width may follow: after a wide publication come only wide ones,
+    /// and a narrow one has nothing for the columns that only wide files have. Where memory is wanting, all stays as it
+    /// was, also what can be taken back.
     pub fn publish<L: Ledger, R: Threads + Sync>(
         &mut self,
         rt: &R,
         moment: Moment,
+        wide: bool,
         changes: &[(RowKey, Option<Row>)],
         steps: &mut Steps<L>,
     ) -> Result<(), NoMemory>
         requires changes { AreOwnChanges changes.now }
         requires few { length self.old.now.issues < 1_000_000 }
+        requires follows { MayFollow self.old.now.issues wide }
+        requires plain { wide ≡ false → ArePlain changes.now }
         ensures next { OnOk result ((trail : Trail) (next : Publication) → Keeps trail self.old.now
-            → IsIssued (latest_rows trail) moment changes.now next
+            → IsIssued (latest_rows trail) moment wide changes.now next
             → Keeps (trail ++ next ∷ []) self.new.now) }
         ensures before { OnOk result (self.new.before ≡ Some self.old.now) }
         ensures count { OnOk result (length self.new.now.issues ≡ length self.old.now.issues + 1) }
@@ -104,7 +109,7 @@ impl Shelf {
         self.issues.reserve(1)?;
         self.sides.make_room(&parts)?;
         self.sides.put(parts);
-        self.issues.push_reserved(Issue { moment, keys });
+        self.issues.push_reserved(Issue { moment, wide, keys });
         self.undoable = true;
         Ok(())
     }
@@ -120,7 +125,7 @@ impl Shelf {
         self.undoable = false;
     }
 
-    /// The copy of a sheet in the latest publication, joined of texts that are kept.
+    /// The copy of a sheet in the latest publication, in its width, joined of texts that are kept.
     pub fn copy(&self, sheet: Sheet, form: Form) -> Result<Bytes, ShelfFault>
         ensures nothing { IsErrOf result DeclaredFault.NothingPublished ↔ (self.now.now.issues ≡ []) }
         ensures copy { IfOk result (λ bytes. (trail : Trail) (last : Publication) → Keeps trail self.now.now
@@ -136,14 +141,23 @@ impl Shelf {
             publication: latest.0,
             from: 0,
         };
-        match copy_text(self.alloc, sheet, form, &head, self.sides.texts(sheet)) {
+        let wide = self.is_wide(sheet, form);
+        match copy_text(
+            self.alloc,
+            sheet,
+            form,
+            wide,
+            &head,
+            self.sides.texts(sheet),
+        ) {
             Ok(text) => Ok(text),
             Err(NoMemory) => Err(ShelfFault::NoMemory),
         }
     }
 
-    /// The delta of a sheet to the latest publication from the one that a base names, joined of texts that are kept. It
-    /// costs the keys that changed since then, their order, and what it gives. A refusal takes no memory.
+    /// The delta of a sheet to the latest publication, in its width, from the one that a base names, joined of texts
+    /// that are kept. It costs the keys that changed since then, their order, and what it gives. A refusal takes no
+    /// memory.
     pub fn delta(&self, base: Base, sheet: Sheet, form: Form) -> Result<Bytes, ShelfFault>
         ensures refused { (trail : Trail) (fault : DeclaredFault) → Keeps trail self.now.now
             → base_in (moments_of trail) base ≡ Err fault → result ≡ Err fault }
@@ -177,25 +191,43 @@ impl Shelf {
             publication: newest.0,
             from,
         };
-        match self.delta_behind(sheet, form, &head) {
+        let wide = self.is_wide(sheet, form);
+        match self.delta_behind(sheet, form, wide, &head) {
             Ok(text) => Ok(text),
             Err(NoMemory) => Err(ShelfFault::NoMemory),
         }
     }
 
-    // What is joined of the keys that changed behind the publication that a head has the delta go from.
-    fn delta_behind(&self, sheet: Sheet, form: Form, head: &Head) -> Result<Bytes, NoMemory>
+    // What is joined, in this width, of the keys that changed behind the publication that a head has the delta go from.
+    fn delta_behind(
+        &self,
+        sheet: Sheet,
+        form: Form,
+        wide: bool,
+        head: &Head,
+    ) -> Result<Bytes, NoMemory>
         requires { head.now.from ≤ length self.now.now.issues }
         ensures { IfOk result (λ bytes. (changes : Items Change) → All (IsChangeOf sheet) changes
             → map (shown_in sheet (lines_of self.now.now sheet))
             (in_order (changed_in sheet (drop head.now.from self.now.now.issues)))
-            ≡ map rendered_change changes → bytes ≡ delta sheet form head.now changes) }
+            ≡ map rendered_change changes → bytes ≡ delta sheet form wide head.now changes) }
     {
         let behind = &self.issues.as_slice()[head.from as usize..];
         let keys = touched(self.alloc, behind, sheet)?;
         let side = self.sides.of(sheet);
         let changes = changes_of(self.alloc, sheet, side, keys.as_slice())?;
-        delta_text(self.alloc, sheet, form, head, changes.as_slice())
+        delta_text(self.alloc, sheet, form, wide, head, changes.as_slice())
+    }
+
+    // Whether the files of this sheet and form are wide in the latest publication.
+    fn is_wide(&self, sheet: Sheet, form: Form) -> bool
+        ensures { (trail : Trail) (last : Publication) → Keeps trail self.now.now → latest trail ≡ Some last
+            → result ≡ is_wide_in last sheet form }
+    {
+        match self.issues.as_slice().last() {
+            Some(issue) => width_in(issue.wide, sheet, form),
+            None => false,
+        }
     }
 
     /// How many rows the latest publication has: records, relationships and exceptions.
@@ -223,4 +255,11 @@ impl Shelf {
         let issue = self.issues.as_slice().last()?;
         Some((self.issues.len() as u32, issue.moment))
     }
+}
+
+// Whether the files of this sheet and form are wide in a publication of this width.
+fn width_in(wide: bool, sheet: Sheet, form: Form) -> bool
+    ensures { result ≡ (wide && may_be_wide sheet form) }
+{
+    wide && matches!((sheet, form), (Sheet::Lei, Form::Csv))
 }

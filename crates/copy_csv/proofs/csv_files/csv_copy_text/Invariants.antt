@@ -1,7 +1,8 @@
 use Rattle.std.proofs.Common.{◌≡◌, ◌++◌, take}
 use Rattle.std.specs.Prelude.{flat_map}
+use Rattle.copy_csv.specs.Csv.{joined_line}
 use Rattle.copy_csv.proofs.csv_files.csv_copy_text.Given as goal
 
 -- the lines of the rows so far stand behind the first line
 abbrev pub invariant-loop-texts : goal.invariant-loop-texts
-invariant-loop-texts l = l.out.items ≡ l.initial.out.items ++ flat_map (λ texts. texts.csv) (take l.texts-index l.rows)
+invariant-loop-texts l = l.out.items ≡ l.initial.out.items ++ flat_map (joined_line l.wide) (take l.texts-index l.rows)

@@ -6,4 +6,4 @@ use Rattle.copy_csv.proofs.csv_files.csv_delta_text.Given as goal
 -- the lines of the changes so far stand behind the first line
 abbrev pub invariant-loop-change : goal.invariant-loop-change
 invariant-loop-change l =
-    l.out.items ≡ l.initial.out.items ++ flat_map text_change_line (take l.change-index l.changes)
+    l.out.items ≡ l.initial.out.items ++ flat_map (text_change_line l.wide) (take l.change-index l.changes)

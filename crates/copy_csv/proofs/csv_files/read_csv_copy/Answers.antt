@@ -1,27 +1,25 @@
-use Rattle.std.proofs.Common.{◌≡◌, ◌++◌, sym, ap, ◌∙◌}
-use Rattle.std.specs.Prelude.{flat_map}
-use Rattle.copy_csv.specs.Csv.{row_line, line}
-use Rattle.copy_csv.specs.Rows.{IsRowOf}
-use Rattle.copy_csv.specs.Sheets.{names}
-use Rattle.copy_csv.proofs.LineLemmas.{behind-head, copy-found, copy-is, copy-read, utf8-all, utf8-row}
+use Rattle.std.proofs.Common.{Option, None, Some, Bool, ℕ, List, subst}
+use Rattle.std.specs.Borrow.{Bor}
+use Rattle.copy_csv.specs.Sheets.{names_shown}
+use Rattle.copy_csv.specs.Taking.{FindsLines, read_lines}
+use Rattle.copy_csv.proofs.FileLemmas.{copy-found, copy-none, copy-others, same-fault}
 use Rattle.copy_csv.proofs.csv_files.read_csv_copy.Goals as goal
 
-pub returns-clause-only : goal.returns-clause-only
-returns-clause-only c = λ err xs are is.
-    let head : c.deref.result.now ≡ line (names c.args.sheet) = c.deref.ensures.value ∙ c.in_ok-head.ensures in
-    c.in-None.ensures (flat_map row_line xs) (utf8-all row_line (IsRowOf c.args.sheet) (utf8-row c.args.sheet) xs are.each)
-    (is ∙ copy-is c.args.sheet xs ∙ ap (λ l. l ++ flat_map row_line xs) (sym head))
+pub returns-in_default-clause-only : goal.returns-in_default-clause-only
+returns-in_default-clause-only c = λ err wide rows is.
+    let F : Option (Bool × Bor (List ℕ)) → Type 0 = λ found. FindsLines names_shown c.args.sheet c.args.bytes.now (read_lines found) in
+    let none : F None = subst F c.in_default.is c.in_ok-wide.ensures in
+    copy-none c.args.sheet c.args.bytes.now none wide rows is
 
-pub returns-in-Some-clause-only : goal.returns-in-Some-clause-only
-returns-in-Some-clause-only c = λ err xs are is.
-    let head : c.deref.result.now ≡ line (names c.args.sheet) = c.deref.ensures.value ∙ c.in_ok-head.ensures in
-    let all : c.args.bytes.now ≡ line (names c.args.sheet) ++ c.in-Some.lines.now = c.in-Some.ensures.0 ∙ ap (λ l. l ++ c.in-Some.lines.now) head in
-    let rest : c.in-Some.lines.now ≡ flat_map row_line xs =
-    behind-head (line (names c.args.sheet)) c.args.bytes.now c.in-Some.lines.now (flat_map row_line xs) all (is ∙ copy-is c.args.sheet xs) in
-    c.read_rows.ensures.only err xs (copy-read c.args.sheet xs are c.in-Some.lines.now rest)
+pub returns-in-Ok-clause-found : goal.returns-in-Ok-clause-found
+returns-in-Ok-clause-found c =
+    let F : Option (Bool × Bor (List ℕ)) → Type 0 = λ found. FindsLines names_shown c.args.sheet c.args.bytes.now (read_lines found) in
+    let has : F (Some (c.in-Some.wide, c.in-Some.lines)) = subst F c.in-Some.is c.in_ok-wide.ensures in
+    copy-found c.args.sheet c.args.bytes.now c.in-Some.wide c.in-Some.lines.now has c.in-Ok.rows c.in-Ok.ensures.found
 
-pub returns-in-Some-clause-found : goal.returns-in-Some-clause-found
-returns-in-Some-clause-found c =
-    let head : c.deref.result.now ≡ line (names c.args.sheet) = c.deref.ensures.value ∙ c.in_ok-head.ensures in
-    let all : c.args.bytes.now ≡ line (names c.args.sheet) ++ c.in-Some.lines.now = c.in-Some.ensures.0 ∙ ap (λ l. l ++ c.in-Some.lines.now) head in
-    copy-found c.args.sheet c.args.bytes.now c.in-Some.lines.now all c.read_rows.result c.read_rows.ensures.found
+pub returns-in-Err-clause-only : goal.returns-in-Err-clause-only
+returns-in-Err-clause-only c = λ err other rows is.
+    let F : Option (Bool × Bor (List ℕ)) → Type 0 = λ found. FindsLines names_shown c.args.sheet c.args.bytes.now (read_lines found) in
+    let has : F (Some (c.in-Some.wide, c.in-Some.lines)) = subst F c.in-Some.is c.in_ok-wide.ensures in
+    copy-others c.args.sheet c.args.bytes.now c.in-Some.wide c.in-Some.lines.now has
+    (c.in-Err.ensures.only (same-fault c.in-Err.fault err)) other rows is

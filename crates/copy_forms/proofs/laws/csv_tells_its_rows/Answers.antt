@@ -1,4 +1,4 @@
-use Rattle.copy_csv.proofs.LineLemmas.{one_copy, one_delta}
+use Rattle.copy_csv.proofs.FileLemmas.{one_copy, one_delta}
 use Rattle.copy_forms.proofs.laws.csv_tells_its_rows.Goals as goal
 
 pub returns : goal.returns

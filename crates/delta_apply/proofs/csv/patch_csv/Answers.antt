@@ -1,34 +1,37 @@
-use Rattle.std.proofs.Common.{◌≡◌, ◌++◌, ℕ, List, sym, ap, subst, ◌∙◌}
-use Rattle.std.specs.Prelude.{flat_map}
-use Rattle.copy_csv.specs.Csv.{row_line, line}
-use Rattle.copy_csv.specs.Rows.{IsRowOf}
-use Rattle.copy_csv.specs.Sheets.{names}
-use Rattle.copy_csv.proofs.LineLemmas.{behind-head, copy-is, copy-read, utf8-all, utf8-row}
-use Rattle.copy_forms.proofs.CopyLemmas.{same-fault}
+use Rattle.std.proofs.Common.{◌≡◌, ℕ, Bool, List, ap, Err, None, Option, Some, false, true, rules, sym, subst}
+use Rattle.std.specs.Borrow.{Bor}
+use Rattle.copy_csv.specs.Sheets.{names_shown}
+use Rattle.copy_csv.specs.Taking.{FindsLines, HasLines, read_lines}
+use Rattle.copy_csv.proofs.FileLemmas.{copy-none, copy-others}
 use Rattle.delta_apply.specs.Walks.{IsPatchedCsv}
 use Rattle.delta_apply.proofs.Putting.{csv-patched}
 use Rattle.delta_apply.proofs.csv.patch_csv.Goals as goal
 
-pub returns-in_default-clause-only : goal.returns-in_default-clause-only
-returns-in_default-clause-only c = λ err xs are is.
-    let head : c.deref.result.now ≡ line (names c.args.sheet) = c.deref.ensures.value ∙ c.in_ok-head.ensures in
-    c.in_default.ensures (flat_map row_line xs) (utf8-all row_line (IsRowOf c.args.sheet) (utf8-row c.args.sheet) xs are.each)
-    (is ∙ copy-is c.args.sheet xs ∙ ap (λ l. l ++ flat_map row_line xs) (sym head))
+pub returns-in-Ok-None : goal.returns-in-Ok-None
+returns-in-Ok-None c =
+    let F : Option (Bool × Bor (List ℕ)) → Type 0 = λ o. FindsLines names_shown c.args.sheet c.args.copy.now (read_lines o) in
+    let none : F None = subst F c.in-Ok-None.field-0-is c.in-Ok-None.ensures in
+    copy-none c.args.sheet c.args.copy.now none
 
-pub returns-clause-only : goal.returns-clause-only
-returns-clause-only c = λ err xs are is.
-    let head : c.deref.result.now ≡ line (names c.args.sheet) = c.deref.ensures.value ∙ c.in_ok-head.ensures in
-    let all : c.args.copy.now ≡ line (names c.args.sheet) ++ c.in-Some.lines.now = c.in-Some.ensures.0 ∙ ap (λ l. l ++ c.in-Some.lines.now) head in
-    let rest : c.in-Some.lines.now ≡ flat_map row_line xs =
-    behind-head (line (names c.args.sheet)) c.args.copy.now c.in-Some.lines.now (flat_map row_line xs) all (is ∙ copy-is c.args.sheet xs) in
-    c.in-Err.ensures.only (same-fault c.in-Err.fault err) xs (copy-read c.args.sheet xs are c.in-Some.lines.now rest)
+pub returns-then-not-delta : goal.returns-then-not-delta
+returns-then-not-delta c =
+    let F : Option (Bool × Bor (List ℕ)) → Type 0 = λ o. FindsLines names_shown c.args.sheet c.args.copy.now (read_lines o) in
+    let has : F (Some c.in-Ok-Some.found) = subst F c.in-Ok-Some.field-0-is c.in-Ok-Some.ensures in
+    let narrow : c.args.delta.now.wide ≡ false = search rules in
+    let H : Bool → Type 0 = λ wide. HasLines names_shown c.args.sheet c.args.copy.now wide c.in-Ok-Some.found.1.now in
+    subst (λ wide. IsPatchedCsv c.args.sheet c.args.copy.now wide c.args.delta.now.changes c.answer_older.result) (sym narrow)
+    (c.answer_older.ensures c.in-Ok-Some.found.1.now c.args.delta.now.changes (subst H c.if-base_wide.true has))
 
-pub returns-in-Ok-clause-found : goal.returns-in-Ok-clause-found
-returns-in-Ok-clause-found c =
-    let head : c.deref.result.now ≡ line (names c.args.sheet) = c.deref.ensures.value ∙ c.in_ok-head.ensures in
-    let all : c.args.copy.now ≡ line (names c.args.sheet) ++ c.in-Some.lines.now = c.in-Some.ensures.0 ∙ ap (λ l. l ++ c.in-Some.lines.now) head in
-    let first : c.extend_from_slice.new.self.items ≡ line (names c.args.sheet) =
-    c.in_ok-extend_from_slice.ensures.items ∙ ap (λ l. l ++ c.deref-2.result.now) c.in_ok-out.ensures.items ∙ c.deref-2.ensures.value ∙ c.in_ok-head.ensures in
-    subst (λ (l : List ℕ). IsPatchedCsv c.args.sheet c.args.copy.now c.args.changes.now l) (sym c.from.ensures)
-    (csv-patched c.args.sheet c.args.copy.now c.in-Some.lines.now c.args.changes.now c.extend_from_slice.new.self.items c.put_patched.new.out.items all first
-    c.requires c.in-Ok.ensures.found)
+pub returns-in-Ok : goal.returns-in-Ok
+returns-in-Ok c =
+    let F : Option (Bool × Bor (List ℕ)) → Type 0 = λ o. FindsLines names_shown c.args.sheet c.args.copy.now (read_lines o) in
+    let has : F (Some c.in-Ok-Some.found) = subst F c.in-Ok-Some.field-0-is c.in-Ok-Some.ensures in
+    let newer : c.in-Ok-Some.found.0 ≡ true → c.args.delta.now.wide ≡ true = search rules in
+    csv-patched c.args.sheet c.in-Ok-Some.found.0 c.args.delta.now.wide c.args.copy.now c.in-Ok-Some.found.1.now c.args.delta.now.changes c.in-Ok.bytes
+    has newer c.in-Ok.ensures.found
+
+pub returns-in-Err-NotRead : goal.returns-in-Err-NotRead
+returns-in-Err-NotRead c =
+    let F : Option (Bool × Bor (List ℕ)) → Type 0 = λ o. FindsLines names_shown c.args.sheet c.args.copy.now (read_lines o) in
+    let has : F (Some c.in-Ok-Some.found) = subst F c.in-Ok-Some.field-0-is c.in-Ok-Some.ensures in
+    copy-others c.args.sheet c.args.copy.now c.in-Ok-Some.found.0 c.in-Ok-Some.found.1.now has (c.in-Err-NotRead.ensures.only (ap Err c.in-Err-NotRead.field-0-is))

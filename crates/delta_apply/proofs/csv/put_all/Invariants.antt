@@ -6,4 +6,4 @@ use Rattle.delta_apply.proofs.csv.put_all.Given as goal
 
 -- what the changes so far put stands behind the others
 abbrev pub invariant-loop-change : goal.invariant-loop-change
-invariant-loop-change l = l.out.items ≡ l.fn.out.items ++ flat_map row_line (flat_map put_by (take l.change-index l.changes))
+invariant-loop-change l = l.out.items ≡ l.fn.out.items ++ flat_map (row_line l.wide) (flat_map put_by (take l.change-index l.changes))

@@ -4,7 +4,7 @@ use Rattle.delta_apply.proofs.csv.put_patched.Given as goal
 
 -- so far the lines of the rows before what is left were put, and what the changes before the next one put among them
 abbrev pub invariant-loop-reader : goal.invariant-loop-reader
-invariant-loop-reader l = Walked l.sheet l.bytes l.changes l.fn.out.items l.reader l.last l.next l.out.items
+invariant-loop-reader l = Walked l.sheet l.base_wide l.delta.wide l.bytes l.delta.changes l.fn.out.items l.reader l.last l.next l.out.items
 
 abbrev pub decreases-loop-reader : goal.decreases-loop-reader
 decreases-loop-reader l = length l.reader

@@ -3,7 +3,7 @@ use Rattle.lei_shapes.specs.Moment.{IsMoment}
 use Rattle.register_words.specs.declared.sheets.Sheet.{Sheet}
 use Rattle.golden_shelf.specs.Lines.{with_lines}
 use Rattle.golden_shelf.specs.Parts.{kept_of}
-use Rattle.golden_shelf.specs.Shelves.{Keeps, lines_of}
+use Rattle.golden_shelf.specs.Shelves.{Keeps, MayFollow, lines_of}
 use Rattle.golden_shelf.proofs.Keeping.{pairs_of, to_line}
 use Rattle.golden_shelf.proofs.Publishing.{by_sheet, keeps_next, lines_next, noted_rising}
 use Rattle.std.proofs.Common.{map, ◌≡◌}
@@ -30,9 +30,10 @@ returns-clause-next g c = λ trail next keeps issued.
     let changes = c.args.changes.now in
     let are = c.in_ok-notes.ensures.notes in
     keeps_next trail kept (kept_of c.push_reserved.new.self.items c.put.new.self) changes
-    (record { moment = c.args.moment; keys = c.in_ok-keys.keys }) next c.requires.changes
+    (record { moment = c.args.moment; wide = c.args.wide; keys = c.in_ok-keys.keys }) next c.requires.changes
+    (subst (λ issues. MayFollow issues c.args.wide) (sym (ap (λ s. s.now.issues) c.self.view_is)) c.requires.follows) c.requires.plain
     (subst IsMoment c.seconds.ensures.value c.seconds.ensures.moment)
-    (c.push_reserved.ensures.items ∙ ap (λ l. l ++ record { moment = c.args.moment; keys = c.in_ok-keys.keys } ∷ []) c.in_ok-reserve.ensures.items)
+    (c.push_reserved.ensures.items ∙ ap (λ l. l ++ record { moment = c.args.moment; wide = c.args.wide; keys = c.in_ok-keys.keys } ∷ []) c.in_ok-reserve.ensures.items)
     c.in_ok-keys.ensures
     (by_sheet (λ sheet. lines_of (kept_of c.push_reserved.new.self.items c.put.new.self) sheet ≡ with_lines (lines_of kept sheet) (map to_line (pairs_of sheet changes)))
     (lines_next Sheet.Lei changes c.in_ok-notes.notes.items c.in_ok-parts.parts.lei.items _ _ _ are c.in_ok-parts.ensures.lei c.in_ok-make_room.ensures.lei c.put.ensures.lei)

@@ -1,0 +1,11 @@
+use Rattle.std.proofs.Common.{◌∙◌}
+use Rattle.copy_csv.specs.Csv.{delta_names}
+use Rattle.copy_csv.specs.Taking.{read_lines}
+use Rattle.copy_csv.proofs.FileLemmas.{delta_names_are, lines-found}
+use Rattle.copy_csv.proofs.csv_files.delta_lines.Goals as goal
+
+pub returns : goal.returns
+returns c =
+    lines-found delta_names delta_names_are c.args.sheet c.args.bytes.now c.deref.result.now c.deref-2.result.now
+    (c.deref.ensures.value ∙ c.in_ok-narrow.ensures) (c.deref-2.ensures.value ∙ c.in_ok-wide.ensures)
+    (read_lines c.lines_behind.result) c.lines_behind.ensures
