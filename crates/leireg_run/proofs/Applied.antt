@@ -109,6 +109,7 @@ pub answered : (fault : ApplyFault) {P : Type 0} → fault ≢ faults.NoMemory �
 answered faults.CopyNotRead other is = is
 answered faults.DeltaNotRead other is = is
 answered (faults.WrongBase publication from) other is = is
+answered faults.OlderDelta other is = is
 answered faults.NoMemory other is = absurd (other refl)
 
 -- ---- the statuses

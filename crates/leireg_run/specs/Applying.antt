@@ -21,6 +21,7 @@ answer_text (Err faults.CopyNotRead) = codes "refused COPY_NOT_READ\n"
 answer_text (Err faults.DeltaNotRead) = codes "refused DELTA_NOT_READ\n"
 answer_text (Err (faults.WrongBase publication from)) =
     codes "refused WRONG_BASE " ++ (decimal publication ++ 32 ∷ (decimal from ++ 10 ∷ []))
+answer_text (Err faults.OlderDelta) = codes "refused OLDER_DELTA\n"
 answer_text (Err faults.NoMemory) = []
 
 -- The status where that text is written: 0, or 2 where there is no new copy.

@@ -98,6 +98,7 @@ fn write_refusal<W: Sink>(fault: ApplyFault, out: &mut W) -> Result<(), SinkFaul
                 &[b"refused WRONG_BASE ", publication, b" ", from, b"\n"],
             )
         }
+        ApplyFault::OlderDelta => write_pieces(out, &[b"refused OLDER_DELTA\n"]),
         ApplyFault::NoMemory => Ok(()),
     }
 }

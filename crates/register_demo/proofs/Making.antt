@@ -167,4 +167,5 @@ patched copy delta (Ok bytes) size is some size_is = record { answer = Ok bytes;
 patched copy delta (Err faults.CopyNotRead) size is some size_is = record { answer = Err faults.CopyNotRead; is = is; size_is = size_is }
 patched copy delta (Err faults.DeltaNotRead) size is some size_is = record { answer = Err faults.DeltaNotRead; is = is; size_is = size_is }
 patched copy delta (Err (faults.WrongBase p q)) size is some size_is = record { answer = Err (faults.WrongBase p q); is = is; size_is = size_is }
+patched copy delta (Err faults.OlderDelta) size is some size_is = record { answer = Err faults.OlderDelta; is = is; size_is = size_is }
 patched copy delta (Err faults.NoMemory) size is some size_is = absurd (some refl)

@@ -157,15 +157,15 @@ both_true false b is = cc
 -- rules that may follow are such, and aren't lower than those of the last entry
 pub record FollowWithin (history : History) (rules : ℕ) : Type 0 where
   pub least : 1 ≤ rules
-  pub most : rules ≤ 2
+  pub most : rules ≤ newest_rules
   pub rising : last_rules (last_entry history) ≤ rules
 
 pub follows-within : (history : History) (rules : ℕ) → may_follow history rules ≡ true → FollowWithin history rules
 follows-within history rules is =
     let last = last_rules (last_entry history) in
-    let all = both_true (nat_le 1 rules && nat_le rules 2) (nat_le last rules) is in
-    let front = both_true (nat_le 1 rules) (nat_le rules 2) all.0 in
-    record { least = leb-true 1 rules front.0; most = leb-true rules 2 front.1; rising = leb-true last rules all.1 }
+    let all = both_true (nat_le 1 rules && nat_le rules newest_rules) (nat_le last rules) is in
+    let front = both_true (nat_le 1 rules) (nat_le rules newest_rules) all.0 in
+    record { least = leb-true 1 rules front.0; most = leb-true rules newest_rules front.1; rising = leb-true last rules all.1 }
 
 -- ---- moments
 
@@ -227,12 +227,12 @@ outcome-again rules office request moment = ap (λ m. outcome_at office request 
 
 -- ---- rules
 
--- the rules of the last entry are the second or lower ones
-last-rules : (limits : Limits) (before rest : History) → LegalAfter limits before rest → last_rules (last_entry before) ≤ 2 → last_rules (last_entry (before ++ rest)) ≤ 2
-last-rules limits before [] legal most = (let P : History → Type 0 = λ h. last_rules (last_entry h) ≤ 2 in subst P (sym (append-nil before)) most)
+-- the rules of the last entry are the newest or lower ones
+last-rules : (limits : Limits) (before rest : History) → LegalAfter limits before rest → last_rules (last_entry before) ≤ newest_rules → last_rules (last_entry (before ++ rest)) ≤ newest_rules
+last-rules limits before [] legal most = (let P : History → Type 0 = λ h. last_rules (last_entry h) ≤ newest_rules in subst P (sym (append-nil before)) most)
 last-rules limits before (e ∷ rest) legal most =
-    let P : History → Type 0 = λ h. last_rules (last_entry h) ≤ 2 in
-    let M : Option KeptEntry → Type 0 = λ o. last_rules o ≤ 2 in
+    let P : History → Type 0 = λ h. last_rules (last_entry h) ≤ newest_rules in
+    let M : Option KeptEntry → Type 0 = λ o. last_rules o ≤ newest_rules in
     subst P (append_assoc before (e ∷ []) rest) (last-rules limits (before ++ e ∷ []) rest legal.1 (subst M (sym (last_entry-push before e)) (follows-within before e.rules legal.0.4).most))
 
 -- so the newest rules may follow
@@ -240,7 +240,7 @@ pub newest-follows : (limits : Limits) (history : History) → Legal (office_of 
 unfolding Legal
 newest-follows limits history legal =
     let most = last-rules limits [] history legal (omega arith) in
-    let lower : nat_le (last_rules (last_entry history)) 2 ≡ true = grind (arith, nat_tests) in
+    let lower : nat_le (last_rules (last_entry history)) newest_rules ≡ true = grind (arith, nat_tests) in
     rw lower refl
 
 -- a request leads from a legal history to a legal one

@@ -24,6 +24,7 @@ pub mod PublishedRows
 pub mod UntouchedKeys
 pub mod NextIssue
 pub mod SentTexts
+pub mod PlainRows
 pub mod SoundTrail
 pub mod TouchedKeys
 pub mod OwnChanges

@@ -41,7 +41,7 @@ use Rattle.upload_ledger.specs.History.{History, is_publication}
 use Rattle.register_words.specs.declared.limits.Limits.{Limits}
 use Rattle.register_history.specs.Legal.{Legal}
 use Rattle.register_history.specs.Standing.{AllStand}
-use Rattle.register_history.specs.Publications.{cell_kind, is_annulled, key_within, keys_touched, last_published, publication_by, published_rows, trail}
+use Rattle.register_history.specs.Publications.{cell_kind, is_annulled, is_wide, key_within, keys_touched, last_published, publication_by, published_rows, trail}
 use Rattle.register_history.specs.Publishing.{AreNextChanges, change_of, row_published}
 use Rattle.register_history.specs.Register.{after, held_after}
 use Rattle.register_history.specs.State.{office_of}
@@ -260,10 +260,10 @@ of-sheet Sheet.Repex (RowKey.Rel start kind end) is = cc
 of-sheet Sheet.Repex (RowKey.Exc lei category) is = refl
 
 -- the row that is told of a key is that of these rows, where the key is one of the sheet
-abbrev IsToldBy : Sheet → List SheetRow → Touched → Type 0
+abbrev pub IsToldBy : Sheet → List SheetRow → Touched → Type 0
 IsToldBy sheet now t = is_of sheet t.key ≡ true → row_published t.item ≡ row_under now (key_texts t.key)
 
-all-told : (limits : Limits) (history : History) (sheet : Sheet) (told : List Touched) → AreOwnItems told
+pub all-told : (limits : Limits) (history : History) (sheet : Sheet) (told : List Touched) → AreOwnItems told
     → AllByRecursion (λ t. IsFoundIn (held_after limits history) (shown t)) told
     → AllByRecursion (IsToldBy sheet (published_rows (after limits history) sheet)) told
 all-told limits history sheet [] own found = tt
@@ -395,12 +395,13 @@ next-rows limits history changes sheet legal next =
     ∙ patched-is sheet before now keys (told-wide sheet next.told) (rows-sorted (after limits history) sheet (after-fit limits history).sound)
     (λ k never. stays-published limits history sheet k legal (ap (is_among k) (sym touched_is) ∙ never))))
 
--- the publication that the entry makes follows the latest one by these changes
+-- the publication that the entry makes follows the latest one by these changes, in the width of the entry's rules
 pub next_issued : (limits : Limits) (history : History) (changes : Changes) (e : KeptEntry) (moment : ℤ) → Legal (office_of limits history)
     → AreNextChanges limits history changes → is_publication e ≡ true → e.moment ≡ moment
-    → IsIssued (latest_rows (trail (office_of limits history))) moment changes (publication_by limits history e)
+    → IsIssued (latest_rows (trail (office_of limits history))) moment (is_wide e.rules) changes (publication_by limits history e)
 next_issued limits history changes e moment legal next is at = record {
   moment_is = at;
+  wide_is = refl;
   rows_are = λ sheet. next-rows limits history changes sheet legal next;
   touched_are = λ sheet. sym (touched-keys limits history changes sheet next);
 }

@@ -30,7 +30,7 @@ use Rattle.lei_records.specs.Parents.{parent_type, parents_of}
 use Rattle.relation_rules.specs.Parents.{AreApart, ParentChainsEnd}
 use Rattle.authority_rules.proofs.MapLemmas.{find-values}
 use Rattle.successor_rules.specs.Chains.{EndsIn}
-use Rattle.register_judge.specs.Checks.{earlier_checks, limit_check, record_checks}
+use Rattle.register_judge.specs.Checks.{earlier_checks, last_checks, record_checks}
 use Rattle.register_judge.specs.declared.sitting.Sitting.{Sitting}
 use Rattle.register_judge.specs.Taking.{Taken, take, in_front, is_new_record, verdict_of, written, writes_of, item_checks, HasRow, HaveRows}
 use Rattle.register_judge.specs.declared.outcome.JudgeStop.{JudgeStop}
@@ -96,7 +96,7 @@ fits_with (Some row) count limit next fits is room = omega arith
 put-fits : (table : Table) (sitting : Sitting) (item : Row) → record_count table ≤ sitting.limit → first_failing (record_checks table sitting item) ≡ None
     → record_count (put table (Item.Record item)) ≤ sitting.limit
 put-fits table sitting item fits passes =
-    let from_c20 = passing_behind (earlier_checks table sitting item) (limit_check table sitting item ∷ [])
+    let from_c20 = passing_behind (earlier_checks table sitting item) (last_checks table sitting item)
     (passing (record_checks table sitting item) passes) in
     fits_with (row_at table (lei_in item)) (record_count table) sitting.limit (record_count (put table (Item.Record item))) fits (len-insert keys_total table.records (record_key (lei_in item)) item) from_c20.first
 

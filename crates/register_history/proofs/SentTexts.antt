@@ -244,6 +244,8 @@ printed-text Shape.RelationStatus text is = is
 printed-text Shape.RelationRegistration text is = is
 printed-text Shape.ExceptionCategory text is = is
 printed-text Shape.Reason text is = is
+printed-text Shape.EventType text is = is
+printed-text Shape.EventStatus text is = is
 
 content-text : (content : Content) (text : Text) → IsUtf8 text → IsUtf8 (row_text content text)
 content-text (Content.Shaped shape) text is = printed-text shape text is

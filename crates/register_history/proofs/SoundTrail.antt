@@ -1,5 +1,5 @@
 -- The publications of a legal history are a sound trail.
-use Rattle.std.proofs.Common.{◌≡◌, ℕ, ◌&&◌, ◌++◌, List, [], ◌∷◌, length, filter, map, Bool, true, false, cond, Option, Some, None, refl, sym, subst, ◌∙◌}
+use Rattle.std.proofs.Common.{◌≡◌, ℕ, ◌≤◌, ◌&&◌, ◌++◌, List, [], ◌∷◌, length, filter, map, Bool, true, false, cond, Option, Some, None, unwrap_or, refl, sym, subst, ◌∙◌}
 use Rattle.std.specs.FinMap.{entries, entries_sorted, get, get-entries}
 use Rattle.std.specs.List.{All, AllByRecursion, list_all}
 use Rattle.std.specs.Str.{IsUtf8, is_utf8}
@@ -18,24 +18,25 @@ use Rattle.register_words.specs.declared.sheets.Sheet.{Sheet}
 use Rattle.copy_csv.specs.Rows.{AreRows, IsRowOf}
 use Rattle.copy_csv.specs.Sheets.{row_of, width}
 use Rattle.copy_forms.specs.Trails as trails
-use Rattle.copy_forms.specs.Trails.{FollowOn, IsKeyOf}
+use Rattle.copy_forms.specs.Trails.{FollowOn, IsKeyOf, nothing_published}
 use Rattle.golden_shelf.specs.Keys.{is_of, key_texts, sheet_of}
-use Rattle.golden_shelf.specs.Shelves.{latest_rows, rows_in as rows_of}
+use Rattle.golden_shelf.specs.Shelves.{latest_or_nothing}
 use Rattle.register_table.specs.Held.{Cell, Held, cell_key, row_in}
 use Rattle.register_table.specs.Touched.{touched}
-use Rattle.upload_ledger.specs.History.{History, is_publication}
+use Rattle.upload_ledger.specs.History.{History, is_publication, last_entry}
 use Rattle.register_words.specs.declared.limits.Limits.{Limits}
 use Rattle.register_history.specs.Kept.{IsKey}
-use Rattle.register_history.specs.Legal.{Legal, LegalAfter}
+use Rattle.register_history.specs.Legal.{Legal, LegalAfter, last_rules}
 use Rattle.register_history.specs.Standing.{AllStand}
 use Rattle.register_history.specs.Publications.{is_published, key_within, keys_touched, last_published, publication_by, published_rows, rows_in, trail, trail_behind}
 use Rattle.register_history.specs.Register.{after, held_after}
 use Rattle.register_history.specs.State.{OfficeState, office_of}
-use Rattle.register_history.proofs.Histories.{Legal-push}
+use Rattle.register_history.proofs.Histories.{Legal-push, follows-within}
 use Rattle.upload_format.proofs.JsonTexts.{If}
 use Rattle.register_history.proofs.Stored.{held-stands}
 use Rattle.register_history.proofs.NextIssue.{IsFoundIn, keys_among, of-sheet, stays-published, touched-each, within-key}
 use Rattle.register_history.proofs.PlaceLemmas.{category_is_ascii, lei_ascii, type_is_ascii}
+use Rattle.register_history.proofs.PlainRows.{never-narrows, rows-plain}
 use Rattle.register_history.proofs.PublishedRows.{each-found, rows-rise, rows_listed}
 use Rattle.register_history.proofs.Registers.{after-fit}
 use Rattle.register_history.proofs.SentTexts.{AreUtf8, held-texts}
@@ -59,16 +60,16 @@ held-utf8 limits history sheet k row at = by (get (held_after limits history) (c
     by None is none = cc
     by (Some cell) is same = subst (If AreUtf8) same (held-texts limits history (cell_at sheet k) cell is)
 
-row-wide : (table : Table) (sheet : Sheet) (k : KeyTexts) (row : Row) → IsSound table → get (rows_in table sheet) k ≡ Some row → length row ≡ width sheet
-row-wide table Sheet.Lei k row sound at = (sound.rows k row at).places
-row-wide table Sheet.Rr k row sound at = (sound.relation_rows k row at).places
-row-wide table Sheet.Repex k row sound at = (sound.exception_rows k row at).places
+row-full : (table : Table) (sheet : Sheet) (k : KeyTexts) (row : Row) → IsSound table → get (rows_in table sheet) k ≡ Some row → length row ≡ width sheet
+row-full table Sheet.Lei k row sound at = (sound.rows k row at).places
+row-full table Sheet.Rr k row sound at = (sound.relation_rows k row at).places
+row-full table Sheet.Repex k row sound at = (sound.exception_rows k row at).places
 
 held-row : (limits : Limits) (history : History) (sheet : Sheet) (k : KeyTexts) (row : Row) → get (rows_in (after limits history) sheet) k ≡ Some row
     → IsRowOf sheet (row_of sheet row)
 held-row limits history sheet k row at = (
   record {
-    wide = row-wide (after limits history) sheet k row (after-fit limits history).sound at;
+    full = row-full (after limits history) sheet k row (after-fit limits history).sound at;
     utf8 = all-utf8 row (held-utf8 limits history sheet k row at);
   },
   refl,
@@ -109,14 +110,14 @@ category-utf8 category =
 
 -- a key whose LEIs are LEIs is one of its sheet
 pub key-is : (k : RowKey) → IsKey k → IsKeyOf (sheet_of k) (key_texts k)
-key-is (RowKey.Rec lei) is = record { wide = refl; utf8 = joined (is_utf8 lei) true (lei-utf8 lei is) refl }
+key-is (RowKey.Rec lei) is = record { full = refl; utf8 = joined (is_utf8 lei) true (lei-utf8 lei is) refl }
 key-is (RowKey.Rel start kind end) is = record {
-  wide = refl;
+  full = refl;
   utf8 = joined (is_utf8 start) _ (lei-utf8 start is.0)
       (joined (is_utf8 (relation_type_text kind)) _ (type-utf8 kind) (joined (is_utf8 end) true (lei-utf8 end is.1) refl));
 }
 key-is (RowKey.Exc lei category) is = record {
-  wide = refl;
+  full = refl;
   utf8 = joined (is_utf8 lei) _ (lei-utf8 lei is) (joined (is_utf8 (exception_category_text category)) true (category-utf8 category) refl);
 }
 
@@ -145,28 +146,30 @@ keys-are limits history sheet legal =
 
 -- ---- each follows the one before
 
-pub publication-next : (limits : Limits) (history : History) (e : KeptEntry) → Legal (office_of limits history) → IsMoment e.moment
-    → trails.IsNext (latest_rows (trail (office_of limits history))) (publication_by limits history e)
-publication-next limits history e legal is = record {
+publication-next : (limits : Limits) (history : History) (e : KeptEntry) → Legal (office_of limits history) → IsMoment e.moment → last_rules (last_entry history) ≤ e.rules
+    → trails.IsNext (latest_or_nothing (trail (office_of limits history))) (publication_by limits history e)
+publication-next limits history e legal is rising = record {
   moment_is = is;
   rows_are = rows-are limits history;
   keys_are = λ sheet. keys-are limits history sheet legal;
   kept = λ sheet k never. stays-published limits history sheet k legal never;
+  widens = never-narrows limits history e.rules legal rising;
+  plain = rows-plain limits history e.rules legal rising;
 }
 
 follow-from : (limits : Limits) (before rest : History) → Legal (office_of limits before) → LegalAfter limits before rest
-    → FollowOn (latest_rows (trail (office_of limits before))) (trail_behind limits before rest)
+    → FollowOn (latest_or_nothing (trail (office_of limits before))) (trail_behind limits before rest)
 follow-from limits before [] legal next = tt
 follow-from limits before (e ∷ rest) legal next =
     by (is_publication e) refl (follow-from limits (before ++ e ∷ []) rest (Legal-push limits before e legal next.0) next.1)
   where
-    by : (b : Bool) → is_publication e ≡ b → FollowOn (latest_rows (trail (office_of limits (before ++ e ∷ [])))) (trail_behind limits (before ++ e ∷ []) rest)
-        → FollowOn (latest_rows (trail (office_of limits before))) (cond b (publication_by limits before e ∷ []) [] ++ trail_behind limits (before ++ e ∷ []) rest)
+    by : (b : Bool) → is_publication e ≡ b → FollowOn (latest_or_nothing (trail (office_of limits (before ++ e ∷ [])))) (trail_behind limits (before ++ e ∷ []) rest)
+        → FollowOn (latest_or_nothing (trail (office_of limits before))) (cond b (publication_by limits before e ∷ []) [] ++ trail_behind limits (before ++ e ∷ []) rest)
     by true is later = (
-      publication-next limits before e legal next.0.3,
-      subst (λ o. FollowOn (rows_of o) (trail_behind limits (before ++ e ∷ []) rest)) (trail-made limits before e is) later,
+      publication-next limits before e legal next.0.3 (follows-within before e.rules next.0.4).rising,
+      subst (λ o. FollowOn (unwrap_or o nothing_published) (trail_behind limits (before ++ e ∷ []) rest)) (trail-made limits before e is) later,
     )
-    by false is later = subst (λ t. FollowOn (latest_rows t) (trail_behind limits (before ++ e ∷ []) rest)) (trail-same limits before e is) later
+    by false is later = subst (λ t. FollowOn (latest_or_nothing t) (trail_behind limits (before ++ e ∷ []) rest)) (trail-same limits before e is) later
 
 pub legal-sound : (office : OfficeState) → Legal office → trails.IsSound (trail office)
 unfolding Legal trail

@@ -1,5 +1,5 @@
 -- Under a key that no entry touched behind the latest publication stands what was published.
-use Rattle.std.proofs.Common.{◌≡◌, ◌⊎◌, inl, inr, ℕ, ◌+◌, ◌<◌, ◌≤◌, ◌==◌, nat_lt, [], ◌∷◌, ◌++◌, length, Bool, true, false, cond, Option, Some, None, refl, sym, ap, subst, ◌∙◌, arith, append-nil, append_assoc, length-append}
+use Rattle.std.proofs.Common.{◌≡◌, ◌⊎◌, inl, inr, ℕ, ◌+◌, ◌<◌, ◌≤◌, ◌==◌, nat_lt, [], ◌∷◌, ◌++◌, length, Bool, true, false, cond, Option, Some, None, refl, sym, ap, subst, ◌∙◌, arith, append-nil, append_assoc, length-append, unwrap_or}
 use Rattle.std.specs.FinMap.{get, get-empty, get-insert}
 use Rattle.std.specs.Ordering.{eq_by_cmp}
 use Rattle.std.proofs.lemmas.Bool.{eqb-true, false≢true, lt-ltb}
@@ -9,8 +9,8 @@ use Rattle.lei_outside.specs.Keeping.{number_of}
 use Rattle.lei_outside.specs.declared.entry.KeptEntry.{KeptEntry}
 use Rattle.lei_records.specs.Tables.{KeyTexts, key_cmp}
 use Rattle.register_words.specs.declared.sheets.Sheet.{Sheet}
-use Rattle.copy_forms.specs.Trails.{row_under}
-use Rattle.golden_shelf.specs.Shelves.{latest_rows, rows_in as rows_of}
+use Rattle.copy_forms.specs.Trails.{nothing_published, row_under}
+use Rattle.golden_shelf.specs.Shelves.{latest_rows}
 use Rattle.register_table.specs.Held.{Cell, Held, cell_key, row_in, rows}
 use Rattle.register_table.specs.Undos.{WriteList, cell_of, touch, touch_all}
 use Rattle.register_table.proofs.RowsLemmas.{exception_at, record_at, relation_at}
@@ -104,7 +104,7 @@ made-push limits history e number is =
     record {
       few = omega (arith, last, number, count);
       kept = λ sheet k old.
-          ap (λ o. row_under (rows_of o sheet) k) (trail-made limits history e is)
+          ap (λ o. row_under ((unwrap_or o nothing_published).rows sheet) k) (trail-made limits history e is)
           ∙ (rows-found (after limits history) sheet k (after-fit limits history).sound ∙ ap (λ t. published_at t sheet k) (sym same));
     }
 

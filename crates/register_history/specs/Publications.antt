@@ -1,5 +1,5 @@
 -- Publications: the golden copies that a history made, one behind the other. This project's profile.
-use Rattle.std.specs.Prelude.{◌≡◌, ℕ, nat_lt, List, [], ◌∷◌, ◌++◌, length, map, flat_map, filter, Bool, true, false, not, if◌then◌else◌}
+use Rattle.std.specs.Prelude.{◌≡◌, ℕ, nat_le, nat_lt, List, [], ◌∷◌, ◌++◌, length, map, flat_map, filter, Bool, true, false, not, if◌then◌else◌}
 use Rattle.std.specs.FinMap.{values}
 use Rattle.std.specs.Str.{bytes_eq}
 use Rattle.lei_code.specs.Texts.{Text}
@@ -84,11 +84,16 @@ keys_accepted_since number limits before (e ∷ rest) sheet =
 abbrev pub last_published : History → ℕ
 last_published history = number_of (last_entry (publications history))
 
--- The publication that an entry makes behind these: its moment, the rows of the register that they leave, and the keys
--- that were touched behind the publication before it.
+-- the files of a publication are wide, where they may be, if its entry has the third rules or later ones
+abbrev pub is_wide : ℕ → Bool
+is_wide rules = nat_le 3 rules
+
+-- The publication that an entry makes behind these: its moment, whether its files are wide, the rows of the register that
+-- they leave, and the keys that were touched behind the publication before it.
 abbrev pub publication_by : Limits → History → KeptEntry → Publication
 publication_by limits before e = record {
   moment = e.moment;
+  wide = is_wide e.rules;
   rows = published_rows (after limits before);
   touched = keys_touched (last_published before) (length before) (held_after limits before);
 }

@@ -250,9 +250,9 @@ terms_by rules history moment = record { rules = rules; moment = stamp history m
 abbrev pub outcome_by : ℕ → OfficeState → Request → ℤ → Outcome
 outcome_by rules office request moment = outcome_at office request (terms_by rules office.history moment)
 
--- the rules of each entry that is made now: the second
+-- the rules of each entry that is made now: the third
 abbrev pub newest_rules : ℕ
-newest_rules = 2
+newest_rules = 3
 
 -- what a request that is made now comes to
 abbrev pub outcome : OfficeState → Request → ℤ → Outcome

@@ -4,7 +4,7 @@ use lei_shapes::Moment;
 /// By which rules an entry is made, and at which moment.
 #[derive(Debug, Clone, Copy, PartialEq, Eq)]
 pub struct EntryTerms {
-    /// The number of the rules, 1 or 2.
+    /// The number of the rules, from 1 to the newest.
     pub rules: u16,
     pub moment: Moment,
 }

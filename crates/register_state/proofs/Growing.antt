@@ -26,6 +26,16 @@ legal-added office rules request moment at e asked is follows stamped legal come
     let came : outcome_by rules office request moment ≡ adds e = ap (outcome_at office request) (sym stamped) ∙ comes in
     Legal-push office.limits office.history e legal (added-is_next office.limits office.history rules request moment e asked is follows legal came)
 
+-- rules that may follow are those of the terms that were made of them
+pub terms-follow : (office : OfficeState) (rules : ℕ) (moment : ℤ) (at : EntryTerms) → at ≡ terms_by rules office.history moment → may_follow office.history rules ≡ true
+    → may_follow office.history at.rules ≡ true
+terms-follow office rules moment at stamped follows = ap (λ (t : EntryTerms). may_follow office.history t.rules) stamped ∙ follows
+
+-- the newest rules may follow
+pub terms-newest : (office : OfficeState) (moment : ℤ) (at : EntryTerms) → at ≡ terms_by newest_rules office.history moment → Legal office
+    → may_follow office.history at.rules ≡ true
+terms-newest office moment at stamped legal = terms-follow office newest_rules moment at stamped (newest-follows office.limits office.history legal)
+
 -- the same by the newest rules
 pub legal-new : (office : OfficeState) (request : Request) (moment : ℤ) (at : EntryTerms) (e : KeptEntry) → IsRequest request → IsMoment moment
     → at ≡ terms_by newest_rules office.history moment → Legal office → outcome_at office request at ≡ adds e → Legal (with_entry office e)

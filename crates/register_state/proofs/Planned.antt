@@ -16,7 +16,6 @@ use Rattle.register_judge.specs.Sittings.{sitting_by}
 use Rattle.register_judge.specs.Taking.{take}
 use Rattle.register_judge.specs.declared.outcome.Outcome as judged
 use Rattle.register_judge.specs.declared.outcome.Plan.{Plan}
-use Rattle.lei_records.specs.declared.rules.Rules.{Rules}
 use Rattle.register_judge.specs.declared.sitting.Sitting.{Sitting}
 use Rattle.register_judge.proofs.LimitLemmas.{plan-taken}
 use Rattle.register_history.proofs.Registers.{upload-within}
@@ -33,14 +32,14 @@ use Rattle.register_words.specs.declared.request.Call.{Call}
 use Rattle.register_words.specs.declared.request.Request.TheVariants.{Upload}
 use Rattle.upload_format.specs.Bodies.{upload}
 use Rattle.register_history.specs.declared.terms.EntryTerms.{EntryTerms}
-use Rattle.lei_records.specs.RuleNumbers.{rules_of}
+use Rattle.lei_records.specs.RuleNumbers.{newest, rules_of}
 
 -- ---- the items of a body
 
 -- there are at most 5,000
 pub few_items : (call : Call) (items : List Readied) → AreItemsOf call items → length items ≤ 5000
 few_items call items is =
-    subst (λ n. n ≤ 5000) (sym (ap length is.are ∙ length-map is.raws (ready Rules.Second))) (upload-within call.body is.raws is.reads)
+    subst (λ n. n ≤ 5000) (sym (ap length is.are ∙ length-map is.raws (ready newest))) (upload-within call.body is.raws is.reads)
 
 -- ---- what items come to
 
@@ -61,13 +60,13 @@ pub planned_by : (office : OfficeState) (call : Call) (terms : EntryTerms) (plan
     → IsSound (after office.limits office.history) → Agrees plan.outcome.reads (after office.limits office.history)
     → record_count (after office.limits office.history) + plan.outcome.new_records ≤ office.limits.records
     → office.limits.records ≤ 4294967295 → IsTakenBy office call terms plan.outcome
-planned_by office call terms plan is newest today sound agrees fits less =
-    let D : ℤ → Type 0 = λ day. IsAgreed plan.outcome 4294967295 day call.office (map (ready Rules.Second) is.raws) in
-    let shows = plan-taken plan.outcome office.limits.records (day_of terms.moment) call.office (map (ready Rules.Second) is.raws) (after office.limits office.history)
+planned_by office call terms plan is by_newest today sound agrees fits less =
+    let D : ℤ → Type 0 = λ day. IsAgreed plan.outcome 4294967295 day call.office (map (ready newest) is.raws) in
+    let shows = plan-taken plan.outcome office.limits.records (day_of terms.moment) call.office (map (ready newest) is.raws) (after office.limits office.history)
     (subst D today is.agreed) sound agrees fits less in
     let S : ℕ → Type 0 = λ rules. ShowsTaken plan.outcome (take (after office.limits office.history)
     (sitting_by (rules_of rules) office.limits.records (day_of terms.moment) call.office) (map (ready (rules_of rules)) is.raws)) in
-    record { raws = is.raws; reads = is.reads; taken = subst S (sym newest) (record { verdicts = shows.verdicts_are; writes = shows.writes_are }) }
+    record { raws = is.raws; reads = is.reads; taken = subst S (sym by_newest) (record { verdicts = shows.verdicts_are; writes = shows.writes_are }) }
 
 -- ---- what is decided
 

@@ -1,11 +1,11 @@
 -- The shelf of a history that grows by an entry.
-use Rattle.std.proofs.Common.{◌≡◌, ℕ, ◌≤◌, ◌<◌, List, [], ◌∷◌, ◌++◌, length, Bool, true, false, cond, ◌==◌, Some, Result, Ok, Err, refl, sym, ap, subst, ◌∙◌, arith, suc, get_or, take, drop, filter, drop-cons, take-append-drop}
+use Rattle.std.proofs.Common.{◌≡◌, ℕ, ◌≤◌, ◌<◌, List, [], ◌∷◌, ◌++◌, length, Bool, true, false, cond, ◌==◌, Some, Result, Ok, Err, refl, sym, ap, subst, ◌∙◌, arith, suc, get_or, take, drop, filter, drop-cons, take-append-drop, unwrap_or}
 use Rattle.std.proofs.lemmas.List.Elements.{filter-append}
 use Rattle.std.specs.Prelude.{IsTrue, MatchResult}
 use Rattle.std.proofs.lemmas.Bool.{eqb-true}
 use Rattle.register_words.specs.declared.sheets.Form.{Form}
 use Rattle.register_words.specs.declared.sheets.Sheet.{Sheet}
-use Rattle.copy_forms.specs.Trails.{Publication, Trail, copy_of, delta_between}
+use Rattle.copy_forms.specs.Trails.{Publication, Trail, copy_of, delta_between, nothing_published}
 use Rattle.golden_shelf.specs.Bases.{base_in, moments_of}
 use Rattle.register_words.specs.declared.base.Base.{Base}
 use Rattle.golden_shelf.specs.declared.fault.ShelfFault.{ShelfFault}
@@ -13,7 +13,7 @@ use Rattle.golden_shelf.specs.declared.fault.ShelfFault.TheVariants as shelf_fau
 use Rattle.lei_code.specs.Texts as texts
 use Rattle.golden_shelf.specs.Changes.{Changes, IsIssued}
 use Rattle.golden_shelf.specs.declared.issue.Issue.{Issue}
-use Rattle.golden_shelf.specs.Shelves.{AreIssuesOf, Kept, Keeps as KeepsTrail, ShelfState, last_behind, latest, latest_rows, rows_in}
+use Rattle.golden_shelf.specs.Shelves.{AreIssuesOf, Kept, Keeps as KeepsTrail, ShelfState, last_behind, latest, latest_rows}
 use Rattle.lei_outside.specs.Keeping.{number_of}
 use Rattle.lei_outside.specs.declared.entry.KeptEntry.{KeptEntry}
 use Rattle.lei_outside.specs.declared.faults.NoMemory.{NoMemory}
@@ -30,7 +30,7 @@ use Rattle.register_words.specs.declared.request.Request.TheVariants.{Accredit, 
 use Rattle.register_words.specs.declared.request.Call.{Call}
 use Rattle.register_state.specs.Deciding.{Decides}
 use Rattle.register_history.specs.Legal.{Legal, request_of}
-use Rattle.register_history.specs.Publications.{last_published, publication_by, trail}
+use Rattle.register_history.specs.Publications.{is_wide, last_published, publication_by, trail}
 use Rattle.register_history.specs.Publishing.{AreChangesSince, AreNextChanges}
 use Rattle.register_history.specs.Register.{after, held_after}
 use Rattle.register_history.specs.Replies.{Outcome, changed, copy_outcome, delta_outcome, form_kind, next_publication, outcome_at, publication_entry, published_counts, reply_of, stays, takes_memory}
@@ -130,7 +130,7 @@ shelf-few limits history kept number shelved most next =
 -- the shelf with the next publication keeps the history with its entry
 pub published-shelved : (limits : Limits) (history : History) (number : ℕ) (terms : EntryTerms) (changes : Changes) (old new : Kept) → Legal (office_of limits history) → AreNextChanges limits history changes
     → IsShelved (office_of limits history) old
-    → ((made : Trail) (next : Publication) → KeepsTrail made old → IsIssued (latest_rows made) terms.moment changes next → KeepsTrail (made ++ next ∷ []) new)
+    → ((made : Trail) (next : Publication) → KeepsTrail made old → IsIssued (latest_rows made) terms.moment (is_wide terms.rules) changes next → KeepsTrail (made ++ next ∷ []) new)
     → KeepsTrail (trail (office_of limits history) ++ publication_by limits history (publication_entry (office_of limits history) number terms) ∷ []) new
 published-shelved limits history number terms changes old new legal are shelved publish =
     let e = publication_entry (office_of limits history) number terms in
@@ -150,7 +150,7 @@ pub published-counted : (limits : Limits) (history : History) (made : Trail) (e 
     → counts.2 ≡ length (latest_rows (made ++ publication_by limits history e ∷ []) Sheet.Repex) → counts ≡ published_counts (after limits history)
 published-counted limits history made e counts lei rr repex =
     let p = publication_by limits history e in
-    let at : (sheet : Sheet) → length (latest_rows (made ++ p ∷ []) sheet) ≡ length (p.rows sheet) = λ sheet. ap (λ o. length (rows_in o sheet)) (latest-push made p) in
+    let at : (sheet : Sheet) → length (latest_rows (made ++ p ∷ []) sheet) ≡ length (p.rows sheet) = λ sheet. ap (λ o. length ((unwrap_or o nothing_published).rows sheet)) (latest-push made p) in
     let first = lei ∙ at Sheet.Lei in
     let second = rr ∙ at Sheet.Rr in
     let third = repex ∙ at Sheet.Repex in

@@ -1,7 +1,7 @@
 -- Uploads that are judged: what their items come to, in their turn or ahead of it.
 use Rattle.std.specs.Prelude.{◌≡◌, List, map, Ok}
 use Rattle.lei_records.specs.Items.{ready}
-use Rattle.lei_records.specs.RuleNumbers.{rules_of}
+use Rattle.lei_records.specs.RuleNumbers.{newest, rules_of}
 use Rattle.lei_records.specs.declared.item.RawItem.{RawItem}
 use Rattle.lei_records.specs.declared.item.Readied.{Readied}
 use Rattle.lei_shapes.specs.Moment.{day_of}
@@ -13,7 +13,6 @@ use Rattle.register_judge.specs.Sittings.{sitting_by}
 use Rattle.register_judge.specs.Taking.{take}
 use Rattle.register_judge.specs.declared.outcome.Outcome.{Outcome}
 use Rattle.register_judge.specs.declared.outcome.Plan.{Plan}
-use Rattle.lei_records.specs.declared.rules.Rules.{Rules}
 use Rattle.register_state.specs.Judging.{ShowsTaken}
 use Rattle.register_words.specs.declared.request.Call.{Call}
 use Rattle.upload_format.specs.Bodies.{upload}
@@ -22,7 +21,7 @@ use Rattle.upload_format.specs.Bodies.{upload}
 pub record AreItemsOf (call : Call) (items : List Readied) : Type 0 where
   pub raws : List RawItem
   pub reads : upload call.body ≡ Ok raws
-  pub are : items ≡ map (ready Rules.Second) raws
+  pub are : items ≡ map (ready newest) raws
 
 -- A plan of an upload by the newest rules. Its body has a reading, and on each sound table that agrees with what the plan has read, what the
 -- items come to on the plan's day is the plan's outcome: with room for 4,294,967,295 records more, which is no limit for
@@ -30,7 +29,7 @@ pub record AreItemsOf (call : Call) (items : List Readied) : Type 0 where
 pub record IsPlanOf (call : Call) (plan : Plan) : Type 0 where
   pub raws : List RawItem
   pub reads : upload call.body ≡ Ok raws
-  pub agreed : IsAgreed plan.outcome 4294967295 plan.today call.office (map (ready Rules.Second) raws)
+  pub agreed : IsAgreed plan.outcome 4294967295 plan.today call.office (map (ready newest) raws)
 
 -- The upload's body has a reading, and the outcome is what its items come to on these terms on the office's table.
 pub record IsTakenBy (office : OfficeState) (call : Call) (terms : EntryTerms) (outcome : Outcome) : Type 0 where

@@ -1,5 +1,5 @@
 //! What is decided of a request. Nothing but the shelf changes by it, where a publication is made.
-ghost use Rattle.std.specs.Prelude.{◌≡◌, ◌≤◌, ◌+◌, false, IfOk, IfSome};
+ghost use Rattle.std.specs.Prelude.{◌≡◌, ◌≤◌, ◌+◌, false, IfOk, IfSome, IsTrue};
 ghost use Rattle.lei_shapes.specs.Moment.{day_of};
 ghost use Rattle.lei_records.specs.RuleNumbers.{rules_of};
 ghost use Rattle.lei_records.specs.Tables.{record_count, row_at};
@@ -11,6 +11,7 @@ ghost use Rattle.register_judge.specs.Sittings.{sitting_by};
 ghost use Rattle.register_state.specs.Shelving.{IsShelved, Shelves};
 ghost use Rattle.register_state.specs.Deciding.{AddsNext, Decides, Tells};
 ghost use Rattle.register_state.specs.Planning.{IsPlanOf, IsTakenBy};
+ghost use Rattle.register_history.specs.Legal.{may_follow};
 ghost use Rattle.register_history.specs.Replies.{accredit_outcome, body_outcome, is_full, is_too_much, json_reply, kept_outcome, newest_rules, outcome_at, show_outcome, status_outcome, upload_outcome};
 ghost use Rattle.register_words.specs.Requests.{IsNumbered, IsUploadNumber};
 ghost use Rattle.register_history.specs.Register.{after};
@@ -48,7 +49,8 @@ impl Books {
     ) -> Result<Decision, NoMemory>
         requires numbered { IsNumbered request.now }
         requires first { 1 ≤ terms.now.rules }
-        requires last { terms.now.rules ≤ 2 }
+        requires last { terms.now.rules ≤ newest_rules }
+        requires follows { IsTrue (may_follow self.now.history terms.now.rules) }
         requires shelf { IsShelved self.now shelf.old.now }
         ensures decides { Decides self.now request.now (outcome_at self.now request.now terms.now) result }
         ensures next { AddsNext self.now request.now result }
@@ -135,7 +137,7 @@ impl Books {
         requires plan { IfSome plan (IsPlanOf call.now) }
         requires newest { IfSome plan (λ plan. terms.now.rules ≡ newest_rules) }
         requires first { 1 ≤ terms.now.rules }
-        requires last { terms.now.rules ≤ 2 }
+        requires last { terms.now.rules ≤ newest_rules }
         ensures decides { Decides self.now (Upload call.now)
             (upload_outcome self.now call.now terms.now) result }
         ensures next { AddsNext self.now (Upload call.now) result }
@@ -168,7 +170,7 @@ impl Books {
         requires plan { IfSome plan (IsPlanOf call.now) }
         requires newest { IfSome plan (λ plan. terms.now.rules ≡ newest_rules) }
         requires first { 1 ≤ terms.now.rules }
-        requires last { terms.now.rules ≤ 2 }
+        requires last { terms.now.rules ≤ newest_rules }
         ensures decides { Decides self.now (Upload call.now)
             (body_outcome self.now call.now terms.now (items_of call.now.body)) result }
         ensures next { AddsNext self.now (Upload call.now) result }
@@ -221,7 +223,7 @@ impl Books {
     ) -> Result<Decision, NoMemory>
         requires numbered { IsUploadNumber call.now.number }
         requires first { 1 ≤ terms.now.rules }
-        requires last { terms.now.rules ≤ 2 }
+        requires last { terms.now.rules ≤ newest_rules }
         ensures decides { Decides self.now (Upload call.now)
             (body_outcome self.now call.now terms.now (items_of call.now.body)) result }
         ensures next { AddsNext self.now (Upload call.now) result }
@@ -271,7 +273,7 @@ impl Books {
 // The sitting for an upload by the rules and on the day of its entry, where there may be so many records.
 fn sitting(records: u32, call: &Call, terms: &EntryTerms) -> Sitting
     requires first { 1 ≤ terms.now.rules }
-    requires last { terms.now.rules ≤ 2 }
+    requires last { terms.now.rules ≤ newest_rules }
     ensures { result ≡ sitting_by (rules_of terms.now.rules) records (day_of terms.now.moment) call.now.office }
 {
     Sitting {

@@ -18,7 +18,7 @@ use std::alloc::Global;
 use upload_ledger::{ACCREDIT, PUBLISH, UPLOAD};
 
 /// The number of the rules of each entry that is made now.
-pub const RULES: u16 = 2;
+pub const RULES: u16 = 3;
 
 // The moment of the next entry: the later of the clock's moment and the last entry's.
 pub fn stamp(entries: &[KeptEntry], moment: Moment) -> i64

@@ -73,7 +73,7 @@ pub fn ready_all<R: Threads + Sync>(
     raws: &[RawItem],
 ) -> Result<Vec<Readied>, NoMemory>
     requires first { 1 ≤ rules }
-    requires last { rules ≤ 2 }
+    requires last { rules ≤ 3 }
     ensures { IfOk result (λ items. items.items ≡ map (ready_of (rules_of rules)) raws.now) }
 {
     if raws.len() < MANY_ITEMS {
@@ -94,7 +94,7 @@ fn ready_in_threads<L: Ledger, R: Threads + Sync>(
     requires parts { blank.parts ≡ L.parts }
     requires one { blank.parts ≡ 1 }
     requires first { 1 ≤ rules }
-    requires last { rules ≤ 2 }
+    requires last { rules ≤ 3 }
     ensures { IfOk result (λ items. items.items ≡ map (ready_of (rules_of rules)) raws.now) }
 {
     let mut steps = Steps::<L>::new(blank);
@@ -103,7 +103,7 @@ fn ready_in_threads<L: Ledger, R: Threads + Sync>(
         alloc,
         raws,
         |raw: &RawItem| -> Result<Readied, NoMemory>
-            requires { 1 ≤ rules × rules ≤ 2 }
+            requires { 1 ≤ rules × rules ≤ 3 }
             ensures { IfOk result (λ item. item ≡ ready_of (rules_of rules) raw.now) }
         { ready_by(alloc, rules, raw) },
         &mut steps,
@@ -113,7 +113,7 @@ fn ready_in_threads<L: Ledger, R: Threads + Sync>(
 // The same in this thread.
 fn ready_one_by_one(alloc: Global, rules: u16, raws: &[RawItem]) -> Result<Vec<Readied>, NoMemory>
     requires first { 1 ≤ rules }
-    requires last { rules ≤ 2 }
+    requires last { rules ≤ 3 }
     ensures { IfOk result (λ items. items.items ≡ map (ready_of (rules_of rules)) raws.now) }
 {
     let mut items = Vec::with_capacity(alloc, raws.len())?;

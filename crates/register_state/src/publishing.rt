@@ -1,17 +1,18 @@
 //! Publications: what changed since the last one goes onto the shelf, which gives copies of the latest and deltas to
 //! it.
-ghost use Rattle.std.specs.Prelude.{◌≡◌, ◌<◌, ◌++◌, ◌∷◌, [], IfOk, OnErr, OnOk, Some, length, map};
+ghost use Rattle.std.specs.Prelude.{◌≡◌, ◌<◌, ◌++◌, ◌∷◌, [], IfOk, IsTrue, OnErr, OnOk, Some, false, length, map};
 ghost use Rattle.copy_csv.specs.Sheets as sheets;
 ghost use Rattle.copy_forms.specs.Trails.{Publication, Trail};
-ghost use Rattle.golden_shelf.specs.Changes.{AreOwnChanges, IsIssued};
-ghost use Rattle.golden_shelf.specs.Shelves.{Keeps as KeepsTrail, latest_rows};
+ghost use Rattle.golden_shelf.specs.Changes.{AreOwnChanges, ArePlain, IsIssued};
+ghost use Rattle.golden_shelf.specs.Shelves.{Keeps as KeepsTrail, MayFollow, latest_rows};
 ghost use Rattle.upload_ledger.specs.History.{published};
 ghost use Rattle.register_words.specs.declared.request.Request.TheVariants.{Copy, Delta, Publish};
 ghost use Rattle.register_words.specs.Requests.{IsUploadNumber};
 ghost use Rattle.register_state.specs.Books.{with_entry};
 ghost use Rattle.register_state.specs.Deciding.{AddsNext, Decides, Tells};
 ghost use Rattle.register_state.specs.Shelving.{IsShelved, Shelves};
-ghost use Rattle.register_history.specs.Publications.{last_published};
+ghost use Rattle.register_history.specs.Legal.{may_follow};
+ghost use Rattle.register_history.specs.Publications.{is_wide, last_published};
 ghost use Rattle.register_history.specs.Publishing.{AreChangesSince, AreNextChanges, change_of, row_published};
 ghost use Rattle.register_history.specs.Replies.{copy_outcome, delta_outcome, form_kind, json_reply, next_publication, publication_entry, publish_outcome};
 
@@ -22,7 +23,7 @@ use copy_csv::{Form, Row, Sheet, Texts};
 use golden_shelf::{Base, Shelf, ShelfFault};
 use lei_outside::{Bytes, KeptEntry, List, NoMemory};
 use lei_records::{FieldTexts, Item, RowKey};
-use lei_shapes::{Moment, RelationRegistration};
+use lei_shapes::RelationRegistration;
 use register_history::EntryTerms;
 use register_table::{Table, Touched};
 use register_words::{Kind, Refusal, Reply};
@@ -32,6 +33,9 @@ use std::sync::ledger::{Blank, Ledger as Counted};
 use std::thread::Threads;
 use upload_ledger::PUBLISH;
 use worker_pool::Steps;
+
+// The first rules by which publications are wide.
+const WIDE_RULES: u16 = 3;
 
 impl Books {
     // Decides a publication of this number, whose entry has these rules and this moment if it is made, and publishes it
@@ -44,6 +48,7 @@ impl Books {
         terms: &EntryTerms,
     ) -> Result<Decision, NoMemory>
         requires number { IsUploadNumber number }
+        requires follows { IsTrue (may_follow self.now.history terms.now.rules) }
         requires shelf { IsShelved self.now shelf.old.now }
         ensures decides { Decides self.now (Publish number)
             (publish_outcome self.now number terms.now (published self.now.history number)) result }
@@ -74,6 +79,7 @@ impl Books {
     ) -> Result<KeptEntry, NoMemory>
         requires number { IsUploadNumber number }
         requires next { number ≡ next_publication self.now.history }
+        requires follows { IsTrue (may_follow self.now.history terms.now.rules) }
         requires shelf { IsShelved self.now shelf.old.now }
         ensures entry { IfOk result (λ entry. entry ≡ publication_entry self.now number terms.now) }
         ensures shelf { IfOk result (λ entry. IsShelved (with_entry self.now entry) shelf.new.now) }
@@ -81,8 +87,8 @@ impl Books {
         ensures stays { OnErr result (shelf.new.now ≡ shelf.old.now) }
     {
         let changes = self.next_changes()?;
-        shelve::<Brand, R>(rt, shelf, terms.moment, changes.as_slice(), Blank::new(1))?;
         let entries = self.ledger.entries();
+        shelve::<Brand, R>(rt, shelf, terms, changes.as_slice(), Blank::new(1))?;
         match publication(self.alloc, entries, number, terms, shelf.counts()) {
             Ok(entry) => Ok(entry),
             Err(NoMemory) => {
@@ -130,27 +136,37 @@ fn last_published(entries: &[KeptEntry]) -> u64
     0
 }
 
-// Publishes these changes on the shelf. The steps that it takes are counted in a ledger that nobody reads.
+// Publishes these changes on the shelf, under the terms of the publication's entry. The steps that it takes are counted
+// in a ledger that nobody reads.
 fn shelve<L: Counted, R: Threads + Sync>(
     rt: &R,
     shelf: &mut Shelf,
-    moment: Moment,
+    terms: &EntryTerms,
     changes: &[(RowKey, Option<Row>)],
     blank: Blank,
 ) -> Result<(), NoMemory>
     requires changes { AreOwnChanges changes.now }
     requires few { length shelf.old.now.issues < 1_000_000 }
+    requires follows { MayFollow shelf.old.now.issues (is_wide terms.now.rules) }
+    requires plain { is_wide terms.now.rules ≡ false → ArePlain changes.now }
     requires name { blank.name ≡ L.name }
     requires parts { blank.parts ≡ L.parts }
     requires one { blank.parts ≡ 1 }
     ensures next { OnOk result ((trail : Trail) (next : Publication) → KeepsTrail trail shelf.old.now
-        → IsIssued (latest_rows trail) moment changes.now next
+        → IsIssued (latest_rows trail) terms.now.moment (is_wide terms.now.rules) changes.now next
         → KeepsTrail (trail ++ next ∷ []) shelf.new.now) }
     ensures before { OnOk result (shelf.new.before ≡ Some shelf.old.now) }
     ensures err { OnErr result (shelf.new ≡ shelf.old) }
 {
     let mut steps = Steps::<L>::new(blank);
-    shelf.publish(rt, moment, changes, &mut steps)
+    shelf.publish(rt, terms.moment, is_wide(terms.rules), changes, &mut steps)
+}
+
+// Whether the files of a publication are wide, where they may be, by the rules of its entry.
+fn is_wide(rules: u16) -> bool
+    ensures { result ≡ is_wide rules }
+{
+    rules >= WIDE_RULES
 }
 
 // The keys that entries touched last whose numbers are greater than `after` and at most `upto`, each with the row that

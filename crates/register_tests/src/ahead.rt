@@ -69,8 +69,11 @@ fn is_judged_again<R: Threads + Sync>(
     requires planned { IsUploadNumber planned.now.number }
     requires between { IsUploadNumber between.now.number }
 {
-    let wanted =
-        br#"{"entry":5,"issuer":"506700GE1G29325QX363","items":["C19 AUTHORITY_KEY_TAKEN 00000000000000000389"],"number":2}"#;
+    let wanted = concat!(
+        r#"{"entry":5,"issuer":"506700GE1G29325QX363","#,
+        r#""items":["C19 AUTHORITY_KEY_TAKEN 00000000000000000389"],"number":2}"#,
+    )
+    .as_bytes();
     match Office::open(rt, alloc, SureKeeper::new(alloc), Limits::standard()) {
         Ok(mut office) => {
             let steps = [ACCREDITED, OTHER_ACCREDITED, FIRST_TAKEN];

@@ -75,7 +75,7 @@ fn printed_copy(
     for row in read.rows.as_slice() {
         rows.push(row_texts(alloc, row)?)?;
     }
-    copy_text(alloc, Sheet::Repex, form, head, rows.as_slice())
+    copy_text(alloc, Sheet::Repex, form, read.wide, head, rows.as_slice())
 }
 
 // The texts of the rows of changes.
@@ -102,6 +102,7 @@ fn printed_delta(
     head: &Head,
     read: DeltaRead,
 ) -> Result<Bytes, NoMemory> {
+    let wide = read.wide;
     let texts = texts_of(alloc, read.changes.as_slice())?;
     let mut changes = Vec::new(alloc);
     for change in read.changes.into_vec() {
@@ -111,7 +112,7 @@ fn printed_delta(
         };
         changes.push(rendered(change, row))?;
     }
-    delta_text(alloc, Sheet::Repex, form, head, changes.as_slice())
+    delta_text(alloc, Sheet::Repex, form, wide, head, changes.as_slice())
 }
 
 fn is_text(printed: Result<Bytes, NoMemory>, text: &str) -> bool {

@@ -32,7 +32,7 @@ const UPLOAD: &str = concat!(
 
 // The golden copy that has it.
 const COPY: &str = concat!(
-    r#"200 1266&"LEI","Entity.LegalName","Entity.LegalName.xmllang","Entity.LegalAddress.FirstAddressLine","#,
+    r#"200 1385&"LEI","Entity.LegalName","Entity.LegalName.xmllang","Entity.LegalAddress.FirstAddressLine","#,
     r#""Entity.LegalAddress.City","Entity.LegalAddress.Region","Entity.LegalAddress.Country","#,
     r#""Entity.LegalAddress.PostalCode","Entity.HeadquartersAddress.FirstAddressLine","#,
     r#""Entity.HeadquartersAddress.City","Entity.HeadquartersAddress.Region","#,
@@ -43,11 +43,13 @@ const COPY: &str = concat!(
     r#""Entity.EntityCreationDate","Entity.SuccessorEntity.1.SuccessorLEI","#,
     r#""Registration.InitialRegistrationDate","Registration.LastUpdateDate","#,
     r#""Registration.RegistrationStatus","Registration.NextRenewalDate","Registration.ManagingLOU","#,
-    r#""Registration.ValidationSources","Register.TransferTo"&"00000000000000000195","Société ""Bleue"","#,
-    r#" S.A.","fr","3 rue de l'Arbre","Lyon","FR-ARA","FR","69001","3 rue de l'Arbre","Lyon","","FR","#,
+    r#""Registration.ValidationSources","Register.TransferTo","Entity.Event.1.Type","#,
+    r#""Entity.Event.1.EffectiveDate","Entity.Event.1.RecordedDate","Entity.Event.1.Status"&"#,
+    r#""00000000000000000195","Société ""Bleue"", S.A.","fr","3 rue de l'Arbre","Lyon","FR-ARA","FR","#,
+    r#""69001","3 rue de l'Arbre","Lyon","","FR","#,
     r#""69001","RA000001","400000001","FR","GENERAL","AB12","ACTIVE","1998-03-01T23:00:00Z","","#,
     r#""2025-01-10T09:00:00Z","2025-01-10T09:00:00Z","ISSUED","2026-01-10T09:00:00Z","506700GE1G29325QX363","#,
-    r#""FULLY_CORROBORATED",""&&"#,
+    r#""FULLY_CORROBORATED","","","","",""&&"#,
 );
 
 // A realistic session, line by line.
@@ -78,11 +80,11 @@ const TAKEN: &str =
 
 // A clock that stands still, and counts how often it was asked. It tells nothing of its moments.
 #[derive(Drop)]
-struct Asked {
+struct CountingClock {
     calls: u64,
 }
 
-impl Clock for Asked {
+impl Clock for CountingClock {
     ghost use Rattle.std.specs.Prelude.{None};
 
     ghost given = { λ _. None };
@@ -108,7 +110,7 @@ fn status_of<R: Threads + Sync, S: Source, W: Sink>(
     source: &mut S,
     sink: &mut W,
 ) -> (u8, u64) {
-    let mut clock = Asked { calls: 0 };
+    let mut clock = CountingClock { calls: 0 };
     let mut second = no_file(alloc);
     let (status, _) = run(
         rt,

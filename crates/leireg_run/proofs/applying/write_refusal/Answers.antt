@@ -17,3 +17,6 @@ returns-in-WrongBase-clause-written g c =
     let told = subst (λ q. Told (decimal c.in-WrongBase.publication) q) (c.as_bytes-from.ensures.value ∙ c.format-in-WrongBase.ensures.text)
     (subst (λ p. Told p c.as_bytes-from.result.now) (c.as_bytes-publication.ensures.value ∙ c.format.ensures.text) c.write_pieces-in-WrongBase.ensures.written) in
     rw (c.in-WrongBase.is) told
+
+pub returns-in-OlderDelta-clause-written : goal.returns-in-OlderDelta-clause-written
+returns-in-OlderDelta-clause-written g c = rw (c.in-OlderDelta.is) c.write_pieces-in-OlderDelta.ensures.written

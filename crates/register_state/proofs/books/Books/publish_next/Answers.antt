@@ -1,12 +1,15 @@
 use Rattle.std.proofs.Common.{◌≡◌, ◌++◌, ◌∷◌, [], ap, subst, sym, ◌∙◌}
 use Rattle.golden_shelf.specs.Shelves.{Keeps as KeepsTrail}
+use Rattle.golden_shelf.proofs.Publishing.{may_follow}
 use Rattle.upload_ledger.specs.History.{is_publication}
 use Rattle.register_history.specs.Legal.{Legal}
-use Rattle.register_history.specs.Publications.{publication_by, trail}
+use Rattle.register_history.specs.Publications.{is_wide, publication_by, trail}
 use Rattle.register_history.specs.Publishing.{AreNextChanges}
 use Rattle.register_history.specs.Register.{after}
 use Rattle.register_history.specs.Replies.{publication_entry, published_counts}
 use Rattle.register_history.specs.State.{office_of}
+use Rattle.register_history.proofs.Histories.{follows-within}
+use Rattle.register_history.proofs.PlainRows.{changes-plain, never-narrows}
 use Rattle.register_state.proofs.Shelved.{next-shelved, published-counted, published-shelved, shelf-few}
 use Rattle.register_state.proofs.books.Books.publish_next.Goals as goal
 
@@ -14,6 +17,23 @@ pub shelve-requires-clause-few : goal.shelve-requires-clause-few
 shelve-requires-clause-few g c = λ _ _.
     let office = c.args.self.now in
     shelf-few office.limits office.history c.args.shelf.now.now c.args.number c.requires.shelf c.requires.number.1 c.requires.next
+
+pub shelve-requires-clause-follows : goal.shelve-requires-clause-follows
+shelve-requires-clause-follows g c = λ _ _.
+    let office = c.args.self.now in
+    let rules = c.args.terms.now.rules in
+    let legal = subst Legal c.self.view_is c.self.invariant.legal in
+    let follows = follows-within office.history rules c.requires.follows in
+    may_follow (trail office) c.args.shelf.now.now (is_wide rules) c.requires.shelf (never-narrows office.limits office.history rules legal follows.rising)
+
+pub shelve-requires-clause-plain : goal.shelve-requires-clause-plain
+shelve-requires-clause-plain g c = λ _ _.
+    let office = c.args.self.now in
+    let rules = c.args.terms.now.rules in
+    let legal = subst Legal c.self.view_is c.self.invariant.legal in
+    let follows = follows-within office.history rules c.requires.follows in
+    let next = subst (AreNextChanges office.limits office.history) (sym c.as_slice.ensures.value) c.in_ok-changes.ensures.changes in
+    changes-plain office.limits office.history c.as_slice.result.now rules legal follows.rising next
 
 pub returns-in-Ok-clause-entry : goal.returns-in-Ok-clause-entry
 returns-in-Ok-clause-entry g c =

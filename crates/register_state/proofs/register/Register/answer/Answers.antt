@@ -3,7 +3,7 @@ use Rattle.register_history.specs.State.{OfficeState}
 use Rattle.register_state.specs.Crashes.{CrashStays}
 use Rattle.register_history.specs.Replies.{outcome_at}
 use Rattle.register_state.proofs.Crashing.{crash-added, crash-refused}
-use Rattle.register_state.proofs.Growing.{legal-new}
+use Rattle.register_state.proofs.Growing.{legal-new, terms-newest}
 use Rattle.register_state.proofs.Outcomes.{adds_is, never_fault, next_of, stays_of}
 use Rattle.register_state.proofs.register.Register.answer.Goals as goal
 
@@ -13,6 +13,11 @@ returns-in-Ok-Stays-clause-reply g c =
     let at = c.terms-terms.result in
     let found = c.in-Ok-Stays in
     never_fault office c.args.request.now at found.reply (stays_of office c.args.request.now (outcome_at office c.args.request.now at) found.field-0 found.reply found.field-0-is found.ensures.decides)
+
+pub decide-requires-clause-follows : goal.decide-requires-clause-follows
+decide-requires-clause-follows g c = λ _ _.
+    let stamp = c.terms-terms.ensures in
+    terms-newest c.self.inside.books c.args.moment c.terms-terms.result stamp.terms stamp.legal
 
 pub add-requires-clause-legal : goal.add-requires-clause-legal
 add-requires-clause-legal g c =

@@ -1,9 +1,15 @@
 use Rattle.std.proofs.Common.{ap, ◌∙◌}
 use Rattle.register_history.specs.Legal.{may_follow}
 use Rattle.register_history.specs.Replies.{outcome_at}
-use Rattle.register_state.proofs.Growing.{legal-added}
+use Rattle.register_state.proofs.Growing.{legal-added, terms-follow}
 use Rattle.register_state.proofs.Outcomes.{adds_is, next_of}
 use Rattle.register_state.proofs.register.Register.replay.Goals as goal
+
+pub decide-requires-clause-follows : goal.decide-requires-clause-follows
+decide-requires-clause-follows g c = λ _ _.
+    let rules = c.args.stored.now.rules in
+    let follows = ap (λ o. may_follow o.history rules) c.self.view_is ∙ c.requires.follows in
+    terms-follow c.self.inside.books rules c.args.moment c.terms-terms.result c.terms-terms.ensures.terms follows
 
 pub add_kept-requires-clause-legal : goal.add_kept-requires-clause-legal
 add_kept-requires-clause-legal g c =
