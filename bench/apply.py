@@ -20,7 +20,8 @@ Entity.HeadquartersAddress.PostalCode Entity.RegistrationAuthority.RegistrationA
 Entity.RegistrationAuthority.RegistrationAuthorityEntityID Entity.LegalJurisdiction Entity.EntityCategory
 Entity.LegalForm.EntityLegalFormCode Entity.EntityStatus Entity.EntityCreationDate Entity.SuccessorEntity.1.SuccessorLEI
 Registration.InitialRegistrationDate Registration.LastUpdateDate Registration.RegistrationStatus Registration.NextRenewalDate
-Registration.ManagingLOU Registration.ValidationSources Register.TransferTo""".split()
+Registration.ManagingLOU Registration.ValidationSources Register.TransferTo Entity.Event.1.Type Entity.Event.1.EffectiveDate
+Entity.Event.1.RecordedDate Entity.Event.1.Status""".split()
 MOMENT = "2025-01-11T00:00:00Z"
 RECORDS = 500_000
 CHANGES = 5_000

@@ -44,6 +44,10 @@ RECORD = {
 STATUSES = [("ISSUED", 10, "ACTIVE", 100), ("LAPSED", 2, "ACTIVE", -20), ("PENDING_TRANSFER", 3, "ACTIVE", 100),
             ("PENDING_ARCHIVAL", 2, "ACTIVE", 100), ("RETIRED", 3, "INACTIVE", 100), ("DUPLICATE", 2, "NULL", 100),
             ("ANNULLED", 1, "NULL", 100)]
+# The types of an event, one of which is none, and its statuses.
+EVENT_TYPES = ["CHANGE_LEGAL_NAME", "CHANGE_LEGAL_ADDRESS", "CHANGE_HQ_ADDRESS", "CHANGE_LEGAL_FORM", "MERGER", "LIQUIDATION",
+               "DISSOLUTION", "BANKRUPTCY", "SALE"]
+EVENT_STATUSES = ["IN_PROGRESS", "COMPLETED", "COMPLETED", "WITHDRAWN_CANCELLED"]
 RELATIONSHIPS = ["IS_DIRECTLY_CONSOLIDATED_BY", "IS_ULTIMATELY_CONSOLIDATED_BY", "IS_INTERNATIONAL_BRANCH_OF",
                  "IS_FEEDER_TO", "IS_SUBFUND_OF", "IS_FUND-MANAGED_BY"]
 REGISTRATIONS = ["PUBLISHED", "PUBLISHED", "ISSUED", "LAPSED", "RETIRED", "ANNULLED"]
@@ -146,7 +150,20 @@ class Maker:
             fields["Entity.SuccessorEntity.1.SuccessorLEI"] = self.entity()
         if name == "PENDING_ARCHIVAL" and self.random.random() < 0.8:
             fields["Register.TransferTo"] = self.random.choice(ISSUERS)
+        if self.random.random() < 0.25:
+            fields.update(self.event())
         return self.nearly(fields)
+
+    def event(self):
+        """The fields of an event, of which some are absent or have wrong dates. No date is right on one day and wrong on
+        the next."""
+        fields = {
+            "Entity.Event.1.Type": self.random.choice(EVENT_TYPES),
+            "Entity.Event.1.EffectiveDate": moment(self.random.choice([-50, -50, 0, 50])),
+            "Entity.Event.1.RecordedDate": moment(self.random.choice([-10, -10, -10, 0, 50])),
+            "Entity.Event.1.Status": self.random.choice(EVENT_STATUSES),
+        }
+        return {name: text for name, text in fields.items() if self.random.random() < 0.9}
 
     def relationship(self, issuer):
         registration = self.random.choice(REGISTRATIONS)

@@ -6,16 +6,24 @@
    of the table.
 2. Copies of the sheet of records in CSV into a file in memory, by the processor time of the program: that of a run with
    copies, less that of a run without, its own and the system's.
+3. The first publications after a store is opened, each after a single record changed, by the clock as in 1. The entries of
+   the store have rules 2, so the first of these publications is the first wide one, or rules 3, so that it isn't: Python's
+   sqlite3 writes the rules of each entry before, in a copy of the store. The store lies in memory, so that no disk is waited
+   for. A publication that rendered all rows anew would take as long as the first one of 1.
 
 The program is proved first, by `./leireg`."""
+import contextlib
 import datetime
 import json
 import os
+import pathlib
+import sqlite3
 import subprocess
 import sys
 import tempfile
 import time
 
+from successors import copy as copy_store
 from table import FIELDS, OFFICE, PROGRAM, RECORDS, ROOT, bodies, code
 
 UPLOADS = 23
@@ -41,28 +49,68 @@ def lines():
     return fill, changes
 
 
+def ask(process, line):
+    """The seconds from a line to its reply, which is no refusal."""
+    start = time.perf_counter()
+    process.stdin.write(line)
+    process.stdin.flush()
+    reply = process.stdout.readline()
+    if not reply.startswith("20"):
+        sys.exit(reply)
+    return time.perf_counter() - start
+
+
+def after_changes(process, changes):
+    """The seconds of each publication after a record changed, from the second one on."""
+    times = []
+    for number, line in enumerate(changes, 2):
+        ask(process, line)
+        times.append(ask(process, f"PUBLISH {number}\n"))
+    return times
+
+
 def publish(command, fill, changes):
     """The seconds of the first publication, and those of each after a record changed."""
     with subprocess.Popen(command, stdin=subprocess.PIPE, stdout=subprocess.PIPE, text=True) as process:
-
-        def ask(line):
-            start = time.perf_counter()
-            process.stdin.write(line)
-            process.stdin.flush()
-            reply = process.stdout.readline()
-            if not reply.startswith("20"):
-                sys.exit(reply)
-            return time.perf_counter() - start
-
         for line in fill:
-            ask(line)
-        first = ask("PUBLISH 1\n")
-        others = []
-        for number, line in enumerate(changes, 2):
-            ask(line)
-            others.append(ask(f"PUBLISH {number}\n"))
+            ask(process, line)
+        first = ask(process, "PUBLISH 1\n")
+        others = after_changes(process, changes)
         process.stdin.close()
     return first, others
+
+
+def columns(store):
+    """How many columns the latest copy of the sheet of records in CSV has."""
+    command = [PROGRAM, "lines", "--store", store]
+    copy = subprocess.run(command, input=b"COPY lei csv\n", stdout=subprocess.PIPE, check=True).stdout
+    return copy.split(b"\n", 2)[1].count(b",") + 1
+
+
+def reopened(plain, rules, changes):
+    """The seconds of each publication after a record changed, over a copy of a store whose entries have these rules."""
+    store = plain.with_name(f"by {rules}.db")
+    copy_store(plain, store)
+    with contextlib.closing(sqlite3.connect(store)) as database, database:
+        database.execute("UPDATE entry SET rules = ?", (rules,))
+    assert columns(store) == (32 if rules == 3 else 28)
+    command = [PROGRAM, "lines", "--store", store]
+    with subprocess.Popen(command, stdin=subprocess.PIPE, stdout=subprocess.PIPE, text=True) as process:
+        times = after_changes(process, changes)
+        process.stdin.close()
+    assert columns(store) == 32
+    for left in plain.parent.glob(f"{store.name}*"):
+        left.unlink()
+    return times
+
+
+def stored(fill, changes):
+    """The least seconds of such publications, over a store of rules 2 and over one of rules 3."""
+    with tempfile.TemporaryDirectory(dir="/dev/shm") as name:
+        plain = pathlib.Path(name) / "plain.db"
+        lines = "".join([*fill, "PUBLISH 1\n"])
+        subprocess.run([PROGRAM, "lines", "--store", plain], input=lines.encode(), stdout=subprocess.DEVNULL, check=True)
+        return [[min(times) for times in zip(*(reopened(plain, rules, changes) for _ in range(RUNS)))] for rules in (2, 3)]
 
 
 def spent(fill, copies):
@@ -95,6 +143,13 @@ def main():
     with_copies = min(spent(fill, COPIES) for _ in range(RUNS))
     taken, size = (with_copies[0] - without[0]) / COPIES, (with_copies[1] - without[1]) / COPIES
     print(f"COPY lei csv {size / 1e6:6.1f} MB   {taken * 1000:6.1f} ms   {size / taken / 1e6:6.0f} MB/s")
+    narrow, wide = stored(fill, changes)
+    for number, (after_narrow, after_wide) in enumerate(zip(narrow, wide), 1):
+        what = "the first wide one" if number == 1 else "wide"
+        print(
+            f"publication {number} after opening: by rules 2 before {after_narrow * 1000:6.2f} ms ({what})"
+            f"   by rules 3 before {after_wide * 1000:6.2f} ms   ratio {after_narrow / after_wide:5.2f}"
+        )
 
 
 if __name__ == "__main__":

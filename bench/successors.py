@@ -2,7 +2,7 @@
 """Measures uploads of 3,800 retired records that name successors, which is about what fits in a body. The records make 19
 groups of 200. If a record names one, it is the record before it in its group, and if it names up to five, they are the up
 to five records before it: in both cases all records before it follow it, 100 of them on the average. An upload is taken,
-and its store is opened again, by rules 2, and by rules 1 if one successor is named: Python's sqlite3 writes the rules of
+and its store is opened again, by rules 3, and by rules 1 if one successor is named: Python's sqlite3 writes the rules of
 each entry before, in a copy of the store. Each time is that of one processor, the least of nine runs, less that of the same
 without the upload."""
 import contextlib
@@ -93,11 +93,11 @@ def main():
         for most in (1, 5):
             body = compact({"records": [retired(number, most) for number in range(RECORDS)]})
             lines = f"UPLOAD {OFFICE} 3 ".encode() + body + b"\n"
-            print(f"at most {most}: taken by rules 2     {run(held + lines, 2 * RECORDS) - taken:8.3f} s")
+            print(f"at most {most}: taken by rules 3     {run(held + lines, 2 * RECORDS) - taken:8.3f} s")
             store = folder / f"{most}.db"
             copy(plain, store)
             answer(["--store", store], lines, RECORDS)
-            for rules in (1, 2) if most == 1 else (2,):
+            for rules in (1, 3) if most == 1 else (3,):
                 took = opening_by(rules, store, folder, 4) - opening_by(rules, plain, folder, 3)
                 print(f"at most {most}: replayed by rules {rules}  {took:8.3f} s")
 
