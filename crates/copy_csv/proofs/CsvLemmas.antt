@@ -19,7 +19,7 @@ IsPlain byte = (byte == 34) ≡ false
 
 -- ---- a text
 
--- a quote of a text is read behind the one that stands before it
+-- a quote of a text is read after the one that stands before it
 behind_quote : (b : ℕ) (rest : List ℕ) → (b == 34) ≡ false → text_from (34 ∷ b ∷ rest) false ≡ Some ([], b ∷ rest)
 behind_quote b rest other = ap (λ t. cond t (with_front (34 ∷ []) (text_from rest false)) (Some ([], b ∷ rest))) other
 
@@ -311,7 +311,7 @@ skipped b bytes rest e is = something (behind b bytes) (byte_taken b bytes) e is
 
 -- ---- a line by its fields
 
--- what was put behind other bytes, and what is left
+-- what was put after other bytes, and what is left
 pub record TextRead (byte : ℕ) (made old made' rest : List ℕ) : Type 0 where
   pub text : List ℕ
   pub made_is : made' ≡ made ++ text
@@ -387,31 +387,6 @@ field-utf8 more old text rest utf8 read =
           (subst G (append_assoc (flat_map doubled text) (34 ∷ []) (separator_of more ∷ rest)) inner),
       utf8_behind (quoted text) rest (separator_of more) (low more) all,
     )
-
--- ---- printing
-
-doubled-plain : (part rest : List ℕ) → HasNoQuote part → flat_map doubled (part ++ rest) ≡ part ++ flat_map doubled rest
-doubled-plain [] rest none = refl
-doubled-plain (b ∷ part) rest none =
-    ap (λ t. cond t (34 ∷ 34 ∷ []) (b ∷ []) ++ flat_map doubled (part ++ rest)) (All-head IsPlain b part none)
-    ∙ ap (λ l. b ∷ l) (doubled-plain part rest (All-tail IsPlain b part none))
-
-pub doubled-step : (old made new made' : List ℕ) → TakesPart old made true new made'
-    → (made' ++ 34 ∷ 34 ∷ []) ++ flat_map doubled new ≡ made ++ flat_map doubled old
-doubled-step old made new made' taken =
-    append_assoc made' (34 ∷ 34 ∷ []) (flat_map doubled new)
-    ∙ ap (λ l. l ++ (34 ∷ 34 ∷ flat_map doubled new)) taken.3
-    ∙ append_assoc made taken.0 (34 ∷ 34 ∷ flat_map doubled new)
-    ∙ ap (λ l. made ++ l) (sym (doubled-plain taken.0 (34 ∷ new) taken.2))
-    ∙ ap (λ l. made ++ flat_map doubled l) (sym taken.1)
-
-pub doubled-end : (old made : List ℕ) → HasNoQuote old → made ++ old ≡ made ++ flat_map doubled old
-doubled-end old made none = ap (λ l. made ++ l) (sym (append-nil old) ∙ sym (doubled-plain old [] none) ∙ ap (flat_map doubled) (append-nil old))
-
-pub part-less : (old made new made' : List ℕ) → TakesPart old made true new made' → length new < length old
-part-less old made new made' taken =
-    let long : length old ≡ length taken.0 + suc (length new) = ap length taken.1 ∙ length-append taken.0 (34 ∷ new) in
-    omega arith
 
 -- ---- the rest of a line is UTF-8
 

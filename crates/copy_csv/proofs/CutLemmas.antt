@@ -59,7 +59,7 @@ holds_at bytes [] k d all within = absurd (omega arith)
 holds_at bytes (span ∷ spans) zero d all within = left _ _ all
 holds_at bytes (span ∷ spans) (suc k) d all within = holds_at bytes spans k d (right _ _ all) (omega arith)
 
--- bytes behind those that are there change no part
+-- bytes after those that are there change no part
 part-longer : (bytes more : List ℕ) (span : Span) → Holds bytes span → part (bytes ++ more) span ≡ part bytes span
 part-longer bytes more span h =
     let o : span.start ≤ span.end = h.ordered in
@@ -139,7 +139,7 @@ span-of_later ends (suc k) start end some within from to =
 
 -- ---- texts
 
--- a text behind the others
+-- a text after the others
 pub cut-push : (bytes text ends : List ℕ) (end : ℕ) → IsCut bytes ends → end ≡ length (bytes ++ text)
     → cut (bytes ++ text) (ends ++ end ∷ []) ≡ cut bytes ends ++ text ∷ []
 cut-push bytes text ends end is to =
@@ -209,7 +209,7 @@ text-at bytes ends place start end is first last found =
       | inr is ↦ ap (λ b. cond b [] (get_or texts (place - 1) [])) is.0
     ]
 
--- ---- all texts, one behind the other
+-- ---- all texts, one after the other
 
 joined-spans : (bytes : List ℕ) (start : ℕ) (ends : List ℕ) → start ≤ length bytes → list_all (holds_text bytes) (spans start ends) ≡ true
     → concat (map (part bytes) (spans start ends)) ++ drop (last_end start ends) bytes ≡ drop start bytes

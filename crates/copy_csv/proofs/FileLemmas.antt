@@ -1,5 +1,5 @@
--- Whole files: the head that tells the width, and the lines behind it.
-use Rattle.std.proofs.Common.{◌≡◌, ◌≢◌, ℕ, ◌+◌, ◌<◌, ◌==◌, Bool, true, false, Option, None, Some, List, [], ◌∷◌, ◌++◌, length, take, drop, refl, sym, ap, subst, ◌∙◌, arith, append_assoc, zero-add}
+-- Whole files: the head that tells the width, and the lines after it.
+use Rattle.std.proofs.Common.{◌≡◌, ◌≢◌, ℕ, ◌+◌, ◌<◌, ◌==◌, Bool, true, false, Option, None, Some, List, [], ◌∷◌, ◌++◌, length, take, drop, refl, sym, ap, subst, ◌∙◌, arith, zero-add}
 use Rattle.std.specs.Prelude.{Err, codes, flat_map, IsErrOf, IsTrue}
 use Rattle.std.specs.Cmp.Lexicographic.{pointwise}
 use Rattle.std.specs.List.{All}
@@ -67,7 +67,7 @@ one_width names are sheet false false a b two too e = refl
 one_width names are sheet true false a b two too e = absurd (heads-differ names are sheet (two refl) b a (sym e))
 one_width names are sheet false true a b two too e = absurd (heads-differ names are sheet (too refl) a b e)
 
--- where no lines stand behind either head, none do behind that of any width
+-- where no lines stand after either head, none do after that of any width
 lines-none : (names : Bool → Sheet → List Text) → AreNames names → (sheet : Sheet) (bytes narrow wide : List ℕ)
     → narrow ≡ line (names false sheet) → wide ≡ line (names true sheet) → FindsBehind narrow wide bytes None
     → (width : Bool) (lines : List ℕ) → HasLines names sheet bytes width lines → ⊥
@@ -78,7 +78,7 @@ lines-none names are sheet bytes narrow wide narrow_is wide_is none true lines h
     (λ others e. heads-differ names are sheet (has.wide_is refl) others lines
     (ap (λ l. l ++ others) (sym narrow_is) ∙ sym e ∙ has.whole)) (has.whole ∙ ap (λ l. l ++ lines) (sym wide_is))
 
--- what was found behind the one of two heads
+-- what was found after the one of two heads
 pub lines-found : (names : Bool → Sheet → List Text) → AreNames names → (sheet : Sheet) (bytes narrow wide : List ℕ)
     → narrow ≡ line (names false sheet) → wide ≡ line (names true sheet) → (found : Option (Bool × List ℕ))
     → FindsBehind narrow wide bytes found → FindsLines names sheet bytes found
@@ -108,11 +108,10 @@ comma wide sheet = separator-of (names_shown wide sheet) ∙ ap separator_of (le
     is wide Sheet.Rr = refl
     is wide Sheet.Repex = refl
 
-pub delta-head : (wide : Bool) (sheet : Sheet) (out next after text : List ℕ) → out ≡ [] → text ≡ codes "Delta.Action"
-    → next ≡ out ++ (quoted text ++ 44 ∷ []) → after ≡ next ++ line (names_shown wide sheet) → after ≡ line (delta_names wide sheet)
-delta-head wide sheet out next after text none is one two =
-    two ∙ ap (λ l. l ++ line (names_shown wide sheet)) (one ∙ (λ i. none i ++ (quoted (is i) ++ 44 ∷ [])))
-    ∙ append_assoc (quoted (codes "Delta.Action")) (44 ∷ []) (line (names_shown wide sheet))
+pub delta-head : (wide : Bool) (sheet : Sheet) (out next after : List ℕ) → out ≡ [] → next ≡ out ++ codes "\"Delta.Action\","
+    → after ≡ next ++ line (names_shown wide sheet) → after ≡ line (delta_names wide sheet)
+delta-head wide sheet out next after none one two =
+    two ∙ ap (λ l. l ++ line (names_shown wide sheet)) (one ∙ ap (λ l. l ++ codes "\"Delta.Action\",") none)
     ∙ ap (λ b. quoted (codes "Delta.Action") ++ (b ∷ line (names_shown wide sheet))) (sym (comma wide sheet))
 
 -- ---- whole files
@@ -158,7 +157,7 @@ begins-not head bytes rest test is =
     let same : take (length head) bytes ≡ head = ap (take (length head)) is ∙ take-append_seam head rest in
     false≢true (sym test ∙ (bytes_eq-Decides (take (length head) bytes) head).1 same)
 
--- a copy is the lines of its rows behind its head
+-- a copy is the lines of its rows after its head
 row_lines : (sheet : Sheet) (bytes : List ℕ) (wide : Bool) (rows : List SheetRow) → IsCsvCopy sheet bytes wide rows
     → HasLines names_shown sheet bytes wide (flat_map (row_line wide) rows)
 row_lines sheet bytes wide rows is = record {

@@ -6,3 +6,4 @@ pub mod LineLemmas
 pub mod FileLemmas
 pub mod SheetLemmas
 pub mod WidthLemmas
+pub mod RecordLemmas

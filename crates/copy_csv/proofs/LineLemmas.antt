@@ -1,12 +1,12 @@
 -- Lines of rows and of changes.
-use Rattle.std.proofs.Common.{◌≡◌, ◌≢◌, ℕ, zero, suc, ◌+◌, ◌-◌, ◌<◌, ◌≤◌, ◌==◌, Bool, true, false, ◌&&◌, cond, inl, inr, get_or, Option, None, Some, List, [], ◌∷◌, ◌++◌, length, take, drop, refl, sym, ap, subst, ◌∙◌, arith, append_assoc}
+use Rattle.std.proofs.Common.{◌≡◌, ◌≢◌, ℕ, zero, suc, ◌+◌, ◌-◌, ◌<◌, ◌==◌, Bool, true, false, ◌&&◌, cond, inl, inr, get_or, Option, None, Some, List, [], ◌∷◌, ◌++◌, length, take, drop, refl, sym, ap, subst, ◌∙◌, arith, append_assoc}
 use Rattle.std.specs.Prelude.{codes, flat_map, if◌then◌else◌, replicate, unwrap_or}
-use Rattle.std.specs.List.{All, concat, list_all}
+use Rattle.std.specs.List.{All, list_all}
 use Rattle.std.specs.Str.{IsUtf8, is_utf8}
 use Rattle.std.proofs.lemmas.Bool.Decides.{eqb_tells}
 use Rattle.std.proofs.lemmas.Grind.{flat_map-append}
-use Rattle.std.proofs.lemmas.List.{append-nil, drop_all, drop_more, get_or-take, length-drop, length-take-le, take-append-drop, take_all, take_at}
-use Rattle.std.proofs.lemmas.List.Elements.{All-head, All-tail, All-take}
+use Rattle.std.proofs.lemmas.List.{append-nil, get_or-take, length-take-le, take-append-drop, take_all}
+use Rattle.std.proofs.lemmas.List.Elements.{All-head, All-tail}
 use Rattle.std.proofs.lemmas.Str.{IsUtf8-append, IsUtf8-from_is_utf8, IsUtf8-nil}
 use Rattle.lei_records.specs.Fields.{exception_fields, fields, relation_fields}
 use Rattle.lei_records.specs.Rows.{text_at}
@@ -15,13 +15,11 @@ use Rattle.lei_code.specs.Texts.{Text}
 use Rattle.copy_csv.specs.declared.rows.Change.{Change}
 use Rattle.register_words.specs.declared.sheets.Sheet.{Sheet}
 use Rattle.copy_csv.specs.Csv.{after_comma, change_line, doubled, fields_text, line, quoted, row_line, row_start, row_tail, separator}
-use Rattle.copy_csv.specs.CsvReading.{line_from, separator_of}
+use Rattle.copy_csv.specs.CsvReading.{line_from}
 use Rattle.copy_csv.specs.Rows.{IsChangeIn, IsChangeOf, IsRowIn, IsRowOf}
 use Rattle.copy_csv.specs.Sheets.{IsRow, SheetRow, columns, fits, is_key_alone, names, names_shown, row_of, shown, width}
-use Rattle.copy_csv.specs.Taking.{HasNoQuote, Reads, closing_of, drop_bytes, put_bytes}
-use Rattle.copy_csv.proofs.CsvLemmas.{IsPlain, LineTaken, line_again, line_taken, separator-of}
-use Rattle.copy_csv.proofs.RowLemmas.{All-behind}
-use Rattle.copy_csv.proofs.SheetLemmas.{text-at}
+use Rattle.copy_csv.specs.Taking.{Reads, drop_bytes, put_bytes}
+use Rattle.copy_csv.proofs.CsvLemmas.{LineTaken, line_again, line_taken}
 use Rattle.copy_csv.proofs.Utf8Lemmas.{utf8_behind, utf8_doubled, utf8_joined}
 use Rattle.copy_csv.proofs.WidthLemmas.{columns-all, columns-within, filled-fits, filled-shown, left_out-empty, length-shown, same_shown, shown-some}
 
@@ -96,7 +94,7 @@ put_text = refl
 drop_text : codes "DROP" ≡ 68 ∷ 82 ∷ 79 ∷ 80 ∷ []
 drop_text = refl
 
--- the line of a change is that of its row behind what becomes of it
+-- the line of a change is that of its row after what becomes of it
 pub put-line : (texts : List Text) → 0 < length texts → line (codes "PUT" ∷ texts) ≡ put_bytes ++ line texts
 put-line [] some = absurd (omega arith)
 put-line (text ∷ texts) some = ap (λ l. quoted l ++ (44 ∷ line (text ∷ texts))) put_text
@@ -105,14 +103,14 @@ pub drop-line : (texts : List Text) → 0 < length texts → line (codes "DROP" 
 drop-line [] some = absurd (omega arith)
 drop-line (text ∷ texts) some = ap (λ l. quoted l ++ (44 ∷ line (text ∷ texts))) drop_text
 
--- the rest behind what becomes of the key is UTF-8
+-- the rest after what becomes of the key is UTF-8
 pub put-utf8 : (rest : List ℕ) → IsUtf8 (put_bytes ++ rest) → IsUtf8 rest
 put-utf8 rest is = utf8_behind (34 ∷ 80 ∷ 85 ∷ 84 ∷ 34 ∷ []) rest 44 (omega arith) is
 
 pub drop-utf8 : (rest : List ℕ) → IsUtf8 (drop_bytes ++ rest) → IsUtf8 rest
 drop-utf8 rest is = utf8_behind (34 ∷ 68 ∷ 82 ∷ 79 ∷ 80 ∷ 34 ∷ []) rest 44 (omega arith) is
 
--- the line of a change, behind what becomes of its key
+-- the line of a change, after what becomes of its key
 pub put-print : (sheet : Sheet) (wide : Bool) (row : SheetRow) (rest : List ℕ) → IsRowOf sheet row
     → change_line wide (Change.Put row) ++ rest ≡ put_bytes ++ (row_line wide row ++ rest)
 put-print sheet wide row rest is = ap (λ l. l ++ rest) (put-line (shown wide row) (shown-some sheet wide row is))
@@ -136,7 +134,7 @@ cut_put a b e = ap (drop 6) e
 cut_drop : (a b : List ℕ) → drop_bytes ++ a ≡ drop_bytes ++ b → a ≡ b
 cut_drop a b e = ap (drop 7) e
 
--- a row behind `PUT`
+-- a row after `PUT`
 pub put-read : (sheet : Sheet) (wide : Bool) (row : SheetRow) (old new : List ℕ) → Reads (row_line wide) (IsRowIn sheet wide) old (Some row) new
     → Reads (change_line wide) (IsChangeIn sheet wide) (put_bytes ++ old) (Some (Change.Put row)) new
 put-read sheet wide row old new read =
@@ -147,7 +145,7 @@ pub put-none : (sheet : Sheet) (wide : Bool) (old new : List ℕ) → Reads (row
 put-none sheet wide old new none (Change.Put row) rest is e = none row rest (is.0.0, is.1) (cut_put old (row_line wide row ++ rest) (e ∙ put-print sheet wide row rest is.0.0))
 put-none sheet wide old new none (Change.Drop row) rest is e = put≢drop old (row_line wide row ++ rest) (e ∙ drop-print sheet wide row rest is.0.0)
 
--- a row behind `DROP`
+-- a row after `DROP`
 pub drop-read : (sheet : Sheet) (wide : Bool) (row : SheetRow) (old new : List ℕ) → Reads (row_line wide) (IsRowIn sheet wide) old (Some row) new
     → is_key_alone row ≡ true → Reads (change_line wide) (IsChangeIn sheet wide) (drop_bytes ++ old) (Some (Change.Drop row)) new
 drop-read sheet wide row old new read alone =
@@ -206,7 +204,7 @@ length-names_shown wide sheet =
     let within = columns-within wide sheet in
     length-take-le (columns wide sheet) (names sheet) (omega arith)
 
-text_at-next : (xs : List Text) (i : ℕ) → text_at xs (i + 1) ≡ get_or xs i []
+pub text_at-next : (xs : List Text) (i : ℕ) → text_at xs (i + 1) ≡ get_or xs i []
 text_at-next xs i = elim (eqb_tells (i + 1) 0) [
   | inl is ↦ absurd (let wrong : i + 1 ≡ 0 = is.1 in omega arith)
   | inr is ↦
@@ -217,67 +215,6 @@ text_at-next xs i = elim (eqb_tells (i + 1) 0) [
 -- the texts before a place are those of the front up to there
 pub text_at-take : (xs : List Text) (n i : ℕ) → i < n → text_at xs (i + 1) ≡ text_at (take n xs) (i + 1)
 text_at-take xs n i before = text_at-next xs i ∙ sym (get_or-take n xs i [] before) ∙ sym (text_at-next (take n xs) i)
-
--- one more field is put
-pub put-step : (xs : List Text) (i : ℕ) (out out' text : List ℕ) (byte : ℕ) → i < length xs
-    → out' ≡ out ++ (quoted text ++ byte ∷ []) → text ≡ text_at xs (i + 1) → byte ≡ separator_of (length xs - i - 1)
-    → out' ++ line (drop (i + 1) xs) ≡ out ++ line (drop i xs)
-put-step xs i out out' text byte within put text_is byte_is =
-    let rest : List Text = drop (i + 1) xs in
-    let left : length rest ≡ length xs - i - 1 = length-drop (i + 1) xs ∙ omega arith in
-    let follows : byte ≡ separator rest = byte_is ∙ ap separator_of (sym left) ∙ sym (separator-of rest) in
-    ap (λ l. l ++ line rest) put
-    ∙ append_assoc out (quoted text ++ byte ∷ []) (line rest)
-    ∙ ap (λ l. out ++ l) (append_assoc (quoted text) (byte ∷ []) (line rest)
-    ∙ (λ j. quoted ((text_is ∙ text_at-next xs i) j) ++ (follows j ∷ line rest)))
-    ∙ ap (λ l. out ++ line l) (sym (drop_more xs i [] within))
-
--- ---- fields whose quotes are put with the texts
-
-abbrev closes : List Text → List ℕ
-closes [] = 34 ∷ []
-closes (text ∷ texts) = 34 ∷ 44 ∷ 34 ∷ []
-
--- fields behind the first quote
-abbrev pub opened : List Text → List ℕ
-opened [] = []
-opened (text ∷ texts) = flat_map doubled text ++ (closes texts ++ opened texts)
-
-fields-opened : (texts : List Text) → 0 < length texts → fields_text texts ≡ 34 ∷ opened texts
-fields-opened [] some = absurd (omega arith)
-fields-opened (text ∷ []) some = append-nil (quoted text)
-fields-opened (text ∷ next ∷ texts) some =
-    ap (λ l. quoted text ++ (44 ∷ l)) (fields-opened (next ∷ texts) (omega arith))
-    ∙ ap (λ l. 34 ∷ l) (append_assoc (flat_map doubled text) (34 ∷ []) (44 ∷ 34 ∷ opened (next ∷ texts)))
-
-closes-of : (texts : List Text) → closes texts ≡ closing_of (length texts)
-closes-of [] = refl
-closes-of (text ∷ texts) = refl
-
--- one more text is put, with what closes it
-pub opened-step : (xs : List Text) (i : ℕ) (out mid out' text close : List ℕ) → i < length xs
-    → mid ≡ out ++ flat_map doubled text → text ≡ text_at xs (i + 1) → out' ≡ mid ++ close → close ≡ closing_of (length xs - i - 1)
-    → out' ++ opened (drop (i + 1) xs) ≡ out ++ opened (drop i xs)
-opened-step xs i out mid out' text close within put text_is closed close_is =
-    let rest : List Text = drop (i + 1) xs in
-    let left : length rest ≡ length xs - i - 1 = length-drop (i + 1) xs ∙ omega arith in
-    let follows : close ≡ closes rest = close_is ∙ ap closing_of (sym left) ∙ sym (closes-of rest) in
-    ap (λ l. l ++ opened rest) (closed ∙ (λ j. put j ++ follows j))
-    ∙ append_assoc (out ++ flat_map doubled text) (closes rest) (opened rest)
-    ∙ append_assoc out (flat_map doubled text) (closes rest ++ opened rest)
-    ∙ ap (λ l. out ++ (flat_map doubled l ++ (closes rest ++ opened rest))) (text_is ∙ text_at-next xs i)
-    ∙ ap (λ l. out ++ opened l) (sym (drop_more xs i [] within))
-
-pub opened-begin : (xs : List Text) (from : ℕ) (out out' : List ℕ) → from < length xs → out' ≡ out ++ 34 ∷ []
-    → out' ++ opened (drop from xs) ≡ out ++ fields_text (drop from xs)
-opened-begin xs from out out' some put =
-    let rest : List Text = drop from xs in
-    let left : length rest ≡ length xs - from = length-drop from xs in
-    ap (λ l. l ++ opened rest) put ∙ append_assoc out (34 ∷ []) (opened rest)
-    ∙ ap (λ l. out ++ l) (sym (fields-opened rest (omega arith)))
-
-pub opened-end : (xs : List Text) (i : ℕ) (out all : List ℕ) → length xs ≤ i → out ++ opened (drop i xs) ≡ all → out ≡ all
-opened-end xs i out all behind is = sym (append-nil out) ∙ ap (λ l. out ++ opened l) (sym (drop_all i xs behind)) ∙ is
 
 -- ---- a line by its fields
 
@@ -312,42 +249,10 @@ pub tail-empty : (sheet : Sheet) (row : SheetRow) → IsRowIn sheet false row
     → row_tail row ≡ flat_map after_comma (replicate (width sheet - columns false sheet) [])
 tail-empty sheet row is = ap (flat_map after_comma) (left_out-empty sheet false row is)
 
--- the fields of a line are put, and LF
-pub row-put : (wide : Bool) (row : SheetRow) (count : ℕ) (out next after : List ℕ) → IsRow row → count ≡ columns wide row.sheet
-    → next ≡ out ++ fields_text (drop 0 (take count row.texts)) → after ≡ next ++ 10 ∷ [] → after ≡ out ++ row_line wide row
-row-put wide row count out next after is count_is put end =
-    end ∙ ap (λ l. l ++ 10 ∷ []) (put ∙ ap (λ n. out ++ fields_text (take n row.texts)) count_is)
-    ∙ append_assoc out (fields_text (shown wide row)) (10 ∷ [])
-    ∙ ap (λ l. out ++ l) (line-fields (shown wide row) (shown-some row.sheet wide row (is, refl)))
-
-comma-fields : (texts : List Text) → 0 < length texts → 44 ∷ fields_text texts ≡ flat_map after_comma texts
+-- fields with a comma before each
+pub comma-fields : (texts : List Text) → 0 < length texts → 44 ∷ fields_text texts ≡ flat_map after_comma texts
 comma-fields [] some = absurd (omega arith)
 comma-fields (text ∷ texts) some = refl
-
--- a comma is put, and the fields that a narrow line lacks
-pub tail-put : (row : SheetRow) (narrow full : ℕ) (out next after : List ℕ) → IsRow row → narrow ≡ columns false row.sheet
-    → full ≡ width row.sheet → narrow < full → next ≡ out ++ 44 ∷ [] → after ≡ next ++ fields_text (drop narrow (take full row.texts))
-    → after ≡ out ++ row_tail row
-tail-put row narrow full out next after is narrow_is full_is some comma put =
-    let all : length row.texts ≡ full = is.full ∙ sym full_is in
-    let left : length (drop narrow row.texts) ≡ length row.texts - narrow = length-drop narrow row.texts in
-    put ∙ (λ i. comma i ++ fields_text (drop narrow (take_all full row.texts (omega arith) i)))
-    ∙ append_assoc out (44 ∷ []) (fields_text (drop narrow row.texts))
-    ∙ ap (λ l. out ++ l) (comma-fields (drop narrow row.texts) (omega arith))
-    ∙ ap (λ n. out ++ flat_map after_comma (drop n row.texts)) narrow_is
-
--- where none of several texts has a quote
-pub none-quoted : (texts : List Text) (place : ℕ) → HasNoQuote (concat texts) → 1 ≤ place → HasNoQuote (text_at texts place)
-none-quoted texts place none first =
-    let F : List ℕ → Type 0 = HasNoQuote in
-    subst F (sym (text-at texts place first)) (found texts (place - 1) none)
-  where
-    found : (texts : List Text) (k : ℕ) → HasNoQuote (concat texts) → HasNoQuote (get_or texts k [])
-    found [] k all = all
-    found (text ∷ texts) zero all =
-        let F : List ℕ → Type 0 = HasNoQuote in
-        subst F (take_at text (concat texts) (length text) refl) (All-take IsPlain (length text) (text ++ concat texts) all)
-    found (text ∷ texts) (suc k) all = found texts k (All-behind IsPlain text (concat texts) all)
 
 -- ---- what is printed is UTF-8
 

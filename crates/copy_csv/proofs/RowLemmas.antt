@@ -1,4 +1,4 @@
--- Lists that are printed one item behind the other, and read so again.
+-- Lists that are printed one item after the other, and read so again.
 use Rattle.std.proofs.Common.{◌≡◌, ◌≢◌, ℕ, zero, suc, ◌+◌, ◌-◌, ◌<◌, inl, inr, true, false, None, Some, List, [], ◌∷◌, ◌++◌, length, get_or, map, refl, sym, ap, subst, ◌∙◌, arith, append_assoc, length-append}
 use Rattle.std.specs.Prelude.{flat_map}
 use Rattle.std.specs.List.{All, slice_get}
@@ -41,7 +41,7 @@ behind_is key y made x =
     ap (λ n. comes_after key (slice_get (y ∷ made) n) x) last
     ∙ ap (λ o. comes_after key o x) (got (y ∷ made) (length made) x (omega arith))
 
--- the last key of a list and the one behind it
+-- the last key of a list and the one after it
 pub behind_last : {X : Type 0} (key : X → KeyTexts) (made : List X) (x : X) (more : List X) → AreRising (map key (made ++ x ∷ more))
     → is_behind key made x ≡ true
 behind_last key [] x more rising = refl
@@ -94,7 +94,7 @@ pub rising-nil : AreRising []
 unfolding IsStrictlySortedBy
 rising-nil = tt
 
--- one more behind the last
+-- one more after the last
 pub rising-push : {X : Type 0} (key : X → KeyTexts) (made : List X) (x : X) → AreRising (map key made) → is_behind key made x ≡ true
     → AreRising (map key (made ++ x ∷ []))
 rising-push key [] x rising behind = sorted_from_all_adjacent key_total (key x ∷ []) [] (λ k within. absurd (omega arith))
@@ -106,7 +106,7 @@ rising-push key (y ∷ made) x rising behind =
 module _ {X : Type 0} (print : X → List ℕ) (Good : X → Type 0) (key : X → KeyTexts)
     (one_way : (x y : X) (a b : List ℕ) → Good x → Good y → print x ++ a ≡ print y ++ b → (x ≡ y) × (a ≡ b))
     (some : (x : X) (rest : List ℕ) → Good x → print x ++ rest ≢ []) where
-  -- how a list goes on behind the items that were read
+  -- how a list goes on after the items that were read
   record GoesOn (made xs : List X) (rest : List ℕ) : Type 0 where
     more : List X
     is : xs ≡ made ++ more
@@ -158,7 +158,7 @@ module _ {X : Type 0} (print : X → List ℕ) (Good : X → Type 0) (key : X �
       next [] goods is = absurd (let none_left : length old ≡ 0 = ap length is in omega arith)
       next (x ∷ more) goods is = none x (flat_map print more) (All-head Good x more goods) is
 
-  -- where the next one isn't behind the last, no list with rising keys is printed so
+  -- where the next one isn't after the last, no list with rising keys is printed so
   pub not_behind : (all : List ℕ) (made : List X) (x : X) (old new : List ℕ) → All Good made → all ≡ flat_map print made ++ old
       → Reads print Good old (Some x) new → is_behind key made x ≡ false → (xs : List X) → AreRead print Good key all xs → ⊥
   not_behind all made x old new good e read behind xs are =

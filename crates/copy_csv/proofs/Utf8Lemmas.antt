@@ -11,7 +11,7 @@ use Rattle.copy_csv.specs.Csv.{doubled}
 pub utf8_byte : (b : ℕ) → b < 128 → IsUtf8 (b ∷ [])
 utf8_byte b low = IsUtf8-from_ascii (b ∷ []) (search (rules, low))
 
--- what stands before and behind an ASCII byte
+-- what stands before and after an ASCII byte
 pub utf8_before : (front back : List ℕ) (b : ℕ) → b < 128 → IsUtf8 (front ++ b ∷ back) → IsUtf8 front
 utf8_before front back b low is =
     let all : List ℕ = front ++ b ∷ back in

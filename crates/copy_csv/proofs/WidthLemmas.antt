@@ -84,7 +84,7 @@ left_out-empty sheet wide row is =
     absent-all (left_out wide row) is.1
     ∙ ap (λ m. replicate m []) (length-drop (columns wide row.sheet) row.texts ∙ (λ i. row_width sheet row is.0 i - columns wide (is.0.1 i)))
 
--- so it is what is shown of it, with empty texts behind that
+-- so it is what is shown of it, with empty texts after that
 pub fitted : (sheet : Sheet) (wide : Bool) (row : SheetRow) → IsRowIn sheet wide row
     → row.texts ≡ shown wide row ++ replicate (width sheet - columns wide sheet) []
 fitted sheet wide row is =

@@ -17,7 +17,7 @@ doubled byte = if byte == 34 then 34 ∷ 34 ∷ [] else byte ∷ []
 abbrev pub quoted : Text → Text
 quoted text = 34 ∷ (flat_map doubled text ++ 34 ∷ [])
 
--- What stands behind a field: a comma before a further one, and LF behind the last.
+-- What stands after a field: a comma before a further one, and LF after the last.
 abbrev pub separator : List Text → ℕ
 separator [] = 10
 separator (text ∷ texts) = 44
@@ -31,10 +31,14 @@ line (text ∷ texts) = quoted text ++ (separator texts ∷ line texts)
 abbrev pub row_line : Bool → SheetRow → Text
 row_line wide row = line (shown wide row)
 
--- The line of a change: its first field says what becomes of the key.
+-- The fields of a change: what becomes of the key, and the texts of its row.
+abbrev pub change_fields : Bool → Change → List Text
+change_fields wide (Change.Put row) = codes "PUT" ∷ shown wide row
+change_fields wide (Change.Drop row) = codes "DROP" ∷ shown wide row
+
+-- The line of a change.
 abbrev pub change_line : Bool → Change → Text
-change_line wide (Change.Put row) = line (codes "PUT" ∷ shown wide row)
-change_line wide (Change.Drop row) = line (codes "DROP" ∷ shown wide row)
+change_line wide change = line (change_fields wide change)
 
 -- The names at the head of a delta: what becomes of the key, and the fields.
 abbrev pub delta_names : Bool → Sheet → List Text

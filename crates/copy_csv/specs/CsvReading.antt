@@ -3,7 +3,7 @@ use Rattle.std.specs.Prelude.{ℕ, zero, suc, List, [], ◌∷◌, ◌++◌, ◌
 use Rattle.std.specs.Option.{option_map}
 use Rattle.lei_code.specs.Texts.{Text}
 
--- The rest behind a byte, where this byte stands first.
+-- The rest after a byte, where this byte stands first.
 abbrev pub behind : ℕ → List ℕ → Option (List ℕ)
 behind byte [] = None
 behind byte (first ∷ bytes) = if first == byte then Some bytes else None
@@ -13,7 +13,7 @@ abbrev pub with_front : List ℕ → Option (List ℕ × List ℕ) → Option (L
 with_front made None = None
 with_front made (Some read) = Some (made ++ read.0, read.1)
 
--- The text before its closing quote, and the rest behind that. The flag tells that a quote stands before the bytes,
+-- The text before its closing quote, and the rest after that. The flag tells that a quote stands before the bytes,
 -- which closes the text unless another one follows it.
 abbrev pub text_from : List ℕ → Bool → Option (List ℕ × List ℕ)
 text_from [] true = Some ([], [])
@@ -23,17 +23,17 @@ text_from (byte ∷ bytes) true =
 text_from (byte ∷ bytes) false =
     if byte == 34 then text_from bytes true else with_front (byte ∷ []) (text_from bytes false)
 
--- What was read, where this byte stands behind it, and the rest behind the byte.
+-- What was read, where this byte stands after it, and the rest after the byte.
 abbrev pub before_byte : ℕ → Option (List ℕ × List ℕ) → Option (List ℕ × List ℕ)
 before_byte byte None = None
 before_byte byte (Some read) = option_map (λ rest. (read.0, rest)) (behind byte read.1)
 
--- The text behind an opening quote, if there is one, and the rest behind the byte that follows its closing quote.
+-- The text after an opening quote, if there is one, and the rest after the byte that follows its closing quote.
 abbrev pub text_in : ℕ → Option (List ℕ) → Option (List ℕ × List ℕ)
 text_in byte None = None
 text_in byte (Some rest) = before_byte byte (text_from rest false)
 
--- The text of a field that this byte follows, and the rest behind the byte.
+-- The text of a field that this byte follows, and the rest after the byte.
 abbrev pub field_from : ℕ → List ℕ → Option (List ℕ × List ℕ)
 field_from byte bytes = text_in byte (behind 34 bytes)
 
@@ -52,7 +52,7 @@ abbrev pub with_texts : List Text → Option (List Text × List ℕ) → Option 
 with_texts texts None = None
 with_texts texts (Some read) = Some (texts ++ read.0, read.1)
 
--- The texts of a line of so many fields, and the rest behind it.
+-- The texts of a line of so many fields, and the rest after it.
 abbrev pub line_from : ℕ → List ℕ → Option (List Text × List ℕ)
 line_from zero bytes = Some ([], bytes)
 line_from (suc more) bytes = elim (field_from (separator_of more) bytes) [

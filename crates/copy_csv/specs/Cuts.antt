@@ -9,7 +9,7 @@ pub record Span : Type 0 where
   pub start : ℕ
   pub end : ℕ
 
--- Parts that lie one behind the other, the first of them from a place on, by where each ends.
+-- Parts that lie one after the other, the first of them from a place on, by where each ends.
 abbrev pub spans : ℕ → List ℕ → List Span
 spans start [] = []
 spans start (end ∷ ends) = record { start = start; end = end } ∷ spans end ends

@@ -66,7 +66,7 @@ pub record IsRow (row : SheetRow) : Type 0 where
 abbrev pub key : SheetRow → KeyTexts
 key row = take (key_len row.sheet) row.texts
 
--- All texts behind its key are empty.
+-- All texts after its key are empty.
 abbrev pub is_key_alone : SheetRow → Bool
 is_key_alone row = list_all (λ text. bytes_eq text (codes "")) (drop (key_len row.sheet) row.texts)
 

@@ -1,5 +1,5 @@
 -- What calls that read CSV take of what is left to read, and what they make of it.
-use Rattle.std.specs.Prelude.{◌≡◌, ◌≢◌, ℕ, zero, suc, List, [], ◌∷◌, ◌++◌, ◌==◌, Bool, true, false, Option, None, Some, length, map, flat_map, ◌-◌}
+use Rattle.std.specs.Prelude.{◌≡◌, ◌≢◌, ℕ, List, [], ◌∷◌, ◌++◌, ◌==◌, Bool, true, false, Option, None, Some, length, map, flat_map, ◌-◌}
 use Rattle.std.specs.Borrow.{Bor}
 use Rattle.std.specs.List.{All, slice_get}
 use Rattle.std.specs.Option.{option_map}
@@ -16,12 +16,7 @@ use Rattle.copy_csv.specs.Sheets.{has_widths}
 abbrev pub HasNoQuote : List ℕ → Type 0
 HasNoQuote bytes = All (λ byte. (byte == 34) ≡ false) bytes
 
--- What closes a text and, where more texts follow, opens the next one: a quote, and then a comma and a quote.
-abbrev pub closing_of : ℕ → List ℕ
-closing_of zero = 34 ∷ []
-closing_of (suc more) = 34 ∷ 44 ∷ 34 ∷ []
-
--- The bytes before the next quote were put behind the others and are no longer to be read, nor is the quote; or there
+-- The bytes before the next quote were put after the others and are no longer to be read, nor is the quote; or there
 -- is none, and nothing was changed.
 abbrev pub TakesPart : List ℕ → List ℕ → Bool → List ℕ → List ℕ → Type 0
 TakesPart old made true new made' =
@@ -47,12 +42,12 @@ abbrev pub Reads : {X : Type 0} → (X → List ℕ) → (X → Type 0) → List
 Reads print Good old (Some x) new = (old ≡ print x ++ new) × Good x
 Reads {X} print Good old None new = (x : X) (rest : List ℕ) → Good x → old ≢ print x ++ rest
 
--- The one stands behind another by its key, or there is no other.
+-- The one stands after another by its key, or there is no other.
 abbrev pub comes_after : {X : Type 0} → (X → KeyTexts) → Option X → X → Bool
 comes_after key None x = true
 comes_after key (Some other) x = is_lt (key_cmp (key other) (key x))
 
--- The one stands behind the last of the others by its key, or there are none.
+-- The one stands after the last of the others by its key, or there are none.
 abbrev pub is_behind : {X : Type 0} → (X → KeyTexts) → List X → X → Bool
 is_behind key xs x = comes_after key (slice_get xs (length xs - 1)) x
 
@@ -71,20 +66,20 @@ put_bytes = 34 ∷ 80 ∷ 85 ∷ 84 ∷ 34 ∷ 44 ∷ []
 abbrev pub drop_bytes : List ℕ
 drop_bytes = 34 ∷ 68 ∷ 82 ∷ 79 ∷ 80 ∷ 34 ∷ 44 ∷ []
 
--- The lines that stand behind the head of a file, and the width that the head tells.
+-- The lines that stand after the head of a file, and the width that the head tells.
 pub record HasLines (names : Bool → Sheet → List Text) (sheet : Sheet) (bytes : List ℕ) (wide : Bool)
     (lines : List ℕ) : Type 0 where
   pub whole : bytes ≡ line (names wide sheet) ++ lines
   pub wide_is : wide ≡ true → has_widths sheet ≡ true
   pub utf8 : IsUtf8 lines
 
--- What was found behind the head of a file: its lines and its width, or that the bytes are no head with lines of UTF-8
--- behind it.
+-- What was found after the head of a file: its lines and its width, or that the bytes are no head with lines of UTF-8
+-- after it.
 abbrev pub FindsLines : (Bool → Sheet → List Text) → Sheet → List ℕ → Option (Bool × List ℕ) → Type 0
 FindsLines names sheet bytes (Some found) = HasLines names sheet bytes found.0 found.1
 FindsLines names sheet bytes None = (wide : Bool) (lines : List ℕ) → HasLines names sheet bytes wide lines → ⊥
 
--- What was found behind the one of two fronts that the bytes begin with, where it is UTF-8, and whether this front is
+-- What was found after the one of two fronts that the bytes begin with, where it is UTF-8, and whether this front is
 -- the second one. Where both stand there, the first one counts.
 abbrev pub FindsBehind : List ℕ → List ℕ → List ℕ → Option (Bool × List ℕ) → Type 0
 FindsBehind first second bytes (Some (true, rest)) =

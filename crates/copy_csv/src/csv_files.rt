@@ -8,7 +8,7 @@ ghost use Rattle.copy_csv.specs.Sheets.{SheetRow, names_shown};
 ghost use Rattle.copy_csv.specs.Taking.{FindsBehind, FindsLines, read_lines};
 
 use crate::csv_rows::{read_changes, read_rows};
-use crate::csv_text::{put_field, put_joined, put_names, put_row};
+use crate::csv_text::{put_joined, put_names, put_row};
 use crate::faults::FormFault;
 use crate::heads::{CopyRead, DeltaRead};
 use crate::rows::{RowTexts, TextChange};
@@ -31,13 +31,13 @@ fn delta_head(alloc: Global, sheet: Sheet, wide: bool) -> Result<Vec<u8>, NoMemo
     ensures { IfOk result (λ head. head.items ≡ line (delta_names wide sheet)) }
 {
     let mut head = Vec::new(alloc);
-    put_field(&mut head, "Delta.Action".as_bytes(), b',')?;
+    head.extend_from_slice("\"Delta.Action\",".as_bytes())?;
     put_names(&mut head, wide, sheet)?;
     Ok(head)
 }
 
-/// The lines behind the first line of a copy, and whether this is that of a wide one. None says that the bytes have no
-/// such first line, or aren't UTF-8 behind it.
+/// The lines after the first line of a copy, and whether this is that of a wide one. None says that the bytes have no
+/// such first line, or aren't UTF-8 after it.
 pub fn copy_lines<'a>(
     alloc: Global,
     bytes: &'a [u8],
@@ -153,7 +153,7 @@ pub fn csv_delta_text(
     Ok(Bytes::from(out))
 }
 
-// Puts the line of a change behind the others.
+// Puts the line of a change after the others.
 fn put_change(out: &mut Vec<u8>, wide: bool, change: &TextChange<'_>) -> Result<(), NoMemory>
     ensures { OnOk result (out.new.items ≡ out.old.items ++ text_change_line wide change.now) }
 {
@@ -170,8 +170,8 @@ fn put_change(out: &mut Vec<u8>, wide: bool, change: &TextChange<'_>) -> Result<
     Ok(())
 }
 
-// The bytes behind the one of these two first lines that they begin with, and whether it is the second, where they are
-// UTF-8 behind it.
+// The bytes after the one of these two first lines that they begin with, and whether it is the second, where they are
+// UTF-8 after it.
 fn lines_behind<'a>(bytes: &'a [u8], narrow: &[u8], wide: &[u8]) -> Option<(bool, &'a [u8])>
     ensures { FindsBehind narrow.now wide.now bytes.now (read_lines result) }
 {

@@ -77,8 +77,8 @@ impl<'a> Reader<'a> {
         found
     }
 
-    /// The bytes before the next quote, which are put behind the others. Steps over the quote.
-    pub fn part(&mut self, out: &mut Vec<u8>) -> Result<bool, NoMemory>
+    // Puts the bytes before the next quote after the others, and steps over the quote. False says that no quote is left.
+    fn part(&mut self, out: &mut Vec<u8>) -> Result<bool, NoMemory>
         ensures { IfOk result (λ found. TakesPart self.old out.old.items found self.new out.new.items) }
     {
         let rest = &self.bytes[self.at..];
@@ -143,8 +143,8 @@ impl<'a> Reader<'a> {
     }
 }
 
-/// What follows a field where so many fields follow it in the line.
-pub fn separator(more: usize) -> u8
+// What follows a field if so many fields follow it in the line.
+fn separator(more: usize) -> u8
     ensures { result ≡ separator_of more }
 {
     if more == 0 { b'\n' } else { b',' }

@@ -39,7 +39,7 @@ pub fn read_row(
     }
 }
 
-// These texts, and behind them an empty one for each that they are fewer than so many.
+// These texts, and after them an empty one for each that they are fewer than so many.
 fn filled(mut texts: Texts, count: usize) -> Result<Texts, NoMemory>
     requires { length texts ≤ count }
     ensures { IfOk result (λ all. all ≡ texts ++ replicate (count - length texts) []) }
@@ -50,7 +50,7 @@ fn filled(mut texts: Texts, count: usize) -> Result<Texts, NoMemory>
     Ok(texts)
 }
 
-// The change whose row stands behind `PUT`.
+// The change whose row stands after `PUT`.
 fn read_put(
     alloc: Global,
     sheet: Sheet,
@@ -69,7 +69,7 @@ fn read_put(
     }
 }
 
-// The change whose row stands behind `DROP`.
+// The change whose row stands after `DROP`.
 fn read_drop(
     alloc: Global,
     sheet: Sheet,
@@ -115,7 +115,7 @@ fn read_change(
     Ok(None)
 }
 
-// Whether a row stands behind the last of the others by its key, or there are none.
+// Whether a row stands after the last of the others by its key, or there are none.
 fn is_row_behind(rows: &[Row], row: &Row) -> bool
     requires sheet { All (λ other. other.sheet ≡ row.now.sheet) rows.now }
     ensures { result ≡ is_behind key rows.now row.now }
@@ -179,7 +179,7 @@ pub fn read_rows(
     Ok(List::from(rows))
 }
 
-// Whether a change stands behind the last of the others by its key, or there are none.
+// Whether a change stands after the last of the others by its key, or there are none.
 fn is_change_behind(changes: &[Change], change: &Change) -> bool
     requires sheet { All (λ other. (changed_row other).sheet ≡ (changed_row change.now).sheet) changes.now }
     ensures { result ≡ is_behind changed_key changes.now change.now }

@@ -1,4 +1,4 @@
-//! Where texts end that lie one behind the other.
+//! Where texts end that lie one after the other.
 ghost use Rattle.std.specs.Prelude.{◌≡◌, ◌==◌, ◌<◌, ◌++◌, ◌∷◌, [], length, get_or, IfOk, OnOk, OnErr};
 ghost use Rattle.copy_csv.specs.Cuts.{IsSpan};
 
@@ -6,7 +6,7 @@ use lei_outside::NoMemory;
 use std::alloc::Global;
 use std::marker::Model;
 
-/// Where texts end that lie one behind the other, from 0 on. An end takes 16 bits where it and all before it fit in
+/// Where texts end that lie one after the other, from 0 on. An end takes 16 bits where it and all before it fit in
 /// these, as those of most rows do. Contracts see the list of the ends.
 #[derive(Debug, Drop)]
 pub struct Ends {
@@ -43,7 +43,7 @@ impl Ends {
         })
     }
 
-    /// Puts an end behind the others.
+    /// Puts an end after the others.
     pub fn push(&mut self, end: usize) -> Result<(), NoMemory>
         ensures pushed { OnOk result (self.new ≡ self.old ++ end ∷ []) }
         ensures kept { OnErr result (self.new ≡ self.old) }

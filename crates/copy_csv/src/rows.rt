@@ -69,7 +69,7 @@ impl Row {
         self.texts.text_bytes(place)
     }
 
-    /// All of its texts, one behind the other.
+    /// All of its texts, one after the other.
     pub fn joined(&self) -> &[u8]
         ensures { result.now ≡ concat self.now.texts }
     {
@@ -107,7 +107,7 @@ impl Row {
         matches!(self.order(other), Ordering::Less)
     }
 
-    /// Whether the texts behind its key are empty.
+    /// Whether the texts after its key are empty.
     pub fn is_key_alone(&self) -> bool
         ensures { result ≡ spec.is_key_alone self.now }
     {
@@ -135,7 +135,7 @@ pub struct RowTexts {
 pub enum TextChange<'a> {
     /// The row that the key has now, as its texts.
     Put(&'a RowTexts),
-    /// The key has no row now. Of the row, the texts behind the key are empty.
+    /// The key has no row now. Of the row, the texts after the key are empty.
     Drop(Row),
 }
 
@@ -144,7 +144,7 @@ pub enum TextChange<'a> {
 pub enum Change {
     /// The row that the key has now.
     Put(Row),
-    /// The key has no row now. Of the row, the texts behind the key are empty.
+    /// The key has no row now. Of the row, the texts after the key are empty.
     Drop(Row),
 }
 

@@ -11,7 +11,7 @@ use std::alloc::Global;
 use std::marker::Model;
 use std::str;
 
-/// Texts that lie in one piece of memory, one behind the other. Contracts see the list of them, each by its UTF-8
+/// Texts that lie in one piece of memory, one after the other. Contracts see the list of them, each by its UTF-8
 /// bytes.
 #[derive(Debug, Drop)]
 pub struct Texts {
@@ -60,7 +60,7 @@ impl Texts {
         Texts { bytes, ends }
     }
 
-    /// Puts a text behind the others.
+    /// Puts a text after the others.
     pub fn push(&mut self, text: &str) -> Result<(), NoMemory>
         ensures pushed { OnOk result (self.new ≡ self.old ++ text.now ∷ []) }
         ensures kept { OnErr result (self.new ≡ self.old) }
@@ -92,7 +92,7 @@ impl Texts {
         self.ends.is_empty()
     }
 
-    /// All of them, one behind the other.
+    /// All of them, one after the other.
     pub fn joined(&self) -> &[u8]
         ensures { result.now ≡ concat self.now }
     {

@@ -1,29 +1,23 @@
-use Rattle.std.proofs.Common.{◌≡◌, ℕ, ◌-◌, ◌<◌, ◌≤◌, List, ◌++◌, length, sym, ap, ◌∙◌, arith}
-use Rattle.std.proofs.lemmas.List.{append-nil, drop_all}
+use Rattle.std.proofs.Common.{◌≡◌, ◌≤◌, List, ◌++◌, length, take, ap, subst, ◌∙◌, arith}
+use Rattle.std.specs.Prelude.{OnOk}
 use Rattle.lei_code.specs.Texts.{Text}
+use Rattle.lei_records.specs.Sheets.{read_texts}
 use Rattle.copy_csv.specs.Csv.{line}
-use Rattle.copy_csv.specs.CsvReading.{separator_of}
-use Rattle.copy_csv.specs.Sheets.{columns, names, names_shown}
-use Rattle.copy_csv.proofs.LineLemmas.{length-names_shown, put-step, text_at-take}
+use Rattle.copy_csv.specs.Sheets.{columns, names, names_shown, width}
+use Rattle.copy_csv.proofs.LineLemmas.{names-full}
+use Rattle.copy_csv.proofs.RecordLemmas.{lent-part}
+use Rattle.copy_csv.proofs.WidthLemmas.{columns-within}
 use Rattle.copy_csv.proofs.csv_text.put_names.Goals as goal
-
-pub loop-index-preserved : goal.loop-index-preserved
-loop-index-preserved c =
-    let xs : List Text = names_shown c.args.wide c.args.sheet in
-    let index : ℕ = c.loop-index.index in
-    let count : c.columns-count.result ≡ columns c.args.wide c.args.sheet = c.columns-count.ensures in
-    let long : length xs ≡ columns c.args.wide c.args.sheet = length-names_shown c.args.wide c.args.sheet in
-    let before : index < c.columns-count.result = c.loop-index-test.true in
-    put-step xs index c.loop-index.out.items c.put_field.new.out.items c.as_bytes.result.now c.separator-byte.result (omega arith)
-    c.in_ok-put_field.ensures
-    (c.as_bytes.ensures.value ∙ c.name_at.ensures ∙ text_at-take (names c.args.sheet) (columns c.args.wide c.args.sheet) index (omega arith))
-    (c.separator-byte.ensures ∙ ap (λ n. separator_of (n - index - 1)) (count ∙ sym long)) ∙ c.loop-index.invariant
 
 pub returns : goal.returns
 returns c =
-    let xs : List Text = names_shown c.args.wide c.args.sheet in
-    let count : c.columns-count.result ≡ columns c.args.wide c.args.sheet = c.columns-count.ensures in
-    let long : length xs ≡ columns c.args.wide c.args.sheet = length-names_shown c.args.wide c.args.sheet in
-    let behind : c.columns-count.result ≤ c.loop-index.index = c.loop-index-test.false in
-    sym (append-nil c.loop-index.out.items)
-    ∙ ap (λ l. c.loop-index.out.items ++ line l) (sym (drop_all c.loop-index.index xs (omega arith))) ∙ c.loop-index.invariant
+    let xs : List Text = names c.args.sheet in
+    let full : length xs ≡ width c.args.sheet = names-full c.args.sheet in
+    let count : c.columns.result ≡ columns c.args.wide c.args.sheet = c.columns.ensures in
+    let within : columns c.args.wide c.args.sheet ≤ width c.args.sheet = columns-within c.args.wide c.args.sheet in
+    let lent : read_texts (take (length xs) c.names_of-names.result) ≡ xs =
+    ap (λ n. read_texts (take n c.names_of-names.result)) full ∙ c.names_of-names.ensures in
+    let shown : read_texts (take c.columns.result c.names_of-names.result) ≡ names_shown c.args.wide c.args.sheet =
+    lent-part c.names_of-names.result xs c.columns.result (omega arith) lent ∙ ap (λ n. take n xs) count in
+    let F : List Text → Type 0 = λ l. OnOk c.put_line.result (c.put_line.new.out.items ≡ c.args.out.now.items ++ line l) in
+    subst F shown c.put_line.ensures

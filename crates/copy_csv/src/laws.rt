@@ -1,0 +1,20 @@
+//! What readers of CSV find in copies and deltas.
+ghost use Rattle.std.specs.Prelude.{◌≡◌, ◌<◌, ◌∷◌, [], Bool, List as Items, length, map};
+ghost use Rattle.std.specs.List.{All};
+ghost use Rattle.lei_code.specs.Texts.{Text};
+ghost use Rattle.register_words.specs.declared.sheets.Sheet.{Sheet};
+ghost use Rattle.copy_csv.specs.declared.rows.Change.{Change};
+ghost use Rattle.copy_csv.specs.Csv.{change_fields, csv_copy, csv_delta, delta_names, line};
+ghost use Rattle.copy_csv.specs.Records.{records_read};
+ghost use Rattle.copy_csv.specs.Rows.{IsRowOf};
+ghost use Rattle.copy_csv.specs.Sheets.{SheetRow, names_shown, shown};
+
+/// A reader of the crate `csv` with its default configuration finds in a line its fields; in a copy the names, and for
+/// each row the texts that the copy shows of it; in a delta the names, and for each change its fields.
+pub fn csv_readers_see_each_row()
+    ensures lines { (fields : Items Text) → 0 < length fields → records_read (line fields) ≡ fields ∷ [] }
+    ensures copies { (sheet : Sheet) (wide : Bool) (rows : Items SheetRow) → All (IsRowOf sheet) rows
+        → records_read (csv_copy sheet wide rows) ≡ names_shown wide sheet ∷ map (shown wide) rows }
+    ensures deltas { (sheet : Sheet) (wide : Bool) (changes : Items Change)
+        → records_read (csv_delta sheet wide changes) ≡ delta_names wide sheet ∷ map (change_fields wide) changes }
+{}
