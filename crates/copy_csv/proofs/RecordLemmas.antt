@@ -5,11 +5,11 @@ use Rattle.std.specs.Prelude.{flat_map, map, ⊤}
 use Rattle.std.specs.List.{All, slice_set}
 use Rattle.std.proofs.lemmas.Bool.{ne_eqb}
 use Rattle.std.proofs.lemmas.Bool.Decides.{eqb_tells}
-use Rattle.std.proofs.lemmas.List.{append-nil, drop-take, drop_all, map-append, take_all, take_at, take_more, take_more_set}
+use Rattle.std.proofs.lemmas.List.{append-nil, drop-take, drop_at, map-append, take_all, take_at, take_more, take_more_set}
 use Rattle.std.proofs.lemmas.List.Elements.{All-cons, All-head, All-nil, All-tail}
 use Rattle.csv.specs.Machine.{next_record}
 use Rattle.csv.specs.Reading.{default_config, records_from, records_next, strip_bom}
-use Rattle.csv.specs.Writing.{default_writer, escaped, is_blank, row_text, with_style}
+use Rattle.csv.specs.Writing.{default_writer, escaped, is_blank, row_text, with_flexible, with_style}
 use Rattle.csv.specs.Writing as written
 use Rattle.csv.specs.declared.parser.State.TheVariants as st
 use Rattle.csv.specs.declared.writer.QuoteStyle.{QuoteStyle}
@@ -20,10 +20,10 @@ use Rattle.lei_records.specs.Rows.{text_at}
 use Rattle.lei_records.specs.Sheets.{read_texts}
 use Rattle.register_words.specs.declared.sheets.Sheet.{Sheet}
 use Rattle.copy_csv.specs.declared.rows.Change.{Change}
-use Rattle.copy_csv.specs.Csv.{after_comma, change_fields, csv_copy, csv_delta, delta_names, doubled, fields_text, line, quoted, row_tail, separator}
+use Rattle.copy_csv.specs.Csv.{after_comma, change_fields, csv_copy, csv_delta, delta_names, doubled, fields_text, line, quoted, separator}
 use Rattle.copy_csv.specs.Records.{all_quoted, records_read}
 use Rattle.copy_csv.specs.Rows.{IsRowOf}
-use Rattle.copy_csv.specs.Sheets.{SheetRow, columns, names_shown, shown, width}
+use Rattle.copy_csv.specs.Sheets.{SheetRow, names_shown, shown, width}
 use Rattle.copy_csv.proofs.FileLemmas.{copy-is, delta-is}
 use Rattle.copy_csv.proofs.LineLemmas.{comma-fields, length-names_shown, line-fields, text_at-next}
 use Rattle.copy_csv.proofs.WidthLemmas.{columns-some, shown-some}
@@ -31,22 +31,23 @@ use Rattle.copy_csv.proofs.WidthLemmas.{columns-some, shown-some}
 -- ---- writing
 
 -- in each style, the quotes of a field are doubled
-escaped-doubled : (style : QuoteStyle) (x : Text) → escaped (with_style default_writer style) x ≡ flat_map doubled x
+escaped-doubled : (style : QuoteStyle) (flexible : Bool) (x : Text)
+    → escaped (with_flexible (with_style default_writer style) flexible) x ≡ flat_map doubled x
 unfolding escaped
-escaped-doubled style [] = refl
-escaped-doubled style (b ∷ x) = elim (eqb_tells b 34) [
+escaped-doubled style flexible [] = refl
+escaped-doubled style flexible (b ∷ x) = elim (eqb_tells b 34) [
   | inl is ↦
-      ap (λ t. cond t (34 ∷ b ∷ escaped (with_style default_writer style) x) (b ∷ escaped (with_style default_writer style) x)) is.0
-      ∙ (λ i. 34 ∷ is.1 i ∷ escaped-doubled style x i)
+      ap (λ t. cond t (34 ∷ b ∷ escaped (with_flexible (with_style default_writer style) flexible) x) (b ∷ escaped (with_flexible (with_style default_writer style) flexible) x)) is.0
+      ∙ (λ i. 34 ∷ is.1 i ∷ escaped-doubled style flexible x i)
       ∙ ap (λ t. cond t (34 ∷ 34 ∷ []) (b ∷ []) ++ flat_map doubled x) (sym is.0)
   | inr is ↦
-      ap (λ t. cond t (34 ∷ b ∷ escaped (with_style default_writer style) x) (b ∷ escaped (with_style default_writer style) x)) is.0
-      ∙ ap (λ l. b ∷ l) (escaped-doubled style x)
+      ap (λ t. cond t (34 ∷ b ∷ escaped (with_flexible (with_style default_writer style) flexible) x) (b ∷ escaped (with_flexible (with_style default_writer style) flexible) x)) is.0
+      ∙ ap (λ l. b ∷ l) (escaped-doubled style flexible x)
       ∙ ap (λ t. cond t (34 ∷ 34 ∷ []) (b ∷ []) ++ flat_map doubled x) (sym is.0)
 ]
 
 field-quoted : (x : Text) → written.quoted all_quoted x ≡ quoted x
-field-quoted x = ap (λ l. 34 ∷ (l ++ 34 ∷ [])) (escaped-doubled _ x)
+field-quoted x = ap (λ l. 34 ∷ (l ++ 34 ∷ [])) (escaped-doubled _ _ x)
 
 -- the fields after the first, and the end of the line
 others-written : (xs : List Text) → written.fields_text all_quoted xs ++ 10 ∷ [] ≡ separator xs ∷ line xs
@@ -103,7 +104,7 @@ line-opened x xs rest =
 field-read : (before : List Text) (x : Text) (rest : List ℕ)
     → next_record default_config st.InQuoted before [] (flat_map doubled x ++ 34 ∷ rest) ≡ next_record default_config st.AfterQuote before x rest
 field-read before x rest =
-    ap (λ l. next_record default_config st.InQuoted before [] (l ++ 34 ∷ rest)) (sym (escaped-doubled _ x)) ∙ quoted-run before [] x rest
+    ap (λ l. next_record default_config st.InQuoted before [] (l ++ 34 ∷ rest)) (sym (escaped-doubled _ _ x)) ∙ quoted-run before [] x rest
 
 -- the fields of a line, after its first quote
 fields-read : (before : List Text) (x : Text) (xs : List Text) (rest : List ℕ)
@@ -150,12 +151,12 @@ line-long [] some = absurd (omega arith)
 line-long (x ∷ xs) some = let long : suc (length (drop 1 (line (x ∷ xs)))) ≡ length (line (x ∷ xs)) = refl in omega arith
 
 -- a text is longer than it has lines
-lines-long : {X : Type 0} (fields_of : X → List Text) (Good : X → Type 0) → ((x : X) → Good x → 0 < length (fields_of x))
+rows-long : {X : Type 0} (fields_of : X → List Text) (Good : X → Type 0) → ((x : X) → Good x → 0 < length (fields_of x))
     → (xs : List X) → All Good xs → length xs < suc (length (flat_map (λ x. line (fields_of x)) xs))
-lines-long fields_of Good each [] all = omega arith
-lines-long fields_of Good each (x ∷ xs) all =
+rows-long fields_of Good each [] all = omega arith
+rows-long fields_of Good each (x ∷ xs) all =
     let one = line-long (fields_of x) (each x (All-head Good x xs all)) in
-    let others = lines-long fields_of Good each xs (All-tail Good x xs all) in
+    let others = rows-long fields_of Good each xs (All-tail Good x xs all) in
     let both = length-append (line (fields_of x)) (flat_map (λ x. line (fields_of x)) xs) in
     omega arith
 
@@ -179,7 +180,7 @@ file-read fields_of Good each names some xs all =
     let lines : List ℕ = flat_map (λ x. line (fields_of x)) xs in
     let n : ℕ = length (line names ++ lines) in
     let one = line-long names some in
-    let others = lines-long fields_of Good each xs all in
+    let others = rows-long fields_of Good each xs all in
     let both = length-append (line names) lines in
     let fuel : length xs < n = omega arith in
     let next : n + 1 ≡ suc n = omega arith in
@@ -188,15 +189,15 @@ file-read fields_of Good each names some xs all =
     ∙ first-read names lines n some
     ∙ ap (λ l. names ∷ l) (lines-read fields_of Good each xs all n fuel)
 
-pub line-found : (fields : List Text) → 0 < length fields → records_read (line fields) ≡ fields ∷ []
-line-found fields some = ap records_read (sym (append-nil (line fields))) ∙ file-read (λ l. l) (λ l. 0 < length l) (λ l is. is) fields some [] (All-nil _)
+pub line-records : (fields : List Text) → 0 < length fields → records_read (line fields) ≡ fields ∷ []
+line-records fields some = ap records_read (sym (append-nil (line fields))) ∙ file-read (λ l. l) (λ l. 0 < length l) (λ l is. is) fields some [] (All-nil _)
 
 names-some : (wide : Bool) (sheet : Sheet) → 0 < length (names_shown wide sheet)
 names-some wide sheet = let long = length-names_shown wide sheet in let some = columns-some wide sheet in omega arith
 
-pub copy-found : (sheet : Sheet) (wide : Bool) (rows : List SheetRow) → All (IsRowOf sheet) rows
+pub copy-records : (sheet : Sheet) (wide : Bool) (rows : List SheetRow) → All (IsRowOf sheet) rows
     → records_read (csv_copy sheet wide rows) ≡ names_shown wide sheet ∷ map (shown wide) rows
-copy-found sheet wide rows are =
+copy-records sheet wide rows are =
     ap records_read (copy-is sheet wide rows)
     ∙ file-read (shown wide) (IsRowOf sheet) (shown-some sheet wide) (names_shown wide sheet) (names-some wide sheet) rows are
 
@@ -211,9 +212,9 @@ all-changes : (changes : List Change) → All Anything changes
 all-changes [] = All-nil Anything
 all-changes (change ∷ changes) = All-cons Anything change changes tt (all-changes changes)
 
-pub delta-found : (sheet : Sheet) (wide : Bool) (changes : List Change)
+pub delta-records : (sheet : Sheet) (wide : Bool) (changes : List Change)
     → records_read (csv_delta sheet wide changes) ≡ delta_names wide sheet ∷ map (change_fields wide) changes
-delta-found sheet wide changes =
+delta-records sheet wide changes =
     ap records_read (delta-is sheet wide changes)
     ∙ file-read (change_fields wide) Anything (λ change is. change-some wide change) (delta_names wide sheet) (omega arith) changes (all-changes changes)
 
@@ -268,12 +269,6 @@ lent-rest lent texts n full all some is =
     ap read_texts (sym (drop-take n (full - n) lent)) ∙ lent-back n (take (n + (full - n)) lent)
     ∙ ap (λ m. drop n (read_texts (take m lent))) whole ∙ ap (drop n) is
 
--- of a sheet with one width, nothing is left out
-pub tail-none : (row : SheetRow) (narrow full : ℕ) → length row.texts ≡ width row.sheet → narrow ≡ columns false row.sheet
-    → full ≡ width row.sheet → full ≤ narrow → [] ≡ row_tail row
-tail-none row narrow full all narrow_is full_is none =
-    ap (flat_map after_comma) (sym (drop_all (columns false row.sheet) row.texts (omega arith)))
-
 -- ---- putting
 
 -- a line is put by a writer
@@ -282,28 +277,64 @@ pub line-put : (cfg : WriterBuilder) (out inner pending after : List ℕ) (field
 line-put cfg out inner pending after fields some cfg_is inner_is none put =
     put ∙ (λ i. (inner_is i ++ none i) ++ row_text (cfg_is i) fields) ∙ (λ i. append-nil out i ++ record-line fields some i)
 
-pub line-some : (out after : List ℕ) (fields : List Text) (n : ℕ) → 0 < length fields → n ≡ length after → after ≡ out ++ line fields → 1 ≤ n
-line-some out after fields n some long put =
-    let one = line-long fields some in
-    let both : length after ≡ length out + length (line fields) = ap length put ∙ length-append out (line fields) in
-    omega arith
+-- what a writer holds once nothing is pending
+pub flushed : (under pending before all : List ℕ) → under ++ pending ≡ before → pending ≡ [] → before ≡ all → under ≡ all
+flushed under pending before all same none is =
+    sym (append-nil under) ∙ ap (λ l. under ++ l) (sym none) ∙ same ∙ is
+
+pub line-nonempty : (bytes : List ℕ) (fields : List Text) (n : ℕ) → 0 < length fields → n ≡ length bytes → bytes ≡ line fields → 1 ≤ n
+line-nonempty bytes fields n some long is = let one = line-long fields some in let same = ap length is in omega arith
 
 -- without its last byte, a line is its fields
-pub line-open : (out after : List ℕ) (fields : List Text) (n : ℕ) → 0 < length fields → n ≡ length after → after ≡ out ++ line fields
-    → take (n - 1) after ≡ out ++ fields_text fields
-line-open out after fields n some long put =
-    let opened : List ℕ = out ++ fields_text fields in
-    let ends : after ≡ opened ++ 10 ∷ [] = put ∙ ap (λ l. out ++ l) (sym (line-fields fields some)) ∙ sym (append_assoc out (fields_text fields) (10 ∷ [])) in
-    let both : length after ≡ length opened + 1 = ap length ends ∙ length-append opened (10 ∷ []) in
-    let last : length opened ≡ n - 1 = omega arith in
-    ap (take (n - 1)) ends ∙ take_at opened (10 ∷ []) (n - 1) last
+pub line-open : (line_bytes : List ℕ) (fields : List Text) (n : ℕ) → 0 < length fields → n ≡ length line_bytes → line_bytes ≡ line fields
+    → take (n - 1) line_bytes ≡ fields_text fields
+line-open bytes fields n some long is =
+    let ends : bytes ≡ fields_text fields ++ 10 ∷ [] = is ∙ sym (line-fields fields some) in
+    let both : length bytes ≡ length (fields_text fields) + 1 = ap length ends ∙ length-append (fields_text fields) (10 ∷ []) in
+    let last : length (fields_text fields) ≡ n - 1 = omega arith in
+    ap (take (n - 1)) ends ∙ take_at (fields_text fields) (10 ∷ []) (n - 1) last
 
--- a comma is put, and further fields
-pub further-put : (out next after : List ℕ) (fields : List Text) → 0 < length fields → next ≡ out ++ 44 ∷ []
-    → after ≡ next ++ fields_text fields → after ≡ out ++ flat_map after_comma fields
-further-put out next after fields some comma put =
-    put ∙ ap (λ l. l ++ fields_text fields) comma ∙ append_assoc out (44 ∷ []) (fields_text fields)
-    ∙ ap (λ l. out ++ l) (comma-fields fields some)
+-- so is the first of two lines, up to before where the second begins, and the second after that
+pub lines-front : (bytes : List ℕ) (fields others : List Text) (n : ℕ) → 0 < length fields → bytes ≡ line fields ++ line others
+    → n ≡ length (line fields) → take (n - 1) bytes ≡ fields_text fields
+lines-front bytes fields others n some is long =
+    let ends : bytes ≡ fields_text fields ++ (10 ∷ line others) =
+    is ∙ ap (λ l. l ++ line others) (sym (line-fields fields some)) ∙ append_assoc (fields_text fields) (10 ∷ []) (line others) in
+    let both : length (line fields) ≡ length (fields_text fields) + 1 =
+    ap length (sym (line-fields fields some)) ∙ length-append (fields_text fields) (10 ∷ []) in
+    let last : length (fields_text fields) ≡ n - 1 = omega arith in
+    ap (take (n - 1)) ends ∙ take_at (fields_text fields) (10 ∷ line others) (n - 1) last
+
+pub lines-back : (bytes : List ℕ) (fields others : List Text) (n end : ℕ) → 0 < length others → bytes ≡ line fields ++ line others
+    → n ≡ length (line fields) → end ≡ length bytes → take (end - 1 - n) (drop n bytes) ≡ fields_text others
+lines-back bytes fields others n end some is long whole =
+    let both : length bytes ≡ length (line fields) + length (line others) = ap length is ∙ length-append (line fields) (line others) in
+    let left : end - 1 - n ≡ length (line others) - 1 = omega arith in
+    ap (take (end - 1 - n)) (ap (drop n) is ∙ drop_at (line fields) (line others) n (sym long))
+    ∙ ap (λ m. take m (line others)) left ∙ line-open (line others) others (length (line others)) some refl refl
+
+-- two lines, and where the second begins
+pub record TwoLines (bytes : List ℕ) (fields others : List Text) (n : ℕ) : Type 0 where
+  pub lines : bytes ≡ line fields ++ line others
+  pub begins : n ≡ length (line fields)
+  pub first : 1 ≤ n
+  pub within : n < length bytes
+
+pub two-lines : (out bytes : List ℕ) (fields others : List Text) (n : ℕ) → 0 < length fields → 0 < length others → out ≡ []
+    → bytes ≡ (out ++ line fields) ++ line others → n ≡ length (out ++ line fields) → TwoLines bytes fields others n
+two-lines out bytes fields others n some more none put long =
+    let is : bytes ≡ line fields ++ line others = put ∙ ap (λ l. (l ++ line fields) ++ line others) none in
+    let begins : n ≡ length (line fields) = long ∙ ap (λ l. length (l ++ line fields)) none in
+    let both : length bytes ≡ length (line fields) + length (line others) = ap length is ∙ length-append (line fields) (line others) in
+    let one = line-long fields some in
+    let two = line-long others more in
+    record { lines = is; begins = begins; first = omega arith; within = omega arith }
+
+-- a comma, and further fields
+pub further-put : (out next after : List ℕ) (fields : List Text) → 0 < length fields → out ≡ [] → next ≡ out ++ 44 ∷ []
+    → after ≡ next ++ fields_text fields → after ≡ flat_map after_comma fields
+further-put out next after fields some none comma put =
+    put ∙ ap (λ l. l ++ fields_text fields) (comma ∙ ap (λ l. l ++ 44 ∷ []) none) ∙ comma-fields fields some
 
 -- no sheet has more than 32 texts
 pub width-most : (sheet : Sheet) → width sheet ≤ 32

@@ -1,15 +1,15 @@
 -- How the crate `csv` writes the lines of a file, and which records its readers find in one.
-use Rattle.std.specs.Prelude.{List}
+use Rattle.std.specs.Prelude.{List, true}
 use Rattle.csv.specs.Reading.{default_config, records, strip_bom}
-use Rattle.csv.specs.Writing.{default_writer, with_style}
+use Rattle.csv.specs.Writing.{default_writer, with_flexible, with_style}
 use Rattle.csv.specs.declared.writer.QuoteStyle.TheVariants as style
 use Rattle.csv.specs.declared.writer.WriterBuilder.{WriterBuilder}
 use Rattle.lei_code.specs.Texts.{Text}
 
--- The crate's defaults with every field in quotes: commas between fields, LF at the end of a line, and a quote in a field
--- doubled (RFC 4180, whose lines end in CR LF).
+-- The crate's defaults with every field in quotes, for lines of any number of fields: commas between fields, LF at the
+-- end of a line, and a quote in a field doubled (RFC 4180, whose lines end in CR LF).
 abbrev pub all_quoted : WriterBuilder
-all_quoted = with_style default_writer style.Always
+all_quoted = with_flexible (with_style default_writer style.Always) true
 
 -- The records that a reader finds in a text by the crate's default configuration. The line of names is the first.
 abbrev pub records_read : Text → List (List Text)

@@ -77,7 +77,7 @@ impl<'a> Reader<'a> {
         found
     }
 
-    // Puts the bytes before the next quote after the others, and steps over the quote. False says that no quote is left.
+    // Puts the bytes before the next quote after the others, and steps over the quote. False says that none is left.
     fn part(&mut self, out: &mut Vec<u8>) -> Result<bool, NoMemory>
         ensures { IfOk result (λ found. TakesPart self.old out.old.items found self.new out.new.items) }
     {

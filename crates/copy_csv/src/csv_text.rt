@@ -1,6 +1,7 @@
 //! Lines of CSV, printed by the crate `csv`.
-ghost use Rattle.std.specs.Prelude.{◌≡◌, ◌<◌, ◌≤◌, ◌++◌, ◌∷◌, flat_map, length, take, IfOk, OnOk};
+ghost use Rattle.std.specs.Prelude.{◌≡◌, ◌<◌, ◌++◌, flat_map, length, take, IfOk, OnOk};
 ghost use Rattle.copy_csv.specs.Csv.{after_comma, fields_text, joined_line, line, row_line, row_start, row_tail};
+ghost use Rattle.copy_csv.specs.Records.{all_quoted};
 ghost use Rattle.copy_csv.specs.Sheets.{names, names_shown, width as spec_width};
 ghost use Rattle.lei_records.specs.Sheets.{read_texts};
 
@@ -15,14 +16,21 @@ use std::mem;
 // The most texts that a row of any sheet has.
 const MOST: usize = 32;
 
-// Puts the line of these fields after the others, each in quotes, as `csv` writes it.
+// Every field in quotes, and lines of any number of fields.
+fn quoting() -> WriterBuilder
+    ensures { result ≡ all_quoted }
+{
+    *WriterBuilder::new()
+        .quote_style(QuoteStyle::Always)
+        .flexible(true)
+}
+
+// Puts the line of these fields after the others, as `csv` writes it.
 fn put_line(out: &mut Vec<u8>, fields: &[&[u8]]) -> Result<(), NoMemory>
     requires { 0 < length fields.now }
     ensures { OnOk result (out.new.items ≡ out.old.items ++ line (read_texts fields.now)) }
 {
-    let mut writer = WriterBuilder::new()
-        .quote_style(QuoteStyle::Always)
-        .from_writer(mem::try_take(out)?);
+    let mut writer = quoting().from_writer(mem::try_take(out)?);
     let Ok(()) = writer.write_fields(fields) else {
         return Err(NoMemory);
     };
@@ -33,23 +41,31 @@ fn put_line(out: &mut Vec<u8>, fields: &[&[u8]]) -> Result<(), NoMemory>
     Ok(())
 }
 
-// Puts the line of these fields after the others, without LF.
-fn put_open_line(out: &mut Vec<u8>, fields: &[&[u8]]) -> Result<(), NoMemory>
-    requires { 0 < length fields.now }
-    ensures { OnOk result (out.new.items ≡ out.old.items ++ fields_text (read_texts fields.now)) }
+// Puts a line and another one after the others, as `csv` writes them, and returns where the other one begins. It is one
+// writer for both, since a writer with its buffer costs more than what it writes here.
+fn put_two_lines(out: &mut Vec<u8>, fields: &[&[u8]], others: &[&[u8]]) -> Result<usize, NoMemory>
+    requires some { 0 < length fields.now }
+    requires more { 0 < length others.now }
+    ensures lines { OnOk result
+        (out.new.items ≡ (out.old.items ++ line (read_texts fields.now)) ++ line (read_texts others.now)) }
+    ensures begins { IfOk result (λ start. start ≡ length (out.old.items ++ line (read_texts fields.now))) }
 {
-    put_line(out, fields)?;
-    out.truncate(out.len() - 1);
-    Ok(())
-}
-
-// Puts further fields of a line after the others, each with the comma before it, without LF.
-fn put_further(out: &mut Vec<u8>, fields: &[&[u8]]) -> Result<(), NoMemory>
-    requires { 0 < length fields.now }
-    ensures { OnOk result (out.new.items ≡ out.old.items ++ flat_map after_comma (read_texts fields.now)) }
-{
-    out.push(b',')?;
-    put_open_line(out, fields)
+    let mut writer = quoting().from_writer(mem::try_take(out)?);
+    let Ok(()) = writer.write_fields(fields) else {
+        return Err(NoMemory);
+    };
+    let Ok(()) = writer.flush() else {
+        return Err(NoMemory);
+    };
+    let start = writer.get_ref().len();
+    let Ok(()) = writer.write_fields(others) else {
+        return Err(NoMemory);
+    };
+    let Ok(written) = writer.into_inner() else {
+        return Err(NoMemory);
+    };
+    *out = written;
+    Ok(start)
 }
 
 // The texts of a row, in order of place. What stands after them is none of its texts.
@@ -63,6 +79,38 @@ fn texts_of(row: &Row) -> [&[u8]; MOST]
     texts
 }
 
+// The line of these fields, without LF.
+fn open_line(alloc: Global, room: usize, fields: &[&[u8]]) -> Result<Bytes, NoMemory>
+    requires { 0 < length fields.now }
+    ensures { IfOk result (λ text. text ≡ fields_text (read_texts fields.now)) }
+{
+    let mut line = Vec::with_capacity(alloc, room)?;
+    put_line(&mut line, fields)?;
+    line.truncate(line.len() - 1);
+    Ok(Bytes::from(line))
+}
+
+// The line of these fields, and what the line has further if others follow them, both without LF.
+fn two_texts(
+    alloc: Global,
+    room: usize,
+    fields: &[&[u8]],
+    others: &[&[u8]],
+) -> Result<(Bytes, Bytes), NoMemory>
+    requires some { 0 < length fields.now }
+    requires more { 0 < length others.now }
+    ensures line { IfOk result (λ texts. texts.0 ≡ fields_text (read_texts fields.now)) }
+    ensures further { IfOk result (λ texts. texts.1 ≡ flat_map after_comma (read_texts others.now)) }
+{
+    let mut line = Vec::with_capacity(alloc, room)?;
+    let start = put_two_lines(&mut line, fields, others)?;
+    let mut further = Vec::with_capacity(alloc, line.len() - start)?;
+    further.push(b',')?;
+    further.extend_from_slice(&line[start..line.len() - 1])?;
+    line.truncate(start - 1);
+    Ok((Bytes::from(line), Bytes::from(further)))
+}
+
 /// The start of a row's line and what a wide file shows further of it, both without LF.
 pub fn line_texts(alloc: Global, row: &Row) -> Result<(Bytes, Bytes), NoMemory>
     ensures start { IfOk result (λ texts. texts.0 ≡ row_start row.now) }
@@ -70,13 +118,16 @@ pub fn line_texts(alloc: Global, row: &Row) -> Result<(Bytes, Bytes), NoMemory>
 {
     let texts = texts_of(row);
     let (narrow, full) = (columns(false, row.sheet()), width(row.sheet()));
-    let mut start = Vec::with_capacity(alloc, line_room(row))?;
-    put_open_line(&mut start, &texts[..narrow])?;
-    let mut tail = Vec::new(alloc);
     if narrow < full {
-        put_further(&mut tail, &texts[narrow..full])?;
+        return two_texts(
+            alloc,
+            line_room(row),
+            &texts[..narrow],
+            &texts[narrow..full],
+        );
     }
-    Ok((Bytes::from(start), Bytes::from(tail)))
+    let start = open_line(alloc, line_room(row), &texts[..narrow])?;
+    Ok((start, Bytes::from(Vec::new(alloc))))
 }
 
 // About how many bytes its line takes: its texts, and for each two quotes and what follows.

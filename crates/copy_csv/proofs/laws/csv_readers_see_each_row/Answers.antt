@@ -1,11 +1,11 @@
-use Rattle.copy_csv.proofs.RecordLemmas.{copy-found, delta-found, line-found}
+use Rattle.copy_csv.proofs.RecordLemmas.{copy-records, delta-records, line-records}
 use Rattle.copy_csv.proofs.laws.csv_readers_see_each_row.Goals as goal
 
 pub returns-clause-lines : goal.returns-clause-lines
-returns-clause-lines c = line-found
+returns-clause-lines c = line-records
 
 pub returns-clause-copies : goal.returns-clause-copies
-returns-clause-copies c = copy-found
+returns-clause-copies c = copy-records
 
 pub returns-clause-deltas : goal.returns-clause-deltas
-returns-clause-deltas c = delta-found
+returns-clause-deltas c = delta-records
