@@ -1,0 +1,5 @@
+pub mod Words
+pub mod NameTables
+pub mod Searching
+pub mod Gathering
+pub mod Puts

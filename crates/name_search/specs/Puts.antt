@@ -1,0 +1,18 @@
+-- The names of rows that changes put.
+use Rattle.std.specs.Prelude.{List, [], ◌∷◌, flat_map}
+use Rattle.copy_csv.specs.declared.rows.Change.{Change}
+use Rattle.copy_csv.specs.Sheets.{SheetRow}
+use Rattle.delta_apply.specs.Merging.{put_by}
+use Rattle.name_search.specs.NameTables.{Name, named}
+
+-- The name of a row, as a list.
+abbrev pub named_alone : SheetRow → List Name
+named_alone row = named row ∷ []
+
+-- The name of the row that a change puts, if it puts one.
+abbrev pub put_name : Change → List Name
+put_name change = flat_map named_alone (put_by change)
+
+-- Those of all changes, in their order.
+abbrev pub put_names : List Change → List Name
+put_names changes = flat_map put_name changes

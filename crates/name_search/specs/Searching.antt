@@ -1,0 +1,27 @@
+-- Which rows a search finds, and the pages on which they stand.
+use Rattle.std.specs.Prelude.{ℕ, ◌-◌, ◌*◌, Bool, List, take, drop, filter}
+use Rattle.std.specs.List.{list_all, list_any}
+use Rattle.std.specs.Str.{bytes_eq}
+use Rattle.lei_code.specs.Texts.{Text}
+use Rattle.name_search.specs.NameTables.{Name}
+use Rattle.name_search.specs.Words.{words}
+
+-- A word is among these.
+abbrev pub is_among : List Text → Text → Bool
+is_among these word = list_any (bytes_eq word) these
+
+-- Each of the wanted words is among these.
+abbrev pub has_each : List Text → List Text → Bool
+has_each wanted these = list_all (is_among these) wanted
+
+-- The name has each of the wanted words among its own.
+abbrev pub is_match : List Text → Name → Bool
+is_match wanted name = has_each wanted (words name.1)
+
+-- The names that have each word of a text, in their order.
+abbrev pub found : List Name → Text → List Name
+found names text = filter (is_match (words text)) names
+
+-- The names on a page of 50, pages counted from 1. After the last page there are none.
+abbrev pub page_of : ℕ → List Name → List Name
+page_of page names = take 50 (drop (50 * (page - 1)) names)

@@ -1,0 +1,11 @@
+//! What is found.
+use lei_outside::{List, Text};
+
+/// What a search found.
+#[derive(Debug, Drop)]
+pub struct Found {
+    /// How many rows match.
+    pub matches: u64,
+    /// The key and the name of each match on the page, in the order of the keys.
+    pub names: List<(Text, Text)>,
+}

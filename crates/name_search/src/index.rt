@@ -1,0 +1,153 @@
+//! The index.
+ghost use Rattle.std.specs.Prelude.{◌≡◌, ◌+◌, ◌≤◌, [], List as Items, length, IfErr, IfOk, IsErrOf, OnErr, OnOk, is_some};
+ghost use Rattle.register_words.specs.declared.sheets.Sheet.{Sheet as DeclaredSheet};
+ghost use Rattle.copy_csv.specs.Rows.{AreChanges, AreRows};
+ghost use Rattle.copy_csv.specs.Sheets.{SheetRow};
+ghost use Rattle.copy_forms.specs.Patching.{patched};
+ghost use Rattle.name_search.specs.declared.faults.FindFault.{FindFault as Finding};
+ghost use Rattle.name_search.specs.NameTables.{IsRefusal, IsTableOf, Takes, number_in};
+ghost use Rattle.name_search.specs.Searching as spec;
+ghost use Rattle.name_search.specs.Words.{words};
+
+use crate::faults::{FindFault, TakeFault};
+use crate::found::Found;
+use crate::gathering::gather_all;
+use crate::merging::{merge, named_puts, named_rows, number_of};
+use crate::named_row::NamedRow;
+use crate::words::words_of;
+use copy_csv::{CopyRead, DeltaRead};
+use lei_outside::{List, NoMemory};
+use std::alloc::Global;
+use std::marker::Model;
+use std::mem;
+use std::sync::ledger::Ledger;
+use worker_pool::Steps;
+
+/// The rows of a golden copy of `lei` by the words of their names. Contracts see the number of the copy's publication,
+/// its width, and the key and the name of each row.
+#[derive(Drop)]
+pub struct Index {
+    alloc: Global,
+    publication: Option<u32>,
+    wide: bool,
+    rows: Vec<NamedRow>,
+}
+
+impl Model for Index {
+    ghost use Rattle.name_search.specs.NameTables.{NameTable};
+
+    ghost Value = { NameTable };
+
+    ghost view = { λ index. record {
+      publication = index.publication;
+      wide = index.wide;
+      names = index.rows.items;
+    } };
+}
+
+impl Index {
+    /// An index of a copy of `lei` that was read. Each name is folded once, which is one step.
+    pub fn open<L: Ledger>(
+        alloc: Global,
+        copy: &CopyRead,
+        steps: &mut Steps<L>,
+    ) -> Result<Self, NoMemory>
+        requires rows { AreRows DeclaredSheet.Lei copy.now.rows }
+        ensures rows { IfOk result (λ index. IsTableOf copy.now.rows index) }
+        ensures publication { IfOk result (λ index. index.publication ≡ number_in copy.now.head) }
+        ensures width { IfOk result (λ index. index.wide ≡ copy.now.wide) }
+        ensures steps { steps.new ≤ steps.old + length copy.now.rows }
+        ensures steps_stay { steps.old ≤ steps.new }
+    {
+        let rows = named_rows(alloc, copy.rows.as_slice(), steps)?;
+        Ok(Index {
+            alloc,
+            publication: number_of(&copy.head),
+            wide: copy.wide,
+            rows,
+        })
+    }
+
+    /// Makes of it an index of the copy after a delta that was read, in the form of the copy. Only names of rows that
+    /// the delta puts are folded. The faults are reported in the order of `TakeFault`, and after one it is as it was.
+    pub fn take<L: Ledger>(
+        &mut self,
+        delta: &DeltaRead,
+        steps: &mut Steps<L>,
+    ) -> Result<(), TakeFault>
+        requires changes { AreChanges DeclaredSheet.Lei delta.now.changes }
+        requires form { is_some delta.now.head ≡ is_some self.old.publication }
+        ensures rows { OnOk result ((rows : Items SheetRow) → IsTableOf rows self.old
+            → IsTableOf (patched rows delta.now.changes) self.new) }
+        ensures publication { OnOk result (self.new.publication ≡ number_in delta.now.head) }
+        ensures width { OnOk result (self.new.wide ≡ delta.now.wide) }
+        ensures takes { OnOk result (Takes self.old delta.now) }
+        ensures refusal { IfErr result (IsRefusal self.old delta.now) }
+        ensures err { OnErr result (self.new ≡ self.old) }
+        ensures steps { steps.new ≤ steps.old + length delta.now.changes }
+        ensures steps_stay { steps.old ≤ steps.new }
+    {
+        self.check(delta)?;
+        let changes = delta.changes.as_slice();
+        let puts = named_puts(self.alloc, changes, steps)?;
+        let room = self.rows.len().saturating_add(puts.len());
+        let mut rows = Vec::with_capacity(self.alloc, room)?;
+        mem::swap(&mut self.rows, &mut rows);
+        merge(&mut self.rows, rows, puts, changes);
+        self.publication = number_of(&delta.head);
+        self.wide = delta.wide;
+        Ok(())
+    }
+
+    // Whether it takes a delta.
+    fn check(&self, delta: &DeltaRead) -> Result<(), TakeFault>
+        requires { is_some delta.now.head ≡ is_some self.now.publication }
+        ensures ok { OnOk result (Takes self.now delta.now) }
+        ensures refusal { IfErr result (IsRefusal self.now delta.now) }
+    {
+        if let (Some(publication), Some(head)) = (self.publication, delta.head) {
+            if publication != head.from {
+                return Err(TakeFault::WrongBase(publication, head.from));
+            }
+        }
+        if self.wide && !delta.wide {
+            return Err(TakeFault::OlderDelta);
+        }
+        Ok(())
+    }
+
+    /// The rows whose name has each word of a text: how many they are, and those on a page of 50, in the order of
+    /// their keys. After the last page none is given. The faults are reported in the order of `FindFault`.
+    pub fn find(&self, page: u32, text: &str) -> Result<Found, FindFault>
+        requires first { 1 ≤ page }
+        requires last { page ≤ 1_000_000 }
+        ensures matches { IfOk result (λ found. found.matches ≡ length (spec.found self.now.names text.now)) }
+        ensures names { IfOk result
+            (λ found. found.names ≡ spec.page_of page (spec.found self.now.names text.now)) }
+        ensures some_word { OnOk result (1 ≤ length (words text.now)) }
+        ensures few_words { OnOk result (length (words text.now) ≤ 8) }
+        ensures no_word { IsErrOf result Finding.NoWord → words text.now ≡ [] }
+        ensures too_many { IsErrOf result Finding.TooManyWords → 9 ≤ length (words text.now) }
+    {
+        let wanted = words_of(self.alloc, text)?;
+        if wanted.is_empty() {
+            return Err(FindFault::NoWord);
+        }
+        if wanted.len() > 8 {
+            return Err(FindFault::TooManyWords);
+        }
+        let start = 50 * (u64::from(page) - 1);
+        let gathered = gather_all(self.alloc, start, wanted.as_slice(), self.rows.as_slice())?;
+        Ok(Found {
+            matches: gathered.matches,
+            names: List::from(gathered.names),
+        })
+    }
+
+    /// The number of its rows.
+    pub fn rows(&self) -> u64
+        ensures { result ≡ length self.now.names }
+    {
+        self.rows.len() as u64
+    }
+}

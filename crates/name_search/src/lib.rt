@@ -1,0 +1,15 @@
+//! An index of the rows of a golden copy by the words of their names.
+#![tactic(auto)]
+
+mod faults;
+mod found;
+mod gathering;
+mod index;
+mod merging;
+mod named_row;
+mod words;
+
+pub use faults::{FindFault, TakeFault};
+pub use found::Found;
+pub use index::Index;
+pub use words::folded;

@@ -1,0 +1,80 @@
+//! The words of a text.
+ghost use Rattle.std.specs.Prelude.{◌≡◌, ◌+◌, ◌++◌, ◌∷◌, [], chars, filter, string_bytes, IfOk, OnOk};
+ghost use Rattle.name_search.specs.Words as spec;
+
+use caseless::default_case_fold_str;
+use lei_outside::{List, NoMemory, Text};
+use std::alloc::Global;
+use std::sync::ledger::Ledger;
+use unicode_normalization::to_nfkc;
+use worker_pool::Steps;
+
+/// The words of a text in their order, each as often as it occurs. It is one step.
+pub fn folded<L: Ledger>(
+    alloc: Global,
+    text: &str,
+    steps: &mut Steps<L>,
+) -> Result<List<Text>, NoMemory>
+    ensures words { IfOk result (λ found. found ≡ spec.words text.now) }
+    ensures steps { steps.new ≡ steps.old + 1 }
+{
+    steps.add(1);
+    words_of(alloc, text)
+}
+
+/// The same for a text that is looked for, of which no step is counted.
+#[tactic(auto, unfolding(crate::specs::Words::words))]
+pub fn words_of(alloc: Global, text: &str) -> Result<List<Text>, NoMemory>
+    ensures { IfOk result (λ found. found ≡ spec.words text.now) }
+{
+    let folded = folded_text(alloc, text)?;
+    let words = cut(alloc, folded.as_str())?;
+    Ok(words)
+}
+
+// The text in Normalization Form KC, and then folded.
+fn folded_text(alloc: Global, text: &str) -> Result<String, NoMemory>
+    ensures { IfOk result (λ folded. chars (string_bytes folded) ≡ spec.folded_chars text.now) }
+{
+    let composed = to_nfkc(alloc, text)?;
+    let folded = default_case_fold_str(alloc, composed.as_str())?;
+    Ok(folded)
+}
+
+// The words of a text that is folded already.
+fn cut(alloc: Global, text: &str) -> Result<List<Text>, NoMemory>
+    ensures { IfOk result (λ found. found ≡ filter spec.is_word (spec.pieces (chars text.now))) }
+{
+    let mut words = Vec::new(alloc);
+    let mut word = String::new(alloc);
+    for c in text.chars() {
+        if is_separator(c) {
+            put_word(alloc, &mut words, &mut word)?;
+        } else {
+            word.push(c)?;
+        }
+    }
+    put_word(alloc, &mut words, &mut word)?;
+    Ok(List::from(words))
+}
+
+// Puts a word after the others, if it isn't empty, and leaves it empty.
+fn put_word(alloc: Global, words: &mut Vec<Text>, word: &mut String) -> Result<(), NoMemory>
+    ensures words { OnOk result
+        (words.new.items ≡ words.old.items ++ filter spec.is_word (string_bytes word.old ∷ [])) }
+    ensures word { OnOk result (string_bytes word.new ≡ []) }
+{
+    if word.is_empty() {
+        return Ok(());
+    }
+    words.push(Text::copy_of(alloc, word.as_str())?)?;
+    word.clear();
+    Ok(())
+}
+
+// Whether a text is cut at a character.
+fn is_separator(c: char) -> bool
+    ensures { result ≡ spec.is_separator c }
+{
+    c.is_whitespace() || c.is_ascii() && !c.is_ascii_alphanumeric()
+}
