@@ -23,7 +23,7 @@ key_by sheet (text ∷ texts) full lei = ap (λ s. take (key_len s) (text ∷ te
 pub key_is : (row : SheetRow) → IsRow row → row.sheet ≡ Sheet.Lei → key row ≡ text_at row.texts 1 ∷ []
 key_is row is lei = key_by row.sheet row.texts (texts_of_row row is lei) lei
 
-then_nothing : (o : Ordering) → ordering_then o Ordering.Equal ≡ o
+pub then_nothing : (o : Ordering) → ordering_then o Ordering.Equal ≡ o
 then_nothing Ordering.Less = refl
 then_nothing Ordering.Equal = refl
 then_nothing Ordering.Greater = refl

@@ -4,3 +4,6 @@ pub mod Paging
 pub mod KeyLemmas
 pub mod Walked
 pub mod RowsStay
+pub mod WalkLemmas
+pub mod PlaceLemmas
+pub mod NotedLemmas

@@ -70,3 +70,10 @@ pub gathers_all : (start : ℕ) (p : Name → Bool) (rows : List Name) (i count 
     → Gathers start (filter p (take i rows)) count names → length rows ≤ i → Gathers start (filter p rows) count names
 gathers_all start p rows i count names gathers past =
     subst (λ l. Gathers start (filter p l) count names) (take_all i rows past) gathers
+
+pub nothing_found : (start : ℕ) (matches : List Name) (count : ℕ) (names : List Name) → matches ≡ [] → count ≡ 0 → names ≡ []
+    → Gathers start matches count names
+nothing_found start matches count names none zero empty = record {
+  count_is = zero ∙ sym (ap length none);
+  names_are = empty ∙ ap (take 50) (sym (drop_all start [] (omega arith)) ∙ ap (drop start) (sym none));
+}

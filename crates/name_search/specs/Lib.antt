@@ -3,3 +3,4 @@ pub mod NameTables
 pub mod Searching
 pub mod Gathering
 pub mod Puts
+pub mod Walks

@@ -1,12 +1,16 @@
 //! Matches, counted, and those on a page put down.
-ghost use Rattle.std.specs.Prelude.{◌<◌, ◌++◌, ◌∷◌, [], List, filter, IfOk, OnOk};
+ghost use Rattle.std.specs.Prelude.{◌<◌, ◌++◌, ◌∷◌, [], List, filter, true, option_map, option_to_list, IfOk, OnOk, ◌≡◌};
 ghost use Rattle.name_search.specs.Searching as spec;
+ghost use Rattle.name_search.specs.Walks.{Covers, hits, keys_in, text_cmp};
+ghost use Rattle.std.specs.FinMap.Entries.{find, is_sorted};
 ghost use Rattle.name_search.specs.Gathering.{Gathers};
 ghost use Rattle.name_search.specs.NameTables.{Name};
 
 use crate::named_row::NamedRow;
+use crate::postings::Keys;
 use lei_outside::{NoMemory, Text};
 use std::alloc::Global;
+use std::cmp::Ordering;
 
 /// How many matches there are so far, and the names of those on the page.
 #[derive(Drop)]
@@ -36,25 +40,87 @@ impl Gathered {
     }
 }
 
-/// The rows that match, for a page that begins after so many.
-pub fn gather_all(
+/// The rows that match, for a page that begins after so many. Only rows under these keys are looked at, which are those
+/// of all rows that match, and maybe others.
+pub fn gather_under(
     alloc: Global,
     start: u64,
     wanted: &[Text],
     rows: &[NamedRow],
+    keys: Option<&Keys>,
 ) -> Result<Gathered, NoMemory>
+    requires sorted { is_sorted text_cmp rows.now ≡ true }
+    requires covers { Covers (spec.is_match wanted.now) rows.now (keys_in (option_map (λ keys. keys.now) keys)) }
     ensures { IfOk result (λ gathered. Gathers start (filter (spec.is_match wanted.now) rows.now)
         gathered.matches gathered.names.items) }
 {
-    let mut gathered = Gathered {
+    match keys {
+        Some(keys) => gather_each(alloc, start, wanted, rows, keys),
+        None => Ok(nothing(alloc)),
+    }
+}
+
+// No matches so far.
+fn nothing(alloc: Global) -> Gathered
+    ensures matches { result.matches ≡ 0 }
+    ensures names { result.names.items ≡ [] }
+{
+    Gathered {
         matches: 0,
         names: Vec::new(alloc),
-    };
-    for row in rows {
-        if !row.is_match(wanted) {
-            continue;
+    }
+}
+
+// The same for keys that are there.
+fn gather_each(
+    alloc: Global,
+    start: u64,
+    wanted: &[Text],
+    rows: &[NamedRow],
+    keys: &Keys,
+) -> Result<Gathered, NoMemory>
+    requires sorted { is_sorted text_cmp rows.now ≡ true }
+    requires covers { Covers (spec.is_match wanted.now) rows.now keys.now.keys }
+    ensures { IfOk result (λ gathered. Gathers start (filter (spec.is_match wanted.now) rows.now)
+        gathered.matches gathered.names.items) }
+{
+    let mut gathered = nothing(alloc);
+    let count = keys.len();
+    prove!(count <= usize::MAX / 2);
+    for key in keys.iter() {
+        if let Some(row) = match_at(wanted, rows, key.as_str()) {
+            gathered.add(alloc, start, row)?;
         }
-        gathered.add(alloc, start, row)?;
     }
     Ok(gathered)
+}
+
+// The row of a key, if there is one and it matches.
+fn match_at<'a>(wanted: &[Text], rows: &'a [NamedRow], key: &str) -> Option<&'a NamedRow>
+    requires { is_sorted text_cmp rows.now ≡ true }
+    ensures { option_to_list (option_map (λ row. row.now) result)
+        ≡ hits (spec.is_match wanted.now) key.now (find text_cmp key.now rows.now) }
+{
+    let row = row_at(rows, key)?;
+    if row.is_match(wanted) { Some(row) } else { None }
+}
+
+// The row of a key.
+fn row_at<'a>(rows: &'a [NamedRow], key: &str) -> Option<&'a NamedRow>
+    requires { is_sorted text_cmp rows.now ≡ true }
+    ensures { option_map (λ row. row.now) result
+        ≡ option_map (λ name. (key.now, name)) (find text_cmp key.now rows.now) }
+{
+    let mut low = 0;
+    let mut high = rows.len();
+    while low < high {
+        let middle = low + (high - low) / 2;
+        let row = &rows[middle];
+        match key.cmp(row.key().as_str()) {
+            Ordering::Less => high = middle,
+            Ordering::Equal => return Some(row),
+            Ordering::Greater => low = middle + 1,
+        }
+    }
+    None
 }

@@ -1,22 +1,24 @@
 //! The index.
-ghost use Rattle.std.specs.Prelude.{◌≡◌, ◌+◌, ◌≤◌, [], List as Items, length, IfErr, IfOk, IsErrOf, OnErr, OnOk, is_some};
+ghost use Rattle.std.specs.Prelude.{◌≡◌, ◌+◌, ◌≤◌, [], List as Items, filter, length, IfErr, IfOk, IsErrOf, OnErr, OnOk, is_some};
 ghost use Rattle.register_words.specs.declared.sheets.Sheet.{Sheet as DeclaredSheet};
 ghost use Rattle.copy_csv.specs.Rows.{AreChanges, AreRows};
 ghost use Rattle.copy_csv.specs.Sheets.{SheetRow};
 ghost use Rattle.copy_forms.specs.Patching.{patched};
 ghost use Rattle.name_search.specs.declared.faults.FindFault.{FindFault as Finding};
 ghost use Rattle.name_search.specs.NameTables.{IsRefusal, IsTableOf, Takes, number_in};
+ghost use Rattle.name_search.specs.Gathering.{Gathers};
 ghost use Rattle.name_search.specs.Searching as spec;
 ghost use Rattle.name_search.specs.Words.{words};
 
 use crate::faults::{FindFault, TakeFault};
 use crate::found::Found;
-use crate::gathering::gather_all;
+use crate::gathering::{Gathered, gather_under};
 use crate::merging::{merge, named_puts, named_rows, number_of};
 use crate::named_row::NamedRow;
+use crate::postings::Postings;
 use crate::words::words_of;
 use copy_csv::{CopyRead, DeltaRead};
-use lei_outside::{List, NoMemory};
+use lei_outside::{List, NoMemory, Text};
 use std::alloc::Global;
 use std::marker::Model;
 use std::mem;
@@ -30,7 +32,9 @@ pub struct Index {
     alloc: Global,
     publication: Option<u32>,
     wide: bool,
+    // In the order of their keys.
     rows: Vec<NamedRow>,
+    postings: Postings,
 }
 
 impl Model for Index {
@@ -43,6 +47,10 @@ impl Model for Index {
       wide = index.wide;
       names = index.rows.items;
     } };
+
+    ghost use Rattle.name_search.specs.Walks.{IsIndexed};
+
+    ghost invariant = { λ index. IsIndexed index.rows.items index.postings };
 }
 
 impl Index {
@@ -60,11 +68,14 @@ impl Index {
         ensures steps_stay { steps.old ≤ steps.new }
     {
         let rows = named_rows(alloc, copy.rows.as_slice(), steps)?;
+        let mut postings = Postings::new(alloc);
+        postings.note_all(rows.as_slice())?;
         Ok(Index {
             alloc,
             publication: number_of(&copy.head),
             wide: copy.wide,
             rows,
+            postings,
         })
     }
 
@@ -90,6 +101,7 @@ impl Index {
         self.check(delta)?;
         let changes = delta.changes.as_slice();
         let puts = named_puts(self.alloc, changes, steps)?;
+        self.postings.note_all(puts.as_slice())?;
         let room = self.rows.len().saturating_add(puts.len());
         let mut rows = Vec::with_capacity(self.alloc, room)?;
         mem::swap(&mut self.rows, &mut rows);
@@ -137,11 +149,23 @@ impl Index {
             return Err(FindFault::TooManyWords);
         }
         let start = 50 * (u64::from(page) - 1);
-        let gathered = gather_all(self.alloc, start, wanted.as_slice(), self.rows.as_slice())?;
+        let gathered = self.gather(start, wanted.as_slice())?;
         Ok(Found {
             matches: gathered.matches,
             names: List::from(gathered.names),
         })
+    }
+
+    // The rows that have each of these words, for a page that begins after so many. Only those under the rarest word are
+    // looked at.
+    fn gather(&self, start: u64, wanted: &[Text]) -> Result<Gathered, NoMemory>
+        requires { 1 ≤ length wanted.now }
+        ensures { IfOk result (λ gathered. Gathers start (filter (spec.is_match wanted.now) self.now.names)
+            gathered.matches gathered.names.items) }
+    {
+        let word = &wanted[self.postings.rarest(wanted)];
+        let keys = self.postings.get(word.as_str());
+        gather_under(self.alloc, start, wanted, self.rows.as_slice(), keys)
     }
 
     /// The number of its rows.

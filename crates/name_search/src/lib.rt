@@ -5,8 +5,10 @@ mod faults;
 mod found;
 mod gathering;
 mod index;
+mod key;
 mod merging;
 mod named_row;
+mod postings;
 mod words;
 
 pub use faults::{FindFault, TakeFault};

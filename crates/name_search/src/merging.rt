@@ -137,7 +137,7 @@ fn order(row: &Row, other: &NamedRow) -> Ordering
     ensures { (named_so : SheetRow) → IsRowOf DeclaredSheet.Lei named_so → other.now ≡ named named_so
         → result ≡ key_cmp (key row.now) (key named_so) }
 {
-    text_of(row, 1).cmp(other.key())
+    text_of(row, 1).cmp(other.key().as_str())
 }
 
 // Puts the row that a change puts, which is the next of those that were made.

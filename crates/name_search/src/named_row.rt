@@ -5,7 +5,9 @@ ghost use Rattle.register_words.specs.declared.sheets.Sheet.{Sheet as DeclaredSh
 ghost use Rattle.copy_csv.specs.Sheets.{IsRow};
 ghost use Rattle.name_search.specs.NameTables.{named};
 ghost use Rattle.name_search.specs.Searching as spec;
+ghost use Rattle.name_search.specs.Words.{words};
 
+use crate::key::Key;
 use crate::words::folded;
 use copy_csv::{Row, Sheet};
 use lei_outside::{List, NoMemory, Text};
@@ -17,7 +19,7 @@ use worker_pool::Steps;
 /// The key of a row, its name, and the words of the name. Contracts see the key and the name.
 #[derive(Drop)]
 pub struct NamedRow {
-    key: Text,
+    key: Key,
     name: Text,
     words: List<Text>,
 }
@@ -42,16 +44,23 @@ impl NamedRow {
         ensures steps { steps.new ≡ steps.old + 1 }
     {
         let words = folded(alloc, text_of(row, 2), steps)?;
-        let key = Text::copy_of(alloc, text_of(row, 1))?;
+        let key = Key::copy_of(alloc, text_of(row, 1))?;
         let name = Text::copy_of(alloc, text_of(row, 2))?;
         Ok(NamedRow { key, name, words })
     }
 
     /// Its key.
-    pub fn key(&self) -> &str
+    pub fn key(&self) -> &Key
         ensures { result.now ≡ self.now.0 }
     {
-        self.key.as_str()
+        &self.key
+    }
+
+    /// The words of its name.
+    pub fn words(&self) -> &[Text]
+        ensures { result.now ≡ words self.now.1 }
+    {
+        self.words.as_slice()
     }
 
     /// Whether its name has each of these words.

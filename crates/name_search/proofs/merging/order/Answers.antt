@@ -8,4 +8,5 @@ use Rattle.name_search.proofs.merging.order.Goals as goal
 pub returns : goal.returns
 returns c = λ other is is_named.
     key_order c.args.row.now other c.args.other.now c.cmp.result c.text_of.ensures.row c.requires is is_named
-    (c.cmp.ensures ∙ ap (λ text. slice_cmp nat_cmp text c.key.result.now) c.text_of.ensures.value ∙ ap (slice_cmp nat_cmp (text_at c.args.row.now.texts 1)) c.key.ensures)
+    (c.cmp.ensures ∙ ap (λ text. slice_cmp nat_cmp text c.as_str.result.now) c.text_of.ensures.value
+    ∙ ap (slice_cmp nat_cmp (text_at c.args.row.now.texts 1)) (c.as_str.ensures ∙ c.key.ensures))

@@ -1,5 +1,6 @@
 use Rattle.std.proofs.Common.{ap, ◌∙◌}
 use Rattle.name_search.specs.NameTables.{NameTable}
+use Rattle.name_search.proofs.NotedLemmas.{indexed-after, indexed-more}
 use Rattle.name_search.proofs.Walked.{table_after}
 use Rattle.name_search.proofs.index.Index.take.Goals as goal
 
@@ -7,3 +8,17 @@ pub returns-clause-rows : goal.returns-clause-rows
 returns-clause-rows g c = λ rows is.
     table_after rows c.args.delta.now.changes c.as_slice-changes.result.now c.args.self.now _ c.swap.new.y.items c.as_slice-changes.ensures c.requires.changes
     (ap (λ rows. rows.items) c.swap.ensures.y_after ∙ ap (λ (t : NameTable). t.names) c.self.view_is) c.merge.ensures is
+
+pub invariant_of-self : goal.invariant_of-self
+invariant_of-self g c =
+    indexed-more c.self.inside.rows.items c.self.inside.postings c.note_all.new.self c.self.invariant c.note_all.ensures.stays
+
+pub invariant_of-self-in_err-rows : goal.invariant_of-self-in_err-rows
+invariant_of-self-in_err-rows g c =
+    indexed-more c.self.inside.rows.items c.self.inside.postings c.note_all.new.self c.self.invariant c.note_all.ensures.stays
+
+pub invariant_of-self-2 : goal.invariant_of-self-2
+invariant_of-self-2 g c =
+    indexed-after c.self.inside.rows.items c.merge.new.out.items c.as_slice.result.now c.args.delta.now.changes c.as_slice-changes.result.now c.self.inside.postings c.note_all.new.self
+    c.self.invariant c.note_all.ensures.stays c.in_ok-note_all.ensures.noted (c.as_slice.ensures.value ∙ c.in_ok-puts.ensures.names) c.as_slice-changes.ensures c.requires.changes
+    (λ copy are is. c.merge.ensures copy are (ap (λ rows. rows.items) c.swap.ensures.y_after ∙ is))

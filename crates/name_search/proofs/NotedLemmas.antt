@@ -1,0 +1,239 @@
+-- What is noted of the words of names.
+use Rattle.std.proofs.Common.{◌≡◌, ℕ, ◌+◌, ◌<◌, T, Bool, true, false, ◌&&◌, ◌||◌, cond, Option, None, Some, List, [], ◌∷◌, ◌++◌, zero, suc, get_or, take, map, length, refl, sym, ap, subst, ◌∙◌, arith}
+use Rattle.std.specs.Prelude.{flat_map}
+use Rattle.std.specs.BTreeMap.{BTreeMap, UpdatesBy, get_by_text}
+use Rattle.std.specs.BTreeSet.{BTreeSet}
+use Rattle.std.specs.Prelude.{String}
+use Rattle.std.specs.String.{string_bytes, string_cmp}
+use Rattle.std.specs.Cmp.Lexicographic.{bytes_decides, slice_cmp}
+use Rattle.std.specs.FinMap.Entries.{below_all, by_order, find, is_sorted}
+use Rattle.std.specs.List.{All, AllByRecursion, list_all, list_any}
+use Rattle.std.specs.List.Sorted.{IsStrictlySortedBy}
+use Rattle.std.specs.Ordering.{eq_by_cmp, is_lt, nat_cmp}
+use Rattle.std.specs.Str.{bytes_eq}
+use Rattle.std.specs.declared.cmp.Ordering.{Ordering}
+use Rattle.std.proofs.lemmas.Bool.{false≢true}
+use Rattle.std.proofs.lemmas.List.{take_more}
+use Rattle.std.proofs.lemmas.List.Elements.{All-head, All-tail}
+use Rattle.std.proofs.lemmas.List.Folds.{list_all-append}
+use Rattle.std.proofs.lemmas.Map.Text.{btree_map_updates_text}
+use Rattle.lei_code.specs.Texts.{Text}
+use Rattle.lei_records.specs.Tables.{key_cmp}
+use Rattle.register_words.specs.declared.sheets.Sheet.{Sheet}
+use Rattle.copy_csv.specs.declared.rows.Change.{Change}
+use Rattle.copy_csv.specs.Rows.{AreChanges, AreRows, IsRowOf, changed_key}
+use Rattle.copy_csv.specs.Sheets.{SheetRow, key}
+use Rattle.copy_forms.specs.Patching.{patched}
+use Rattle.delta_apply.specs.Merging.{merged, placed, put_by}
+use Rattle.delta_apply.proofs.Merged.{merged_is}
+use Rattle.name_search.specs.declared.postings.Postings.{Postings}
+use Rattle.name_search.specs.NameTables.{Name, named}
+use Rattle.name_search.specs.Puts.{named_alone, put_name, put_names}
+use Rattle.name_search.specs.Searching.{has_each, is_among, is_match}
+use Rattle.name_search.specs.Walks.{Covers, IsIndexed, Stays, is_key, is_noted, keys_in, keys_under, text_cmp}
+use Rattle.name_search.specs.Words.{words}
+use Rattle.name_search.proofs.KeyLemmas.{key_is, then_nothing}
+use Rattle.name_search.proofs.RowsStay.{rows_stay}
+use Rattle.name_search.proofs.WalkLemmas.{tied}
+
+both : (a b : Bool) → (a && b) ≡ true → (a ≡ true) × (b ≡ true)
+both true b e = (refl, e)
+both false b e = absurd (cc)
+
+joined : (a b : Bool) → a ≡ true → b ≡ true → (a && b) ≡ true
+joined true b p q = q
+joined false b p q = absurd (cc)
+
+-- ---- a test that holds of all
+
+all_weaker : {X : Type 0} (p q : X → Bool) → ((x : X) → p x ≡ true → q x ≡ true) → (xs : List X) → list_all p xs ≡ true → list_all q xs ≡ true
+all_weaker p q weaker [] all = refl
+all_weaker p q weaker (x ∷ xs) all =
+    let parts : (p x ≡ true) × (list_all p xs ≡ true) = both (p x) (list_all p xs) all in
+    joined (q x) (list_all q xs) (weaker x parts.0) (all_weaker p q weaker xs parts.1)
+
+pub all_more : {X : Type 0} (p : X → Bool) (xs : List X) (i : ℕ) (x : X) → i < length xs → x ≡ get_or xs i x → list_all p (take i xs) ≡ true
+    → p x ≡ true → list_all p (take (i + 1) xs) ≡ true
+all_more p xs i x within here all is =
+    ap (list_all p) (take_more xs i x within ∙ ap (λ y. take i xs ++ y ∷ []) (sym here))
+    ∙ list_all-append p (take i xs) (x ∷ []) ∙ joined (list_all p (take i xs)) (p x && true) all (joined (p x) true is refl)
+
+-- ---- what was noted stays noted
+
+pub stays_then : (old mid new : Postings) → Stays old mid → Stays mid new → Stays old new
+stays_then old mid new first second word key is = second word key (first word key is)
+
+pub key_stays : (old new : Postings) → Stays old new → (key : Text) (these : List Text) → list_all (λ word. is_key key (keys_under old word)) these ≡ true
+    → list_all (λ word. is_key key (keys_under new word)) these ≡ true
+key_stays old new stays key these =
+    all_weaker (λ word. is_key key (keys_under old word)) (λ word. is_key key (keys_under new word)) (λ word. stays word key) these
+
+pub noted_stays : (old new : Postings) → Stays old new → (names : List Name) → list_all (is_noted old) names ≡ true → list_all (is_noted new) names ≡ true
+noted_stays old new stays = all_weaker (is_noted old) (is_noted new) (λ (name : Name). key_stays old new stays name.0 (words name.1))
+
+-- ---- a name that has a word is noted under it
+
+under_word : (test : Text → Bool) (word : Text) (these : List Text) → list_all test these ≡ true → is_among these word ≡ true → test word ≡ true
+under_word test word [] all among = absurd (cc)
+under_word test word (x ∷ these) all among =
+    let parts : (test x ≡ true) × (list_all test these ≡ true) = both (test x) (list_all test these) all in
+    by (under_word test word these parts.1) (bytes_eq word x) refl parts.0 among
+  where
+    by : (is_among these word ≡ true → test word ≡ true) → (b : Bool) → bytes_eq word x ≡ b → test x ≡ true → (b || is_among these word) ≡ true
+        → test word ≡ true
+    by others true same is among = ap test ((bytes_decides word x).0 same) ∙ is
+    by others false differs is among = others among
+
+under_key : (test : Name → Bool) (q name : Text) (names : List Name) → list_all test names ≡ true → find text_cmp q names ≡ Some name → test (q, name) ≡ true
+under_key test q name [] all found = absurd (cc)
+under_key test q name (e ∷ es) all found =
+    let parts : (test e ≡ true) × (list_all test es ≡ true) = both (test e) (list_all test es) all in
+    by (under_key test q name es parts.1) (eq_by_cmp text_cmp q e.0) refl parts.0 found
+  where
+    by : (find text_cmp q es ≡ Some name → test (q, name) ≡ true) → (b : Bool) → eq_by_cmp text_cmp q e.0 ≡ b → test e ≡ true
+        → cond b (Some e.1) (find text_cmp q es) ≡ Some name → test (q, name) ≡ true
+    by others true same holds is =
+        let value : e.1 ≡ name = cc in
+        ap (λ k. test (k, name)) (tied q e.0 same) ∙ ap (λ n. test (e.0, n)) (sym value) ∙ holds
+    by others false differs holds is = others is
+
+wanted_word : (wanted these : List Text) (i : ℕ) (word : Text) → i < length wanted → word ≡ get_or wanted i word → has_each wanted these ≡ true
+    → is_among these word ≡ true
+wanted_word [] these i word within here all = absurd (omega arith)
+wanted_word (x ∷ wanted) these zero word within here all =
+    ap (is_among these) here ∙ (both (is_among these x) (has_each wanted these) all).0
+wanted_word (x ∷ wanted) these (suc i) word within here all =
+    wanted_word wanted these i word (omega arith) here (both (is_among these x) (has_each wanted these) all).1
+
+-- so the keys under a wanted word are those of all names that match
+pub covers_is : (postings : Postings) (names : List Name) (wanted : List Text) (i : ℕ) (word : Text) → list_all (is_noted postings) names ≡ true
+    → i < length wanted → word ≡ get_or wanted i word → Covers (is_match wanted) names (keys_under postings word)
+covers_is postings names wanted i word noted within here q name found matches =
+    under_word (λ w. is_key q (keys_under postings w)) word (words name)
+    (under_key (is_noted postings) q name names noted found) (wanted_word wanted (words name) i word within here matches)
+
+pub covers_at : (postings : Postings) (names names' : List Name) (wanted : List Text) (i : ℕ) (word word' : Text) (keys : List Text)
+    → list_all (is_noted postings) names ≡ true → i < length wanted → word ≡ get_or wanted i word → names' ≡ names → keys ≡ keys_under postings word'
+    → word' ≡ word → Covers (is_match wanted) names' keys
+covers_at postings names names' wanted i word word' keys noted within here same are is q name found matches =
+    ap (is_key q) (are ∙ ap (keys_under postings) is)
+    ∙ covers_is postings names wanted i word noted within here q name (ap (find text_cmp q) (sym same) ∙ found) matches
+
+-- ---- names of rows whose keys rise are sorted
+
+name_order : (row other : SheetRow) → IsRowOf Sheet.Lei row → IsRowOf Sheet.Lei other → text_cmp (named row).0 (named other).0 ≡ key_cmp (key row) (key other)
+name_order row other is other_is =
+    sym (then_nothing (text_cmp (named row).0 (named other).0))
+    ∙ sym (ap (λ k. key_cmp k (key other)) (key_is row is.0 is.1) ∙ ap (key_cmp ((named row).0 ∷ [])) (key_is other other_is.0 other_is.1))
+
+below_names : (row : SheetRow) (rows : List SheetRow) → IsRowOf Sheet.Lei row → All (IsRowOf Sheet.Lei) rows
+    → AllByRecursion (λ k. key_cmp (key row) k ≡ Ordering.Less) (map key rows) → below_all text_cmp (named row).0 (map named rows) ≡ true
+below_names row [] is all above = refl
+below_names row (x ∷ rows) is all above =
+    joined (is_lt (text_cmp (named row).0 (named x).0)) (below_all text_cmp (named row).0 (map named rows))
+    (ap is_lt (name_order row x is (All-head (IsRowOf Sheet.Lei) x rows all) ∙ above.0)) (below_names row rows is (All-tail (IsRowOf Sheet.Lei) x rows all) above.1)
+
+sorted_names : (rows : List SheetRow) → All (IsRowOf Sheet.Lei) rows → IsStrictlySortedBy key_cmp (map key rows) → is_sorted text_cmp (map named rows) ≡ true
+unfolding IsStrictlySortedBy
+sorted_names [] all rising = refl
+sorted_names (row ∷ rows) all rising =
+    joined (below_all text_cmp (named row).0 (map named rows)) (is_sorted text_cmp (map named rows))
+    (below_names row rows (All-head (IsRowOf Sheet.Lei) row rows all) (All-tail (IsRowOf Sheet.Lei) row rows all) rising.0)
+    (sorted_names rows (All-tail (IsRowOf Sheet.Lei) row rows all) rising.1)
+
+pub indexed-sorted : (names : List Name) (postings : Postings) → IsIndexed names postings → is_sorted text_cmp names ≡ true
+indexed-sorted names postings is =
+    ap (is_sorted text_cmp) is.names_are ∙ sorted_names is.copy is.copy_is.each is.copy_is.rising
+
+-- ---- what holds of the names of a copy and of those that changes put holds of all after the changes
+
+put_first : (test : Name → Bool) (change : Change) (rows : List SheetRow) → list_all test (put_name change) ≡ true → list_all test (map named rows) ≡ true
+    → list_all test (map named (put_by change ++ rows)) ≡ true
+put_first test (Change.Put row) rows put others = joined (test (named row)) (list_all test (map named rows)) (both (test (named row)) true put).0 others
+put_first test (Change.Drop row) rows put others = others
+
+puts_all : (test : Name → Bool) (changes : List Change) → list_all test (put_names changes) ≡ true → list_all test (map named (flat_map put_by changes)) ≡ true
+puts_all test [] all = refl
+puts_all test (change ∷ changes) all =
+    let parts : (list_all test (put_name change) ≡ true) × (list_all test (put_names changes) ≡ true) =
+    both (list_all test (put_name change)) (list_all test (put_names changes)) (sym (list_all-append test (put_name change) (put_names changes)) ∙ all) in
+    put_first test change (flat_map put_by changes) parts.0 (puts_all test changes parts.1)
+
+placed_all : (test : Name → Bool) (row : SheetRow) (others : List Change → List SheetRow) → test (named row) ≡ true
+    → ((changes : List Change) → list_all test (put_names changes) ≡ true → list_all test (map named (others changes)) ≡ true)
+    → (changes : List Change) → list_all test (put_names changes) ≡ true → list_all test (map named (placed row others changes)) ≡ true
+placed_all test row others is later [] all = joined (test (named row)) (list_all test (map named (others []))) is (later [] refl)
+placed_all test row others is later (change ∷ changes) all =
+    let parts : (list_all test (put_name change) ≡ true) × (list_all test (put_names changes) ≡ true) =
+    both (list_all test (put_name change)) (list_all test (put_names changes)) (sym (list_all-append test (put_name change) (put_names changes)) ∙ all) in
+    by (placed_all test row others is later changes parts.1) parts (key_cmp (changed_key change) (key row))
+  where
+    by : list_all test (map named (placed row others changes)) ≡ true
+        → (list_all test (put_name change) ≡ true) × (list_all test (put_names changes) ≡ true) → (o : Ordering)
+        → list_all test (map named (by_order o (put_by change ++ placed row others changes) (put_by change ++ others changes) (row ∷ others (change ∷ changes)))) ≡ true
+    by inner parts Ordering.Less = put_first test change (placed row others changes) parts.0 inner
+    by inner parts Ordering.Equal = put_first test change (others changes) parts.0 (later changes parts.1)
+    by inner parts Ordering.Greater = joined (test (named row)) (list_all test (map named (others (change ∷ changes)))) is (later (change ∷ changes) all)
+
+merged_all : (test : Name → Bool) (rows : List SheetRow) → list_all test (map named rows) ≡ true → (changes : List Change)
+    → list_all test (put_names changes) ≡ true → list_all test (map named (merged rows changes)) ≡ true
+merged_all test [] all changes puts = puts_all test changes puts
+merged_all test (row ∷ rows) all changes puts =
+    let parts : (test (named row) ≡ true) × (list_all test (map named rows) ≡ true) = both (test (named row)) (list_all test (map named rows)) all in
+    placed_all test row (merged rows) parts.0 (merged_all test rows parts.1) changes puts
+
+-- ---- what an index keeps
+
+pub indexed-made : (rows : List SheetRow) (names : List Name) (postings : Postings) → AreRows Sheet.Lei rows → names ≡ map named rows
+    → list_all (is_noted postings) names ≡ true → IsIndexed names postings
+indexed-made rows names postings are is noted = record { copy = rows; copy_is = are; names_are = is; noted = noted }
+
+pub indexed-more : (names : List Name) (old new : Postings) → IsIndexed names old → Stays old new → IsIndexed names new
+indexed-more names old new is stays = record {
+  copy = is.copy;
+  copy_is = is.copy_is;
+  names_are = is.names_are;
+  noted = noted_stays old new stays names is.noted;
+}
+
+pub indexed-after : (names out : List Name) (puts : List Name) (changes changes' : List Change) (old new : Postings) → IsIndexed names old → Stays old new
+    → list_all (is_noted new) puts ≡ true → puts ≡ put_names changes' → changes' ≡ changes → AreChanges Sheet.Lei changes
+    → ((copy : List SheetRow) → AreRows Sheet.Lei copy → names ≡ map named copy → out ≡ map named (patched copy changes')) → IsIndexed out new
+indexed-after names out puts changes changes' old new is stays noted puts_are same are merges =
+    let after : out ≡ map named (patched is.copy changes) = merges is.copy is.copy_is is.names_are ∙ ap (λ l. map named (patched is.copy l)) same in
+    let before : list_all (is_noted new) (map named is.copy) ≡ true =
+    ap (list_all (is_noted new)) (sym is.names_are) ∙ noted_stays old new stays names is.noted in
+    let put : list_all (is_noted new) (put_names changes) ≡ true = ap (list_all (is_noted new)) (ap put_names (sym same) ∙ sym puts_are) ∙ noted in
+    record {
+      copy = patched is.copy changes;
+      copy_is = rows_stay Sheet.Lei is.copy changes is.copy_is are;
+      names_are = after;
+      noted = ap (list_all (is_noted new)) (after ∙ ap (map named) (sym (merged_is is.copy changes is.copy_is.rising are.rising)))
+          ∙ merged_all (is_noted new) is.copy before changes put;
+    }
+
+-- ---- one word of an index
+
+module _ {Y : Type 0} (old new : BTreeMap (String Y) (BTreeSet Text)) (word : Text) (keys : Option (BTreeSet Text)) where
+  pub stays_updated : UpdatesBy string_cmp (λ k. slice_cmp nat_cmp word (string_bytes k)) old new keys
+      → ((key : Text) → is_key key (keys_in (get_by_text old word)) ≡ true → is_key key (keys_in keys) ≡ true)
+      → (other key : Text) → is_key key (keys_in (get_by_text old other)) ≡ true → is_key key (keys_in (get_by_text new other)) ≡ true
+  stays_updated updates stay other key had =
+      ap (λ o. is_key key (keys_in o)) (btree_map_updates_text word old new keys updates other) ∙ by (bytes_eq word other) refl
+    where
+      by : (b : Bool) → bytes_eq word other ≡ b → is_key key (keys_in (cond b keys (get_by_text old other))) ≡ true
+      by true same = stay key (ap (λ w. is_key key (keys_in (get_by_text old w))) ((bytes_decides word other).0 same) ∙ had)
+      by false differs = had
+
+-- no key stands under a word that has none
+pub no_key : {P : Type 0} (key : Text) (keys : Option (BTreeSet Text)) → keys ≡ None → is_key key (keys_in keys) ≡ true → P
+no_key key keys none had = absurd (false≢true (sym (ap (λ o. is_key key (keys_in o)) none) ∙ had))
+
+-- ---- one more word of a row
+
+pub note_more : (old new : Postings) (key key' : Text) (these : List Text) (i : ℕ) (word word' : Text) → Stays old new → i < length these
+    → word ≡ get_or these i word → list_all (λ w. is_key key (keys_under old w)) (take i these) ≡ true → key' ≡ key → word' ≡ word
+    → is_key key' (keys_under new word') ≡ true → list_all (λ w. is_key key (keys_under new w)) (take (i + 1) these) ≡ true
+note_more old new key key' these i word word' stays within here before same is noted =
+    all_more (λ w. is_key key (keys_under new w)) these i word within here (key_stays old new stays key (take i these) before)
+    (sym (ap (λ k. is_key k (keys_under new word')) same ∙ ap (λ w. is_key key (keys_under new w)) is) ∙ noted)

@@ -1,0 +1,14 @@
+use Rattle.std.proofs.Common.{ap, ◌∙◌}
+use Rattle.std.specs.FinMap.Entries.{is_sorted}
+use Rattle.name_search.specs.Walks.{text_cmp}
+use Rattle.name_search.proofs.NotedLemmas.{covers_at, indexed-sorted}
+use Rattle.name_search.proofs.index.Index.gather.Goals as goal
+
+pub gather_under-requires-clause-sorted : goal.gather_under-requires-clause-sorted
+gather_under-requires-clause-sorted c =
+    ap (is_sorted text_cmp) c.as_slice.ensures.value ∙ indexed-sorted c.self.inside.rows.items c.self.inside.postings c.self.invariant
+
+pub gather_under-requires-clause-covers : goal.gather_under-requires-clause-covers
+gather_under-requires-clause-covers c =
+    covers_at c.self.inside.postings c.self.inside.rows.items c.as_slice.result.now c.args.wanted.now c.rarest.result c.index-wanted-rarest.result c.as_str.result.now _
+    c.self.invariant.noted c.rarest.ensures c.index-wanted-rarest.is c.as_slice.ensures.value c.get-keys.ensures c.as_str.ensures

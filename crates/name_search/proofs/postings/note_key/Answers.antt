@@ -1,0 +1,12 @@
+use Rattle.std.proofs.Common.{◌≡◌, Bool, true, false, cond, refl, ◌∙◌}
+use Rattle.std.specs.Ordering.{is_eq}
+use Rattle.name_search.specs.Walks.{is_key, text_cmp}
+use Rattle.name_search.proofs.postings.note_key.Goals as goal
+
+had : (b t : Bool) → t ≡ true → cond b true t ≡ true
+had true t is = refl
+had false t is = is
+
+pub returns-clause-stay : goal.returns-clause-stay
+returns-clause-stay c = λ k is.
+    c.in_ok-insert.ensures.updates.0 k ∙ had _ (is_key k c.args.keys.now.keys) is

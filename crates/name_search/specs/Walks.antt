@@ -1,0 +1,66 @@
+-- By word, the keys of the rows whose names have it, and a walk over the keys of one word instead of all names.
+use Rattle.std.specs.Prelude.{◌≡◌, ℕ, Bool, true, Option, None, Some, List, [], ◌∷◌, flat_map, map, if◌then◌else◌}
+use Rattle.std.specs.BTreeMap.{get_by_text}
+use Rattle.std.specs.BTreeSet.{BTreeSet}
+use Rattle.std.specs.Cmp.Lexicographic.{slice_cmp}
+use Rattle.std.specs.FinMap.Entries.{find}
+use Rattle.std.specs.List.{list_all, list_any}
+use Rattle.std.specs.Ordering.{eq_by_cmp, nat_cmp}
+use Rattle.std.specs.declared.cmp.Ordering.{Ordering}
+use Rattle.lei_code.specs.Texts.{Text}
+use Rattle.register_words.specs.declared.sheets.Sheet.{Sheet}
+use Rattle.copy_csv.specs.Rows.{AreRows}
+use Rattle.copy_csv.specs.Sheets.{SheetRow}
+use Rattle.name_search.specs.declared.postings.Postings.{Postings}
+use Rattle.name_search.specs.NameTables.{Name, named}
+use Rattle.name_search.specs.Words.{words}
+
+-- Texts in byte order.
+abbrev pub text_cmp : Text → Text → Ordering
+text_cmp = slice_cmp nat_cmp
+
+-- ---- what is noted
+
+-- The keys of a set, if there is one.
+abbrev pub keys_in : Option (BTreeSet Text) → List Text
+keys_in None = []
+keys_in (Some keys) = keys.keys
+
+-- The keys that are noted under a word.
+abbrev pub keys_under : Postings → Text → List Text
+keys_under postings word = keys_in (get_by_text postings.map word)
+
+-- A key is one of these.
+abbrev pub is_key : Text → List Text → Bool
+is_key key keys = list_any (eq_by_cmp text_cmp key) keys
+
+-- The key of a name is noted under each of its words.
+abbrev pub is_noted : Postings → Name → Bool
+is_noted postings name = list_all (λ word. is_key name.0 (keys_under postings word)) (words name.1)
+
+-- What is noted in the one is noted in the other.
+abbrev pub Stays : Postings → Postings → Type 0
+Stays old new = (word key : Text) → is_key key (keys_under old word) ≡ true → is_key key (keys_under new word) ≡ true
+
+-- The names are those of some rows of a copy, and each is noted.
+pub record IsIndexed (names : List Name) (postings : Postings) : Type 0 where
+  pub copy : List SheetRow
+  pub copy_is : AreRows Sheet.Lei copy
+  pub names_are : names ≡ map named copy
+  pub noted : list_all (is_noted postings) names ≡ true
+
+-- ---- a walk
+
+-- The name under a key, if one was found and passes a test.
+abbrev pub hits : (Name → Bool) → Text → Option Text → List Name
+hits test key None = []
+hits test key (Some name) = if test (key, name) then (key, name) ∷ [] else []
+
+-- The names under these keys that pass a test.
+abbrev pub walk : (Name → Bool) → List Name → List Text → List Name
+walk test names keys = flat_map (λ key. hits test key (find text_cmp key names)) keys
+
+-- The keys are those of all names that pass a test, and maybe others.
+abbrev pub Covers : (Name → Bool) → List Name → List Text → Type 0
+Covers test names keys =
+    (key name : Text) → find text_cmp key names ≡ Some name → test (key, name) ≡ true → is_key key keys ≡ true
