@@ -102,7 +102,11 @@ fn match_at<'a>(wanted: &[Text], rows: &'a [NamedRow], key: &str) -> Option<&'a 
         ≡ hits (spec.is_match wanted.now) key.now (find text_cmp key.now rows.now) }
 {
     let row = row_at(rows, key)?;
-    if row.is_match(wanted) { Some(row) } else { None }
+    if row.is_match(wanted) {
+        Some(row)
+    } else {
+        None
+    }
 }
 
 // The row of a key.
