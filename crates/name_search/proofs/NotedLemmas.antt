@@ -6,17 +6,20 @@ use Rattle.std.specs.BTreeSet.{BTreeSet}
 use Rattle.std.specs.Prelude.{String}
 use Rattle.std.specs.String.{string_bytes, string_cmp}
 use Rattle.std.specs.Cmp.Lexicographic.{bytes_decides, slice_cmp}
+use Rattle.std.specs.Cmp.{tied_itself}
 use Rattle.std.specs.FinMap.Entries.{below_all, by_order, find, is_sorted}
+use Rattle.std.specs.Option.{option_map}
 use Rattle.std.specs.List.{All, AllByRecursion, list_all, list_any}
 use Rattle.std.specs.List.Sorted.{IsStrictlySortedBy}
-use Rattle.std.specs.Ordering.{eq_by_cmp, is_lt, nat_cmp}
+use Rattle.std.specs.Ordering.{eq_by_cmp, is_eq, is_lt, nat_cmp}
 use Rattle.std.specs.Str.{bytes_eq}
 use Rattle.std.specs.declared.cmp.Ordering.{Ordering}
 use Rattle.std.proofs.lemmas.Bool.{false≢true}
+use Rattle.std.proofs.lemmas.Cmp.{nat_list_cmp_total}
 use Rattle.std.proofs.lemmas.List.{take_more}
 use Rattle.std.proofs.lemmas.List.Elements.{All-head, All-tail}
 use Rattle.std.proofs.lemmas.List.Folds.{list_all-append}
-use Rattle.std.proofs.lemmas.Map.Text.{btree_map_updates_text}
+use Rattle.std.proofs.lemmas.Map.Text.{btree_map_updates_text, is_eq-slice_cmp}
 use Rattle.lei_code.specs.Texts.{Text}
 use Rattle.lei_records.specs.Tables.{key_cmp}
 use Rattle.register_words.specs.declared.sheets.Sheet.{Sheet}
@@ -30,11 +33,12 @@ use Rattle.name_search.specs.declared.postings.Postings.{Postings}
 use Rattle.name_search.specs.NameTables.{Name, named}
 use Rattle.name_search.specs.Puts.{named_alone, put_name, put_names}
 use Rattle.name_search.specs.Searching.{has_each, is_among, is_match}
-use Rattle.name_search.specs.Walks.{Covers, IsIndexed, Stays, is_key, is_noted, keys_in, keys_under, text_cmp}
+use Rattle.name_search.specs.Walks.{Covers, IsIndexed, Stays, StaysFor, TakesOne, has_word, is_key, is_noted, keys_in, keys_under, text_cmp}
 use Rattle.name_search.specs.Words.{words}
 use Rattle.name_search.proofs.KeyLemmas.{key_is, then_nothing}
 use Rattle.name_search.proofs.RowsStay.{rows_stay}
-use Rattle.name_search.proofs.WalkLemmas.{tied}
+use Rattle.name_search.proofs.PlaceLemmas.{turned}
+use Rattle.name_search.proofs.WalkLemmas.{first_true, less, second_true, tied}
 
 both : (a b : Bool) → (a && b) ≡ true → (a ≡ true) × (b ≡ true)
 both true b e = (refl, e)
@@ -237,3 +241,98 @@ pub note_more : (old new : Postings) (key key' : Text) (these : List Text) (i : 
 note_more old new key key' these i word word' stays within here before same is noted =
     all_more (λ w. is_key key (keys_under new w)) these i word within here (key_stays old new stays key (take i these) before)
     (sym (ap (λ k. is_key k (keys_under new word')) same ∙ ap (λ w. is_key key (keys_under new w)) is) ∙ noted)
+
+-- ---- a key that is taken from under a word
+
+among_itself : (word : Text) (these : List Text) → is_among (word ∷ these) word ≡ true
+among_itself word these = ap (λ b. b || is_among these word) ((bytes_decides word word).1 refl)
+
+among_more : (other word : Text) (these : List Text) → is_among these word ≡ true → is_among (other ∷ these) word ≡ true
+among_more other word these among = by (bytes_eq word other)
+  where
+    by : (b : Bool) → (b || is_among these word) ≡ true
+    by true = refl
+    by false = among
+
+each_of : (p q : Text → Bool) (these : List Text) → ((word : Text) → is_among these word ≡ true → p word ≡ true → q word ≡ true)
+    → list_all p these ≡ true → list_all q these ≡ true
+each_of p q [] weaker all = refl
+each_of p q (word ∷ these) weaker all =
+    let parts : (p word ≡ true) × (list_all p these ≡ true) = both (p word) (list_all p these) all in
+    joined (q word) (list_all q these) (weaker word (among_itself word these) parts.0)
+    (each_of p q these (λ other among. weaker other (among_more word other these among)) parts.1)
+
+-- each name is the one under its key
+later_found : (e : Name) (all names : List Name) → T (below_all text_cmp e.0 names)
+    → AllByRecursion (λ (n : Name). find text_cmp n.0 all ≡ Some n.1) names → AllByRecursion (λ (n : Name). find text_cmp n.0 (e ∷ all) ≡ Some n.1) names
+later_found e all [] below found = tt
+later_found e all (n ∷ names) below found =
+    let above : text_cmp n.0 e.0 ≡ Ordering.Greater = turned e.0 n.0 (less (text_cmp e.0 n.0) (first_true (is_lt (text_cmp e.0 n.0)) (below_all text_cmp e.0 names) below)) in (
+      ap (λ o. cond (is_eq o) (Some e.1) (find text_cmp n.0 all)) above ∙ found.0,
+      later_found e all names (second_true (is_lt (text_cmp e.0 n.0)) (below_all text_cmp e.0 names) below) found.1,
+    )
+
+each_found : (names : List Name) → T (is_sorted text_cmp names) → AllByRecursion (λ (n : Name). find text_cmp n.0 names ≡ Some n.1) names
+each_found [] sorted = tt
+each_found (e ∷ es) sorted = (
+  ap (λ o. cond (is_eq o) (Some e.1) (find text_cmp e.0 es)) (tied_itself nat_list_cmp_total e.0),
+  later_found e es es (first_true (below_all text_cmp e.0 es) (is_sorted text_cmp es) sorted) (each_found es (second_true (below_all text_cmp e.0 es) (is_sorted text_cmp es) sorted)),
+)
+
+-- a name keeps its key under a word that it has
+keeps_word : (old new : Postings) (rows : List Name) (word key : Text) (n : Name) → TakesOne word key old new
+    → has_word (option_map (λ name. (key, name)) (find text_cmp key rows)) word ≡ false → find text_cmp n.0 rows ≡ Some n.1
+    → (other : Text) → is_among (words n.1) other ≡ true → is_key n.0 (keys_under old other) ≡ true → is_key n.0 (keys_under new other) ≡ true
+keeps_word old new rows word key n takes lacks found other among had = by (bytes_eq word other && bytes_eq key n.0) refl
+  where
+    by : (b : Bool) → (bytes_eq word other && bytes_eq key n.0) ≡ b → is_key n.0 (keys_under new other) ≡ true
+    by true same =
+        let parts : (bytes_eq word other ≡ true) × (bytes_eq key n.0 ≡ true) = both (bytes_eq word other) (bytes_eq key n.0) same in
+        let at : find text_cmp key rows ≡ Some n.1 = ap (λ k. find text_cmp k rows) ((bytes_decides key n.0).0 parts.1) ∙ found in
+        let has : has_word (option_map (λ name. (key, name)) (find text_cmp key rows)) word ≡ true =
+        ap (λ o. has_word (option_map (λ name. (key, name)) o) word) at ∙ ap (is_among (words n.1)) ((bytes_decides word other).0 parts.0) ∙ among in
+        absurd (false≢true (sym lacks ∙ has))
+    by false differs = takes other n.0 differs had
+
+keeps_each : (old new : Postings) (rows : List Name) (word key : Text) → TakesOne word key old new
+    → has_word (option_map (λ name. (key, name)) (find text_cmp key rows)) word ≡ false → (names : List Name)
+    → AllByRecursion (λ (n : Name). find text_cmp n.0 rows ≡ Some n.1) names → list_all (is_noted old) names ≡ true → list_all (is_noted new) names ≡ true
+keeps_each old new rows word key takes lacks [] found all = refl
+keeps_each old new rows word key takes lacks (n ∷ names) found all =
+    let parts : (is_noted old n ≡ true) × (list_all (is_noted old) names ≡ true) = both (is_noted old n) (list_all (is_noted old) names) all in
+    joined (is_noted new n) (list_all (is_noted new) names)
+    (each_of (λ w. is_key n.0 (keys_under old w)) (λ w. is_key n.0 (keys_under new w)) (words n.1) (keeps_word old new rows word key n takes lacks found.0) parts.0)
+    (keeps_each old new rows word key takes lacks names found.1 parts.1)
+
+-- so nothing that the rows need is taken
+pub forgets_one : (first old new : Postings) (rows : List Name) (word key : Text) (row : Option Name) → is_sorted text_cmp rows ≡ true
+    → row ≡ option_map (λ name. (key, name)) (find text_cmp key rows) → has_word row word ≡ false → TakesOne word key old new
+    → StaysFor rows first old → StaysFor rows first new
+forgets_one first old new rows word key row sorted is lacks takes before all =
+    keeps_each old new rows word key takes (ap (λ o. has_word o word) (sym is) ∙ lacks) rows (each_found rows (subst T (sym sorted) tt)) (before all)
+
+pub indexed-forgot : (names : List Name) (old new : Postings) → IsIndexed names old → StaysFor names old new → IsIndexed names new
+indexed-forgot names old new is stays = record {
+  copy = is.copy;
+  copy_is = is.copy_is;
+  names_are = is.names_are;
+  noted = stays is.noted;
+}
+
+-- a key is taken from under a word of a map
+module _ {Y : Type 0} (old new : BTreeMap (String Y) (BTreeSet Text)) (word key : Text) (keys before : BTreeSet Text) where
+  pub takes_updated : UpdatesBy string_cmp (λ k. slice_cmp nat_cmp word (string_bytes k)) old new (Some keys)
+      → get_by_text old word ≡ Some before
+      → ((k : Text) → is_key k keys.keys ≡ cond (is_eq (text_cmp key k)) false (is_key k before.keys))
+      → (other k : Text) → (bytes_eq word other && bytes_eq key k) ≡ false → is_key k (keys_in (get_by_text old other)) ≡ true
+      → is_key k (keys_in (get_by_text new other)) ≡ true
+  takes_updated updates was removes other k apart had =
+      ap (λ o. is_key k (keys_in o)) (btree_map_updates_text word old new (Some keys) updates other) ∙ by (bytes_eq word other) refl
+    where
+      by : (b : Bool) → bytes_eq word other ≡ b → is_key k (keys_in (cond b (Some keys) (get_by_text old other))) ≡ true
+      by true same =
+          let there : get_by_text old other ≡ Some before = ap (get_by_text old) (sym ((bytes_decides word other).0 same)) ∙ was in
+          let differs : bytes_eq key k ≡ false = sym (ap (λ b. b && bytes_eq key k) same) ∙ apart in
+          removes k ∙ ap (λ b. cond b false (is_key k before.keys)) (is_eq-slice_cmp key k ∙ differs)
+          ∙ sym (ap (λ o. is_key k (keys_in o)) there) ∙ had
+      by false differs = had

@@ -42,7 +42,7 @@ rises_at (e ∷ es) sorted (suc i) (suc j) d lt within =
 same_name : (names : List Name) (i : ℕ) (d name : Name) → i < length names → name ≡ get_or names i name → get_or names i d ≡ name
 same_name names i d name within here = get_or_default names i d name within ∙ sym here
 
-turned : (j k : Text) → text_cmp j k ≡ Ordering.Less → text_cmp k j ≡ Ordering.Greater
+pub turned : (j k : Text) → text_cmp j k ≡ Ordering.Less → text_cmp k j ≡ Ordering.Greater
 turned j k lt = nat_list_cmp_total.antisymm k j ∙ ap ordering_reverse lt
 
 back : (j k : Text) → text_cmp j k ≡ Ordering.Greater → text_cmp k j ≡ Ordering.Less

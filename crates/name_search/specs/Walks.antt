@@ -1,11 +1,12 @@
 -- By word, the keys of the rows whose names have it, and a walk over the keys of one word instead of all names.
-use Rattle.std.specs.Prelude.{◌≡◌, ℕ, Bool, true, Option, None, Some, List, [], ◌∷◌, flat_map, map, if◌then◌else◌}
+use Rattle.std.specs.Prelude.{◌≡◌, ◌&&◌, ℕ, Bool, true, false, Option, None, Some, List, [], ◌∷◌, flat_map, map, if◌then◌else◌}
 use Rattle.std.specs.BTreeMap.{get_by_text}
 use Rattle.std.specs.BTreeSet.{BTreeSet}
 use Rattle.std.specs.Cmp.Lexicographic.{slice_cmp}
 use Rattle.std.specs.FinMap.Entries.{find}
 use Rattle.std.specs.List.{list_all, list_any}
 use Rattle.std.specs.Ordering.{eq_by_cmp, nat_cmp}
+use Rattle.std.specs.Str.{bytes_eq}
 use Rattle.std.specs.declared.cmp.Ordering.{Ordering}
 use Rattle.lei_code.specs.Texts.{Text}
 use Rattle.register_words.specs.declared.sheets.Sheet.{Sheet}
@@ -13,6 +14,7 @@ use Rattle.copy_csv.specs.Rows.{AreRows}
 use Rattle.copy_csv.specs.Sheets.{SheetRow}
 use Rattle.name_search.specs.declared.postings.Postings.{Postings}
 use Rattle.name_search.specs.NameTables.{Name, named}
+use Rattle.name_search.specs.Searching.{is_among}
 use Rattle.name_search.specs.Words.{words}
 
 -- Texts in byte order.
@@ -38,9 +40,24 @@ is_key key keys = list_any (eq_by_cmp text_cmp key) keys
 abbrev pub is_noted : Postings → Name → Bool
 is_noted postings name = list_all (λ word. is_key name.0 (keys_under postings word)) (words name.1)
 
+-- A name was found, and it has a word.
+abbrev pub has_word : Option Name → Text → Bool
+has_word None word = false
+has_word (Some name) word = is_among (words name.1) word
+
 -- What is noted in the one is noted in the other.
 abbrev pub Stays : Postings → Postings → Type 0
 Stays old new = (word key : Text) → is_key key (keys_under old word) ≡ true → is_key key (keys_under new word) ≡ true
+
+-- If all of these names are noted in the one, they are noted in the other.
+abbrev pub StaysFor : List Name → Postings → Postings → Type 0
+StaysFor names old new = list_all (is_noted old) names ≡ true → list_all (is_noted new) names ≡ true
+
+-- A key was taken from under a word, and no other key from under any.
+abbrev pub TakesOne : Text → Text → Postings → Postings → Type 0
+TakesOne word key old new =
+    (other k : Text) → (bytes_eq word other && bytes_eq key k) ≡ false → is_key k (keys_under old other) ≡ true
+    → is_key k (keys_under new other) ≡ true
 
 -- The names are those of some rows of a copy, and each is noted.
 pub record IsIndexed (names : List Name) (postings : Postings) : Type 0 where

@@ -7,10 +7,10 @@ ghost use Rattle.name_search.specs.Gathering.{Gathers};
 ghost use Rattle.name_search.specs.NameTables.{Name};
 
 use crate::named_row::NamedRow;
+use crate::places::row_at;
 use crate::postings::Keys;
 use lei_outside::{NoMemory, Text};
 use std::alloc::Global;
-use std::cmp::Ordering;
 
 /// How many matches there are so far, and the names of those on the page.
 #[derive(Drop)]
@@ -107,24 +107,4 @@ fn match_at<'a>(wanted: &[Text], rows: &'a [NamedRow], key: &str) -> Option<&'a 
     } else {
         None
     }
-}
-
-// The row of a key.
-fn row_at<'a>(rows: &'a [NamedRow], key: &str) -> Option<&'a NamedRow>
-    requires { is_sorted text_cmp rows.now ≡ true }
-    ensures { option_map (λ row. row.now) result
-        ≡ option_map (λ name. (key.now, name)) (find text_cmp key.now rows.now) }
-{
-    let mut low = 0;
-    let mut high = rows.len();
-    while low < high {
-        let middle = low + (high - low) / 2;
-        let row = &rows[middle];
-        match key.cmp(row.key().as_str()) {
-            Ordering::Less => high = middle,
-            Ordering::Equal => return Some(row),
-            Ordering::Greater => low = middle + 1,
-        }
-    }
-    None
 }

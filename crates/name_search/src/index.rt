@@ -104,8 +104,11 @@ impl Index {
         self.postings.note_all(puts.as_slice())?;
         let room = self.rows.len().saturating_add(puts.len());
         let mut rows = Vec::with_capacity(self.alloc, room)?;
+        let mut gone = Vec::with_capacity(self.alloc, changes.len())?;
         mem::swap(&mut self.rows, &mut rows);
-        merge(&mut self.rows, rows, puts, changes);
+        merge(&mut self.rows, rows, puts, changes, &mut gone);
+        self.postings
+            .forget_all(gone.as_slice(), self.rows.as_slice());
         self.publication = number_of(&delta.head);
         self.wide = delta.wide;
         Ok(())

@@ -8,6 +8,7 @@ mod index;
 mod key;
 mod merging;
 mod named_row;
+mod places;
 mod postings;
 mod words;
 

@@ -1,5 +1,5 @@
 //! The rows of a copy and those of a delta, merged in the order of their keys.
-ghost use Rattle.std.specs.Prelude.{◌≡◌, ◌+◌, ◌≤◌, ◌++◌, ◌∷◌, [], List, drop, if◌then◌else◌, flat_map, length, map, vec_capacity, IfOk};
+ghost use Rattle.std.specs.Prelude.{◌≡◌, ◌+◌, ◌≤◌, ◌++◌, ◌∷◌, [], false, List, drop, if◌then◌else◌, flat_map, length, map, vec_capacity, IfOk};
 ghost use Rattle.std.specs.List.{All};
 ghost use Rattle.std.specs.Vec.Iter.{into_iter_items};
 ghost use Rattle.register_words.specs.declared.sheets.Sheet.{Sheet as DeclaredSheet};
@@ -71,10 +71,18 @@ pub fn named_puts<L: Ledger>(
 }
 
 /// Puts the rows after the changes into a vector that has room for them: those of a copy, and those that the changes
-/// put, which were made before. It takes no memory.
-pub fn merge(out: &mut Vec<NamedRow>, rows: Vec<NamedRow>, puts: Vec<NamedRow>, changes: &[Change])
+/// put, which were made before. Those that go stand in another vector then. It takes no memory.
+pub fn merge(
+    out: &mut Vec<NamedRow>,
+    rows: Vec<NamedRow>,
+    puts: Vec<NamedRow>,
+    changes: &[Change],
+    gone: &mut Vec<NamedRow>,
+)
     requires empty { out.old.items ≡ [] }
     requires room { length rows.items + length puts.items ≤ vec_capacity out.old }
+    requires none_gone { gone.old.items ≡ [] }
+    requires room_for_gone { length changes.now ≤ vec_capacity gone.old }
     requires puts { puts.items ≡ put_names changes.now }
     requires changes { AreChanges DeclaredSheet.Lei changes.now }
     ensures { (copy : List SheetRow) → AreRows DeclaredSheet.Lei copy → rows.items ≡ map named copy
@@ -87,6 +95,8 @@ pub fn merge(out: &mut Vec<NamedRow>, rows: Vec<NamedRow>, puts: Vec<NamedRow>, 
         let (left, stays) = put_before(out, &mut puts, changes, next, &row);
         if stays {
             out.push_reserved(row);
+        } else {
+            gone.push_reserved(row);
         }
         next = left;
     }
@@ -109,6 +119,8 @@ fn put_before(
     requires room { length out.old.items + length (into_iter_items puts.old) ≤ vec_capacity out.old }
     requires changes { All (IsChangeOf DeclaredSheet.Lei) changes.now }
     ensures place { result.0 ≤ length changes.now }
+    ensures onward { at ≤ result.0 }
+    ensures leaves { result.1 ≡ false → at + 1 ≤ result.0 }
     ensures puts { into_iter_items puts.new ≡ put_names (drop result.0 changes.now) }
     ensures room { length out.new.items + length (into_iter_items puts.new)
         ≡ length out.old.items + length (into_iter_items puts.old) }

@@ -63,6 +63,13 @@ impl NamedRow {
         self.words.as_slice()
     }
 
+    /// Whether its name has a word.
+    pub fn has_word(&self, word: &str) -> bool
+        ensures { result ≡ spec.is_among (words self.now.1) word.now }
+    {
+        is_among(self.words.as_slice(), word)
+    }
+
     /// Whether its name has each of these words.
     pub fn is_match(&self, wanted: &[Text]) -> bool
         ensures { result ≡ spec.is_match wanted.now self.now }

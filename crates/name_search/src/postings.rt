@@ -4,10 +4,13 @@ ghost use Rattle.std.specs.BTreeMap.{get_by_text};
 ghost use Rattle.std.specs.List.{list_all};
 ghost use Rattle.std.specs.Str.{bytes_eq};
 ghost use Rattle.lei_code.specs.Texts.{Text as Bytes};
-ghost use Rattle.name_search.specs.Walks.{Stays, is_key, is_noted, keys_in, keys_under};
+ghost use Rattle.std.specs.FinMap.Entries.{is_sorted};
+ghost use Rattle.name_search.specs.Walks as spec;
+ghost use Rattle.name_search.specs.Walks.{Stays, StaysFor, TakesOne, is_key, is_noted, keys_in, keys_under, text_cmp};
 
 use crate::key::Key;
 use crate::named_row::NamedRow;
+use crate::places::row_at;
 use lei_outside::{NoMemory, Text};
 use std::alloc::Global;
 use std::collections::{BTreeMap, BTreeSet};
@@ -111,6 +114,51 @@ impl Postings {
         let word = String::from_str(self.alloc, word)?;
         self.map.insert(word, keys)?;
         Ok(())
+    }
+
+    /// Takes the keys of rows that have gone from under their words, unless the row that has the key now has the word.
+    pub fn forget_all(&mut self, gone: &[NamedRow], rows: &[NamedRow])
+        requires { is_sorted text_cmp rows.now ≡ true }
+        ensures { StaysFor rows.now self.old self.new }
+    {
+        for row in gone {
+            self.forget(row, rows);
+        }
+    }
+
+    // The same of one row.
+    fn forget(&mut self, gone: &NamedRow, rows: &[NamedRow])
+        requires { is_sorted text_cmp rows.now ≡ true }
+        ensures { StaysFor rows.now self.old self.new }
+    {
+        let key = gone.key();
+        let row = row_at(rows, key.as_str());
+        for each in gone.words() {
+            let word = each.as_str();
+            if has_word(row, word) {
+                continue;
+            }
+            self.forget_word(word, key);
+        }
+    }
+
+    // Takes a key from under a word.
+    fn forget_word(&mut self, word: &str, key: &Key)
+        ensures { TakesOne word.now key.now self.old self.new }
+    {
+        if let Some(keys) = self.map.get_mut(word) {
+            keys.remove(key);
+        }
+    }
+}
+
+// Whether a row is there and its name has a word.
+fn has_word(row: Option<&NamedRow>, word: &str) -> bool
+    ensures { result ≡ spec.has_word (option_map (λ row. row.now) row.entry) word.now }
+{
+    match row {
+        Some(row) => row.has_word(word),
+        None => false,
     }
 }
 

@@ -11,6 +11,8 @@ loop-next-preserved-then-stays c = record {
       c.put_before-left.ensures.passes c.if-stays.true c.push_reserved.ensures.items;
   within = c.put_before-left.ensures.place;
   puts = c.put_before-left.ensures.puts;
+  gone = omega (arith, c.put_before-left.ensures.onward);
+  room_for_gone = c.loop-next.invariant.room_for_gone;
   room = omega (arith, ap length c.push_reserved.ensures.items, length_push c.put_before-left.new.out.items c.in-Some.row, ap length c.in-Some.ensures.items);
 }
 
@@ -21,6 +23,8 @@ loop-next-preserved c = record {
       c.put_before-left.ensures.passes c.if-stays.false;
   within = c.put_before-left.ensures.place;
   puts = c.put_before-left.ensures.puts;
+  gone = omega (arith, ap length c.push_reserved-else-stays.ensures.items, length_push c.loop-next.gone.items c.in-Some.row, c.put_before-left.ensures.leaves c.if-stays.false);
+  room_for_gone = omega (arith, c.push_reserved-else-stays.ensures.capacity);
   room = omega (arith, ap length c.in-Some.ensures.items);
 }
 

@@ -11,6 +11,8 @@ invariant-loop-next l = record {
   walked : WalkedSo l.fn.rows.items l.changes (into_iter_items l.rows) l.next l.out.items;
   within : l.next ≤ length l.changes;
   puts : into_iter_items l.puts ≡ put_names (drop l.next l.changes);
+  gone : length l.gone.items ≤ l.next;
+  room_for_gone : length l.changes ≤ vec_capacity l.gone;
   room : length l.out.items + (length (into_iter_items l.rows) + length (into_iter_items l.puts)) ≤ vec_capacity l.out;
 }
 

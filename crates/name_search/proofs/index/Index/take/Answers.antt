@@ -1,6 +1,8 @@
-use Rattle.std.proofs.Common.{ap, ◌∙◌}
+use Rattle.std.proofs.Common.{ap, subst, ◌∙◌}
+use Rattle.std.specs.FinMap.Entries.{is_sorted}
 use Rattle.name_search.specs.NameTables.{NameTable}
-use Rattle.name_search.proofs.NotedLemmas.{indexed-after, indexed-more}
+use Rattle.name_search.specs.Walks.{StaysFor, text_cmp}
+use Rattle.name_search.proofs.NotedLemmas.{indexed-after, indexed-forgot, indexed-more, indexed-sorted}
 use Rattle.name_search.proofs.Walked.{table_after}
 use Rattle.name_search.proofs.index.Index.take.Goals as goal
 
@@ -17,8 +19,22 @@ pub invariant_of-self-in_err-rows : goal.invariant_of-self-in_err-rows
 invariant_of-self-in_err-rows g c =
     indexed-more c.self.inside.rows.items c.self.inside.postings c.note_all.new.self c.self.invariant c.note_all.ensures.stays
 
+pub forget_all-requires : goal.forget_all-requires
+forget_all-requires g c =
+    ap (is_sorted text_cmp) c.as_slice-3.ensures.value
+    ∙ indexed-sorted c.merge.new.out.items c.note_all.new.self
+    (indexed-after c.self.inside.rows.items c.merge.new.out.items c.as_slice.result.now c.args.delta.now.changes c.as_slice-changes.result.now c.self.inside.postings c.note_all.new.self
+    c.self.invariant c.note_all.ensures.stays c.in_ok-note_all.ensures.noted (c.as_slice.ensures.value ∙ c.in_ok-puts.ensures.names) c.as_slice-changes.ensures c.requires.changes
+    (λ copy are is. c.merge.ensures copy are (ap (λ rows. rows.items) c.swap.ensures.y_after ∙ is)))
+
 pub invariant_of-self-2 : goal.invariant_of-self-2
 invariant_of-self-2 g c =
-    indexed-after c.self.inside.rows.items c.merge.new.out.items c.as_slice.result.now c.args.delta.now.changes c.as_slice-changes.result.now c.self.inside.postings c.note_all.new.self
+    indexed-forgot c.merge.new.out.items c.note_all.new.self c.forget_all.new.self
+    (indexed-after c.self.inside.rows.items c.merge.new.out.items c.as_slice.result.now c.args.delta.now.changes c.as_slice-changes.result.now c.self.inside.postings c.note_all.new.self
     c.self.invariant c.note_all.ensures.stays c.in_ok-note_all.ensures.noted (c.as_slice.ensures.value ∙ c.in_ok-puts.ensures.names) c.as_slice-changes.ensures c.requires.changes
-    (λ copy are is. c.merge.ensures copy are (ap (λ rows. rows.items) c.swap.ensures.y_after ∙ is))
+    (λ copy are is. c.merge.ensures copy are (ap (λ rows. rows.items) c.swap.ensures.y_after ∙ is)))
+    (subst (λ l. StaysFor l c.note_all.new.self c.forget_all.new.self) c.as_slice-3.ensures.value c.forget_all.ensures)
+
+pub invariant_of-self-in_err-gone : goal.invariant_of-self-in_err-gone
+invariant_of-self-in_err-gone g c =
+    indexed-more c.self.inside.rows.items c.self.inside.postings c.note_all.new.self c.self.invariant c.note_all.ensures.stays

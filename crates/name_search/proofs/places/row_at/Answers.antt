@@ -2,7 +2,7 @@ use Rattle.std.proofs.Common.{◌+◌, ◌-◌, ◌/◌, ap, arith, ◌∙◌, s
 use Rattle.std.specs.Cmp.Lexicographic.{slice_cmp}
 use Rattle.std.specs.Ordering.{nat_cmp}
 use Rattle.name_search.proofs.PlaceLemmas.{above_from, below_to, found_is, none_is}
-use Rattle.name_search.proofs.gathering.row_at.Goals as goal
+use Rattle.name_search.proofs.places.row_at.Goals as goal
 
 pub loop-low-preserved-in-Less : goal.loop-low-preserved-in-Less
 loop-low-preserved-in-Less c = record {

@@ -1,6 +1,6 @@
 use Rattle.std.proofs.Common.{◌≤◌, ◌-◌, length}
 use Rattle.name_search.proofs.PlaceLemmas.{IsAbove, IsBelow}
-use Rattle.name_search.proofs.gathering.row_at.Given as goal
+use Rattle.name_search.proofs.places.row_at.Given as goal
 
 -- the key stands after those before one place, and before those from another place on
 abbrev pub invariant-loop-low : goal.invariant-loop-low
