@@ -9,7 +9,7 @@ use Rattle.std.specs.Cmp.Lexicographic.{bytes_decides, slice_cmp}
 use Rattle.std.specs.Cmp.{tied_itself}
 use Rattle.std.specs.FinMap.Entries.{below_all, by_order, find, is_sorted}
 use Rattle.std.specs.Option.{option_map}
-use Rattle.std.specs.List.{All, AllByRecursion, list_all, list_any}
+use Rattle.std.specs.List.{All, AllByRecursion, list_all}
 use Rattle.std.specs.List.Sorted.{IsStrictlySortedBy}
 use Rattle.std.specs.Ordering.{eq_by_cmp, is_eq, is_lt, nat_cmp}
 use Rattle.std.specs.Str.{bytes_eq}
@@ -31,7 +31,7 @@ use Rattle.delta_apply.specs.Merging.{merged, placed, put_by}
 use Rattle.delta_apply.proofs.Merged.{merged_is}
 use Rattle.name_search.specs.declared.postings.Postings.{Postings}
 use Rattle.name_search.specs.NameTables.{Name, named}
-use Rattle.name_search.specs.Puts.{named_alone, put_name, put_names}
+use Rattle.name_search.specs.Puts.{put_name, put_names}
 use Rattle.name_search.specs.Searching.{has_each, is_among, is_match}
 use Rattle.name_search.specs.Walks.{Covers, IsIndexed, Stays, StaysFor, TakesOne, has_word, is_key, is_noted, keys_in, keys_under, text_cmp}
 use Rattle.name_search.specs.Words.{words}

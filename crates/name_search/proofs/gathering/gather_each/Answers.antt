@@ -1,4 +1,4 @@
-use Rattle.std.proofs.Common.{◌≡◌, ap, filter, map, rules, subst, ◌∙◌}
+use Rattle.std.proofs.Common.{◌≡◌, ap, map, rules, subst, ◌∙◌}
 use Rattle.std.specs.Map.Iter.{deref}
 use Rattle.std.proofs.lemmas.Map.Iter.{iter_end}
 use Rattle.name_search.specs.Gathering.{Gathers}

@@ -1,6 +1,5 @@
-use Rattle.std.proofs.Common.{◌≡◌, [], ap, filter, subst, sym, ◌∙◌}
+use Rattle.std.proofs.Common.{ap, filter, sym, ◌∙◌}
 use Rattle.std.specs.Option.{option_map}
-use Rattle.name_search.specs.Gathering.{Gathers}
 use Rattle.name_search.specs.Searching.{is_match}
 use Rattle.name_search.specs.Walks.{is_key, keys_in}
 use Rattle.name_search.proofs.Paging.{nothing_found}

@@ -1,9 +1,5 @@
-use Rattle.std.proofs.Common.{◌≡◌, Some, ap, string_bytes, subst, sym, ◌∙◌}
-use Rattle.std.specs.BTreeMap.{UpdatesBy, get_by_text}
-use Rattle.std.specs.Cmp.Lexicographic.{slice_cmp}
-use Rattle.std.specs.Ordering.{nat_cmp}
-use Rattle.std.specs.String.{string_cmp}
-use Rattle.name_search.specs.Walks.{is_key, keys_in}
+use Rattle.std.proofs.Common.{Some, ap, string_bytes, ◌∙◌}
+use Rattle.std.specs.BTreeMap.{get_by_text}
 use Rattle.name_search.proofs.NotedLemmas.{no_key, stays_updated}
 use Rattle.name_search.proofs.postings.Postings.note_first.Goals as goal
 
