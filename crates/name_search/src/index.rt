@@ -159,8 +159,8 @@ impl Index {
         })
     }
 
-    // The rows that have each of these words, for a page that begins after so many. Only those under the rarest word are
-    // looked at.
+    // The rows that have each of these words, for a page that begins after so many. Only those under the rarest word
+    // are looked at.
     fn gather(&self, start: u64, wanted: &[Text]) -> Result<Gathered, NoMemory>
         requires { 1 ≤ length wanted.now }
         ensures { IfOk result (λ gathered. Gathers start (filter (spec.is_match wanted.now) self.now.names)
