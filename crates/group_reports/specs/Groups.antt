@@ -1,0 +1,86 @@
+-- Groups: who belongs to an entity, by walks from each entity up along direct parents. Copies come from outside, so
+-- walks may come back to where they were. This project's profile.
+use Rattle.std.specs.Prelude.{◌≡◌, ℕ, zero, suc, ◌==◌, ◌&&◌, not, is_none, is_some, Bool, false, List, [], ◌∷◌, Option, None, Some, filter, find, flat_map, fold, length, map, option_and_then}
+use Rattle.std.specs.BTreeSet.{insert_key}
+use Rattle.std.specs.Cmp.Lexicographic.{slice_cmp}
+use Rattle.std.specs.List.{range_with_len}
+use Rattle.std.specs.Ordering.{nat_cmp}
+use Rattle.std.specs.Str.{bytes_eq}
+use Rattle.lei_code.specs.Texts.{Lei}
+use Rattle.group_reports.specs.declared.links.Link.{Link}
+use Rattle.group_reports.specs.Links.{direct, reported}
+
+-- The different ones of the LEIs, in byte order.
+abbrev pub in_order : List Lei → List Lei
+in_order leis = fold (insert_key (slice_cmp nat_cmp)) [] leis
+
+-- ---- walks up
+
+-- What stands so many steps above an entity: no step leads to itself, and each further one to the direct parent.
+abbrev pub up : List Link → Lei → ℕ → Option Lei
+up links lei zero = Some lei
+up links lei (suc k) = option_and_then (direct links) (up links lei k)
+
+-- A chain of direct parents leads from an entity to another one, however long it is.
+abbrev pub Leads : List Link → Lei → Lei → Type 0
+Leads links lei root = (k : ℕ) × (up links lei k ≡ Some root)
+
+-- The numbers of steps that walks take: up to the number of rows. A longer walk meets no one else.
+abbrev pub steps : List Link → List ℕ
+steps links = range_with_len 1 (length links)
+
+-- An LEI is there, and it is this one.
+abbrev pub is_this : Lei → Option Lei → Bool
+is_this root None = false
+is_this root (Some lei) = bytes_eq root lei
+
+-- The walk up ends after so many steps.
+abbrev pub ends_after : List Link → Lei → ℕ → Bool
+ends_after links lei k = is_some (up links lei k) && is_none (up links lei (suc k))
+
+-- Where the walk up ends: the ultimate parent as it is computed. There is none without a direct parent, and none if the
+-- walk comes back to where it was.
+abbrev pub top : List Link → Lei → Option Lei
+top links lei = option_and_then (up links lei) (find (ends_after links lei) (steps links))
+
+-- ---- members
+
+-- How deep an entity is below a root: the least number of steps that lead to it, if any lead there.
+abbrev pub depth : List Link → Lei → Lei → Option ℕ
+depth links root lei = find (λ k. is_this root (up links lei k)) (steps links)
+
+-- A depth is there, and it is this one.
+abbrev pub is_depth : ℕ → Option ℕ → Bool
+is_depth d None = false
+is_depth d (Some k) = k == d
+
+-- The starts of all links, in byte order.
+abbrev pub starts : List Link → List Lei
+starts links = in_order (map (λ link. link.start) links)
+
+-- An entity other than the root is this deep below it.
+abbrev pub is_member_at : List Link → Lei → ℕ → Lei → Bool
+is_member_at links root d lei = not (bytes_eq root lei) && is_depth d (depth links root lei)
+
+-- The members of a group at one depth, in byte order.
+abbrev pub members_at : List Link → Lei → ℕ → List Lei
+members_at links root d = filter (is_member_at links root d) (starts links)
+
+-- The members of a group, by depth and then in byte order.
+abbrev pub members : List Link → Lei → List Lei
+members links root = flat_map (members_at links root) (steps links)
+
+-- The root and the members, in byte order.
+abbrev pub group : List Link → Lei → List Lei
+group links root = in_order (root ∷ members links root)
+
+-- ---- disagreements
+
+-- Both are missing, or both are there and the same.
+abbrev pub is_same : Option Lei → Option Lei → Bool
+is_same None other = is_none other
+is_same (Some lei) other = is_this lei other
+
+-- The ultimate parent that is reported for an entity and the one that is computed differ.
+abbrev pub disagrees : List Link → Lei → Bool
+disagrees links lei = not (is_same (reported links lei) (top links lei))

@@ -1,0 +1,83 @@
+-- What group reports keep of two golden copies, of `lei` and of `rr`: this project's profile.
+use Rattle.std.specs.Prelude.{◌≡◌, ◌≢◌, ℕ, Bool, true, false, ◌&&◌, if◌then◌else◌, List, Option, Some, find, map, option_map, codes, ⊤}
+use Rattle.std.specs.Str.{bytes_eq}
+use Rattle.lei_code.specs.Texts.{Lei, Text}
+use Rattle.lei_records.specs.Rows.{text_at}
+use Rattle.copy_csv.specs.declared.heads.Head.{Head}
+use Rattle.copy_csv.specs.Sheets.{SheetRow}
+use Rattle.group_reports.specs.declared.faults.GroupFault.{GroupFault}
+use Rattle.group_reports.specs.declared.faults.GroupFault.TheVariants as faults
+use Rattle.group_reports.specs.declared.links.Link.{Link}
+use Rattle.group_reports.specs.declared.links.LinkKind.{LinkKind}
+
+-- ---- links
+
+-- What a relationship of a type says of its start, if it is ACTIVE.
+abbrev pub kind_of_type : Text → LinkKind
+kind_of_type text =
+    if bytes_eq text (codes "IS_DIRECTLY_CONSOLIDATED_BY") then LinkKind.Direct
+    else if bytes_eq text (codes "IS_ULTIMATELY_CONSOLIDATED_BY") then LinkKind.Ultimate
+    else LinkKind.Other
+
+-- The second text of a row of `rr` is the type of the relationship, and the fourth its status.
+abbrev pub kind_of : SheetRow → LinkKind
+kind_of row =
+    if bytes_eq (text_at row.texts 4) (codes "ACTIVE") then kind_of_type (text_at row.texts 2) else LinkKind.Other
+
+-- A row of `rr` as a link. Its first text is the start, and its third the end.
+abbrev pub link_of : SheetRow → Link
+link_of row = record { start = text_at row.texts 1; kind = kind_of row; end = text_at row.texts 3 }
+
+-- ---- what is kept
+
+-- The key of a row of `lei`, which is its LEI, and the legal name.
+abbrev pub Name : Type 0
+Name = Text × Text
+
+-- They are the first and the second text of the row.
+abbrev pub named : SheetRow → Name
+named row = (text_at row.texts 1, text_at row.texts 2)
+
+-- The LEI and the name of each row of `lei`, and each row of `rr` as a link, in the order of the rows.
+pub record GroupTable : Type 0 where
+  pub names : List Name
+  pub links : List Link
+
+-- They are those of these rows, of `lei` and of `rr`.
+pub record IsTableOf (lei rr : List SheetRow) (table : GroupTable) : Type 0 where
+  pub names_are : table.names ≡ map named lei
+  pub links_are : table.links ≡ map link_of rr
+
+-- The number of the publication of a copy, which is known in JSON alone.
+abbrev pub publication_in : Option Head → Option ℕ
+publication_in head = option_map (λ head. head.publication) head
+
+-- Why two copies don't go together: they are of two publications, with the numbers of both. Of want of memory nothing is
+-- said.
+abbrev pub IsRefusal : Option Head → Option Head → GroupFault → Type 0
+IsRefusal lei rr (faults.OtherPublication p q) =
+    (publication_in lei ≡ Some p) × (publication_in rr ≡ Some q) × (p ≢ q)
+IsRefusal lei rr faults.NoMemory = ⊤
+
+-- ---- parents
+
+-- The link says that this is the direct parent of an entity.
+abbrev pub is_direct : LinkKind → Bool
+is_direct LinkKind.Direct = true
+is_direct LinkKind.Ultimate = false
+is_direct LinkKind.Other = false
+
+-- The link says that this is the ultimate parent of an entity.
+abbrev pub is_ultimate : LinkKind → Bool
+is_ultimate LinkKind.Direct = false
+is_ultimate LinkKind.Ultimate = true
+is_ultimate LinkKind.Other = false
+
+-- The direct parent of an entity, if it has one: the end of the first link that names one. Links stand in the order of
+-- the keys of their rows.
+abbrev pub direct : List Link → Lei → Option Lei
+direct links lei = option_map (λ link. link.end) (find (λ link. is_direct link.kind && bytes_eq lei link.start) links)
+
+-- The ultimate parent that is reported for an entity, if one is: the end of the first link that names one.
+abbrev pub reported : List Link → Lei → Option Lei
+reported links lei = option_map (λ link. link.end) (find (λ link. is_ultimate link.kind && bytes_eq lei link.start) links)

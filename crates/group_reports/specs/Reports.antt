@@ -1,0 +1,77 @@
+-- The texts of group reports: this project's profile.
+use Rattle.std.specs.Prelude.{ℕ, List, [], ◌∷◌, ◌++◌, Option, codes, decimal, filter, find, flat_map, length, option_and_then, unwrap_or}
+use Rattle.std.specs.Str.{bytes_eq}
+use Rattle.lei_code.specs.Texts.{Lei, Text}
+use Rattle.lei_records.specs.Spelled.{present}
+use Rattle.group_reports.specs.declared.links.Link.{Link}
+use Rattle.group_reports.specs.Groups.{depth, disagrees, group, members, starts, top, up}
+use Rattle.group_reports.specs.Links.{GroupTable, Name, reported}
+
+-- What stands after a word: a space before a further one, and LF after the last.
+abbrev pub separator : List Text → ℕ
+separator [] = 10
+separator (word ∷ words) = 32
+
+-- A line of these words.
+abbrev pub line : List Text → Text
+line [] = []
+line (word ∷ words) = word ++ (separator words ∷ line words)
+
+-- A word that may be missing: a hyphen then.
+abbrev pub or_hyphen : Option Text → Text
+or_hyphen word = unwrap_or word (codes "-")
+
+-- The row of an entity, if there is one.
+abbrev pub name_at : List Name → Lei → Option Name
+name_at names lei = find (λ name. bytes_eq lei name.0) names
+
+-- The legal name of an entity. It is missing if the entity has no row, and if the row has no text there.
+abbrev pub name_of : List Name → Lei → Option Text
+name_of names lei = option_and_then (λ name. present name.1) (name_at names lei)
+
+-- ---- a report on a group
+
+-- The line of the root: its LEI and its name.
+abbrev pub root_line : List Name → Lei → Text
+root_line names root = line (codes "GROUP" ∷ root ∷ or_hyphen (name_of names root) ∷ [])
+
+-- The line of a member: its depth, its LEI, the LEI of its direct parent, and its name.
+abbrev pub member_line : GroupTable → ℕ → Lei → Text
+member_line table d lei =
+    line (decimal d ∷ lei ∷ or_hyphen (up table.links lei 1) ∷ or_hyphen (name_of table.names lei) ∷ [])
+
+-- The lines of the members, each with the depth that it has.
+abbrev pub member_lines : GroupTable → Lei → Text
+member_lines table root =
+    flat_map (λ lei. member_line table (unwrap_or (depth table.links root lei) 0) lei) (members table.links root)
+
+-- The line that counts the members.
+abbrev pub members_line : ℕ → Text
+members_line count = line (codes "members" ∷ decimal count ∷ [])
+
+-- ---- disagreements
+
+-- The line of an entity that disagrees: the ultimate parent that is reported, and the one that is computed.
+abbrev pub disagreement_line : List Link → Lei → Text
+disagreement_line links lei =
+    line (codes "DISAGREES" ∷ lei ∷ or_hyphen (reported links lei) ∷ or_hyphen (top links lei) ∷ [])
+
+-- The lines of those of some entities that disagree, and a line that counts them.
+abbrev pub disagreement_lines : List Link → List Lei → Text
+disagreement_lines links leis =
+    flat_map (disagreement_line links) (filter (disagrees links) leis)
+    ++ line (codes "disagreements" ∷ decimal (length (filter (disagrees links) leis)) ∷ [])
+
+-- ---- the texts
+
+-- The report on the group of a root.
+unfoldable pub group_report : GroupTable → Lei → Text
+group_report table root =
+    root_line table.names root
+    ++ (member_lines table root
+    ++ (members_line (length (members table.links root))
+    ++ disagreement_lines table.links (group table.links root)))
+
+-- The disagreements of all starts.
+unfoldable pub disagreement_report : GroupTable → Text
+disagreement_report table = disagreement_lines table.links (starts table.links)
