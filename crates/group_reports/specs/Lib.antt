@@ -1,3 +1,4 @@
 pub mod Links
 pub mod Groups
+pub mod Listings
 pub mod Reports

@@ -19,10 +19,13 @@ kind_of_type text =
     else if bytes_eq text (codes "IS_ULTIMATELY_CONSOLIDATED_BY") then LinkKind.Ultimate
     else LinkKind.Other
 
+-- The same of a type and a status.
+abbrev pub kind_by : Text → Text → LinkKind
+kind_by text status = if bytes_eq status (codes "ACTIVE") then kind_of_type text else LinkKind.Other
+
 -- The second text of a row of `rr` is the type of the relationship, and the fourth its status.
 abbrev pub kind_of : SheetRow → LinkKind
-kind_of row =
-    if bytes_eq (text_at row.texts 4) (codes "ACTIVE") then kind_of_type (text_at row.texts 2) else LinkKind.Other
+kind_of row = kind_by (text_at row.texts 2) (text_at row.texts 4)
 
 -- A row of `rr` as a link. Its first text is the start, and its third the end.
 abbrev pub link_of : SheetRow → Link

@@ -4,18 +4,18 @@ use Rattle.std.specs.Str.{bytes_eq}
 use Rattle.lei_code.specs.Texts.{Lei, Text}
 use Rattle.lei_records.specs.Spelled.{present}
 use Rattle.group_reports.specs.declared.links.Link.{Link}
-use Rattle.group_reports.specs.Groups.{depth, disagrees, group, members, starts, top, up}
+use Rattle.group_reports.specs.declared.listing.Member.{Member}
+use Rattle.group_reports.specs.Groups.{disagrees, group, members, starts, top, up}
 use Rattle.group_reports.specs.Links.{GroupTable, Name, reported}
+use Rattle.group_reports.specs.Listings.{all_members}
 
--- What stands after a word: a space before a further one, and LF after the last.
-abbrev pub separator : List Text → ℕ
-separator [] = 10
-separator (word ∷ words) = 32
+-- A word with the space before it.
+abbrev pub after_space : Text → Text
+after_space word = 32 ∷ word
 
--- A line of these words.
-abbrev pub line : List Text → Text
-line [] = []
-line (word ∷ words) = word ++ (separator words ∷ line words)
+-- A line of a first word and others.
+abbrev pub line : Text → List Text → Text
+line first others = first ++ (flat_map after_space others ++ 10 ∷ [])
 
 -- A word that may be missing: a hyphen then.
 abbrev pub or_hyphen : Option Text → Text
@@ -33,34 +33,34 @@ name_of names lei = option_and_then (λ name. present name.1) (name_at names lei
 
 -- The line of the root: its LEI and its name.
 abbrev pub root_line : List Name → Lei → Text
-root_line names root = line (codes "GROUP" ∷ root ∷ or_hyphen (name_of names root) ∷ [])
+root_line names root = line (codes "GROUP") (root ∷ or_hyphen (name_of names root) ∷ [])
 
 -- The line of a member: its depth, its LEI, the LEI of its direct parent, and its name.
-abbrev pub member_line : GroupTable → ℕ → Lei → Text
-member_line table d lei =
-    line (decimal d ∷ lei ∷ or_hyphen (up table.links lei 1) ∷ or_hyphen (name_of table.names lei) ∷ [])
+abbrev pub member_line : GroupTable → Member → Text
+member_line table member =
+    line (decimal member.depth)
+    (member.lei ∷ or_hyphen (up table.links member.lei 1) ∷ or_hyphen (name_of table.names member.lei) ∷ [])
 
--- The lines of the members, each with the depth that it has.
+-- The lines of the members.
 abbrev pub member_lines : GroupTable → Lei → Text
-member_lines table root =
-    flat_map (λ lei. member_line table (unwrap_or (depth table.links root lei) 0) lei) (members table.links root)
+member_lines table root = flat_map (member_line table) (all_members table.links root)
 
 -- The line that counts the members.
 abbrev pub members_line : ℕ → Text
-members_line count = line (codes "members" ∷ decimal count ∷ [])
+members_line count = line (codes "members") (decimal count ∷ [])
 
 -- ---- disagreements
 
 -- The line of an entity that disagrees: the ultimate parent that is reported, and the one that is computed.
 abbrev pub disagreement_line : List Link → Lei → Text
 disagreement_line links lei =
-    line (codes "DISAGREES" ∷ lei ∷ or_hyphen (reported links lei) ∷ or_hyphen (top links lei) ∷ [])
+    line (codes "DISAGREES") (lei ∷ or_hyphen (reported links lei) ∷ or_hyphen (top links lei) ∷ [])
 
 -- The lines of those of some entities that disagree, and a line that counts them.
 abbrev pub disagreement_lines : List Link → List Lei → Text
 disagreement_lines links leis =
     flat_map (disagreement_line links) (filter (disagrees links) leis)
-    ++ line (codes "disagreements" ∷ decimal (length (filter (disagrees links) leis)) ∷ [])
+    ++ line (codes "disagreements") (decimal (length (filter (disagrees links) leis)) ∷ [])
 
 -- ---- the texts
 

@@ -1,0 +1,107 @@
+//! Groups of entities, and reports on them.
+ghost use Rattle.std.specs.Prelude.{◌≡◌, IfErr, IfOk, IsErrOf, IsSome, None, OnOk, is_some};
+ghost use Rattle.register_words.specs.declared.sheets.Sheet.{Sheet as DeclaredSheet};
+ghost use Rattle.copy_csv.specs.Rows.{AreRows};
+ghost use Rattle.group_reports.specs.declared.faults.ReportFault.{ReportFault as Reporting};
+ghost use Rattle.group_reports.specs.Links.{IsRefusal, IsTableOf, publication_in};
+ghost use Rattle.group_reports.specs.Reports as spec;
+
+use crate::entity::Entity;
+use crate::faults::{GroupFault, ReportFault};
+use crate::links::Link;
+use crate::listing::{group_of, members};
+use crate::names::name_at;
+use crate::opening::{check, links_of, names_of, starts_of};
+use crate::reports::{put_disagreements, put_members, put_members_line, put_root};
+use copy_csv::CopyRead;
+use lei_outside::{Bytes, NoMemory, Text};
+use std::alloc::Global;
+use std::marker::Model;
+
+/// Who belongs to whom by a golden copy of `lei` and one of `rr`. Contracts see the LEI and the name of each row of
+/// `lei`, and each row of `rr` as a link.
+#[derive(Drop)]
+pub struct Groups {
+    alloc: Global,
+    names: Vec<(Text, Text)>,
+    links: Vec<Link>,
+    // The starts of the links, each once and in byte order.
+    starts: Vec<Entity>,
+}
+
+impl Model for Groups {
+    ghost use Rattle.group_reports.specs.Links.{GroupTable};
+
+    ghost Value = { GroupTable };
+
+    ghost view = { λ groups. record { names = groups.names.items; links = groups.links.items } };
+
+    ghost use Rattle.std.specs.Prelude.{◌≡◌};
+    ghost use Rattle.group_reports.specs.Groups as of_links;
+
+    ghost invariant = { λ groups. groups.starts.items ≡ of_links.starts groups.links.items };
+}
+
+impl Groups {
+    /// The groups of a copy of `lei` and one of `rr` that were read, in one form.
+    pub fn open(alloc: Global, lei: &CopyRead, rr: &CopyRead) -> Result<Self, GroupFault>
+        requires lei { AreRows DeclaredSheet.Lei lei.now.rows }
+        requires rr { AreRows DeclaredSheet.Rr rr.now.rows }
+        requires form { is_some lei.now.head ≡ is_some rr.now.head }
+        ensures rows { IfOk result (λ groups. IsTableOf lei.now.rows rr.now.rows groups) }
+        ensures publication { OnOk result (publication_in lei.now.head ≡ publication_in rr.now.head) }
+        ensures refusal { IfErr result (IsRefusal lei.now.head rr.now.head) }
+    {
+        check(&lei.head, &rr.head)?;
+        let names = names_of(alloc, lei.rows.as_slice())?;
+        let links = links_of(alloc, rr.rows.as_slice())?;
+        let starts = starts_of(alloc, links.as_slice())?;
+        Ok(Groups {
+            alloc,
+            names,
+            links,
+            starts,
+        })
+    }
+
+    /// The report on the group of an entity: who belongs to it by direct parents, and where the reported ultimate
+    /// parent of it or of a member differs.
+    pub fn report(&self, who: &str) -> Result<Bytes, ReportFault>
+        ensures text { IfOk result (λ bytes. bytes ≡ spec.group_report self.now who.now) }
+        ensures known { OnOk result (IsSome (spec.name_at self.now.names who.now)) }
+        ensures unknown { IsErrOf result Reporting.LeiUnknown → spec.name_at self.now.names who.now ≡ None }
+    {
+        if name_at(self.names.as_slice(), who).is_none() {
+            return Err(ReportFault::LeiUnknown);
+        }
+        let bytes = self.group_text(who)?;
+        Ok(bytes)
+    }
+
+    // The text of a report on a group.
+    #[tactic(auto, unfolding(crate::specs::Reports::group_report))]
+    fn group_text(&self, who: &str) -> Result<Bytes, NoMemory>
+        ensures { IfOk result (λ bytes. bytes ≡ spec.group_report self.now who.now) }
+    {
+        let names = self.names.as_slice();
+        let links = self.links.as_slice();
+        let members = members(self.alloc, links, self.starts.as_slice(), who)?;
+        let group = group_of(self.alloc, who, members.as_slice())?;
+        let mut out = Vec::new(self.alloc);
+        put_root(&mut out, names, who)?;
+        put_members(&mut out, names, links, members.as_slice())?;
+        put_members_line(&mut out, members.len())?;
+        put_disagreements(&mut out, links, group.as_slice())?;
+        Ok(Bytes::from(out))
+    }
+
+    /// The disagreements of all entities at which a relationship starts.
+    #[tactic(auto, unfolding(crate::specs::Reports::disagreement_report))]
+    pub fn disagreements(&self) -> Result<Bytes, NoMemory>
+        ensures { IfOk result (λ bytes. bytes ≡ spec.disagreement_report self.now) }
+    {
+        let mut out = Vec::new(self.alloc);
+        put_disagreements(&mut out, self.links.as_slice(), self.starts.as_slice())?;
+        Ok(Bytes::from(out))
+    }
+}

@@ -1,0 +1,51 @@
+//! Walks up along direct parents.
+ghost use Rattle.std.specs.Prelude.{◌≡◌, option_map};
+ghost use Rattle.group_reports.specs.Groups as spec;
+
+use crate::links::{Link, direct, reported};
+
+/// How deep an entity is below a root, if a walk up from it comes there.
+pub fn depth<'a>(links: &'a [Link], root: &str, lei: &'a str) -> Option<usize>
+    ensures { result ≡ spec.depth links.now root.now lei.now }
+{
+    let mut current = lei;
+    for steps in 0..links.len() {
+        current = direct(links, current)?;
+        if root == current {
+            return Some(steps + 1);
+        }
+    }
+    None
+}
+
+/// The ultimate parent of an entity as it is computed, if there is one.
+pub fn top<'a>(links: &'a [Link], lei: &str) -> Option<&'a str>
+    ensures { option_map (λ top. top.now) result ≡ spec.top links.now lei.now }
+{
+    let mut current = direct(links, lei)?;
+    for _ in 0..links.len() {
+        let Some(next) = direct(links, current) else {
+            return Some(current);
+        };
+        current = next;
+    }
+    None
+}
+
+/// Whether the ultimate parent that is reported for an entity isn't the one that is computed.
+pub fn disagrees(links: &[Link], lei: &str) -> bool
+    ensures { result ≡ spec.disagrees links.now lei.now }
+{
+    !is_same(reported(links, lei), top(links, lei))
+}
+
+// Whether both are missing, or both are there and the same.
+fn is_same(one: Option<&str>, other: Option<&str>) -> bool
+    ensures { result ≡ spec.is_same (option_map (λ lei. lei.now) one.entry) (option_map (λ lei. lei.now) other.entry) }
+{
+    match (one, other) {
+        (None, None) => true,
+        (Some(one), Some(other)) => one == other,
+        _ => false,
+    }
+}
