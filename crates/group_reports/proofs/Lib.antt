@@ -2,3 +2,4 @@ pub mod ListLemmas
 pub mod ChainLemmas
 pub mod WalkLemmas
 pub mod ReportLemmas
+pub mod FirstLemmas

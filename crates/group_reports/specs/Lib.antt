@@ -1,4 +1,5 @@
 pub mod Links
+pub mod FirstTexts
 pub mod Groups
 pub mod Listings
 pub mod Reports

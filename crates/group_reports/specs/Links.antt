@@ -84,3 +84,9 @@ direct links lei = option_map (λ link. link.end) (find (λ link. is_direct link
 -- The ultimate parent that is reported for an entity, if one is: the end of the first link that names one.
 abbrev pub reported : List Link → Lei → Option Lei
 reported links lei = option_map (λ link. link.end) (find (λ link. is_ultimate link.kind && bytes_eq lei link.start) links)
+
+-- ---- names
+
+-- The name in the row of an entity, if it has a row. It may be empty.
+abbrev pub name_at : List Name → Lei → Option Text
+name_at names lei = option_map (λ name. name.1) (find (λ name. bytes_eq lei name.0) names)

@@ -1,12 +1,11 @@
 -- The texts of group reports: this project's profile.
-use Rattle.std.specs.Prelude.{ℕ, List, [], ◌∷◌, ◌++◌, Option, codes, decimal, filter, find, flat_map, length, option_and_then, unwrap_or}
-use Rattle.std.specs.Str.{bytes_eq}
+use Rattle.std.specs.Prelude.{ℕ, List, [], ◌∷◌, ◌++◌, Option, codes, decimal, filter, flat_map, length, option_and_then, unwrap_or}
 use Rattle.lei_code.specs.Texts.{Lei, Text}
 use Rattle.lei_records.specs.Spelled.{present}
 use Rattle.group_reports.specs.declared.links.Link.{Link}
 use Rattle.group_reports.specs.declared.listing.Member.{Member}
 use Rattle.group_reports.specs.Groups.{disagrees, group, members, starts, top, up}
-use Rattle.group_reports.specs.Links.{GroupTable, Name, reported}
+use Rattle.group_reports.specs.Links.{GroupTable, Name, name_at, reported}
 use Rattle.group_reports.specs.Listings.{all_members}
 
 -- A word with the space before it.
@@ -21,13 +20,9 @@ line first others = first ++ (flat_map after_space others ++ 10 ∷ [])
 abbrev pub or_hyphen : Option Text → Text
 or_hyphen word = unwrap_or word (codes "-")
 
--- The row of an entity, if there is one.
-abbrev pub name_at : List Name → Lei → Option Name
-name_at names lei = find (λ name. bytes_eq lei name.0) names
-
 -- The legal name of an entity. It is missing if the entity has no row, and if the row has no text there.
 abbrev pub name_of : List Name → Lei → Option Text
-name_of names lei = option_and_then (λ name. present name.1) (name_at names lei)
+name_of names lei = option_and_then present (name_at names lei)
 
 -- ---- a report on a group
 

@@ -3,18 +3,18 @@ ghost use Rattle.std.specs.Prelude.{◌≡◌, IfErr, IfOk, IsErrOf, IsSome, Non
 ghost use Rattle.register_words.specs.declared.sheets.Sheet.{Sheet as DeclaredSheet};
 ghost use Rattle.copy_csv.specs.Rows.{AreRows};
 ghost use Rattle.group_reports.specs.declared.faults.ReportFault.{ReportFault as Reporting};
-ghost use Rattle.group_reports.specs.Links.{IsRefusal, IsTableOf, publication_in};
+ghost use Rattle.group_reports.specs.Links.{IsRefusal, IsTableOf, name_at, publication_in};
 ghost use Rattle.group_reports.specs.Reports as spec;
 
 use crate::entity::Entity;
 use crate::faults::{GroupFault, ReportFault};
-use crate::links::Link;
+use crate::links::Links;
 use crate::listing::{group_of, members};
-use crate::names::name_at;
-use crate::opening::{check, links_of, names_of, starts_of};
+use crate::names::Names;
+use crate::opening::{check, starts_of};
 use crate::reports::{put_disagreements, put_members, put_members_line, put_root};
 use copy_csv::CopyRead;
-use lei_outside::{Bytes, NoMemory, Text};
+use lei_outside::{Bytes, NoMemory};
 use std::alloc::Global;
 use std::marker::Model;
 
@@ -23,8 +23,8 @@ use std::marker::Model;
 #[derive(Drop)]
 pub struct Groups {
     alloc: Global,
-    names: Vec<(Text, Text)>,
-    links: Vec<Link>,
+    names: Names,
+    links: Links,
     // The starts of the links, each once and in byte order.
     starts: Vec<Entity>,
 }
@@ -34,12 +34,12 @@ impl Model for Groups {
 
     ghost Value = { GroupTable };
 
-    ghost view = { λ groups. record { names = groups.names.items; links = groups.links.items } };
+    ghost view = { λ groups. record { names = groups.names; links = groups.links } };
 
     ghost use Rattle.std.specs.Prelude.{◌≡◌};
     ghost use Rattle.group_reports.specs.Groups as of_links;
 
-    ghost invariant = { λ groups. groups.starts.items ≡ of_links.starts groups.links.items };
+    ghost invariant = { λ groups. groups.starts.items ≡ of_links.starts groups.links };
 }
 
 impl Groups {
@@ -53,9 +53,9 @@ impl Groups {
         ensures refusal { IfErr result (IsRefusal lei.now.head rr.now.head) }
     {
         check(&lei.head, &rr.head)?;
-        let names = names_of(alloc, lei.rows.as_slice())?;
-        let links = links_of(alloc, rr.rows.as_slice())?;
-        let starts = starts_of(alloc, links.as_slice())?;
+        let names = Names::of(alloc, lei.rows.as_slice())?;
+        let links = Links::of(alloc, rr.rows.as_slice())?;
+        let starts = starts_of(alloc, links.items())?;
         Ok(Groups {
             alloc,
             names,
@@ -68,10 +68,10 @@ impl Groups {
     /// parent of it or of a member differs.
     pub fn report(&self, who: &str) -> Result<Bytes, ReportFault>
         ensures text { IfOk result (λ bytes. bytes ≡ spec.group_report self.now who.now) }
-        ensures known { OnOk result (IsSome (spec.name_at self.now.names who.now)) }
-        ensures unknown { IsErrOf result Reporting.LeiUnknown → spec.name_at self.now.names who.now ≡ None }
+        ensures known { OnOk result (IsSome (name_at self.now.names who.now)) }
+        ensures unknown { IsErrOf result Reporting.LeiUnknown → name_at self.now.names who.now ≡ None }
     {
-        if name_at(self.names.as_slice(), who).is_none() {
+        if self.names.name_at(who).is_none() {
             return Err(ReportFault::LeiUnknown);
         }
         let bytes = self.group_text(who)?;
@@ -83,15 +83,13 @@ impl Groups {
     fn group_text(&self, who: &str) -> Result<Bytes, NoMemory>
         ensures { IfOk result (λ bytes. bytes ≡ spec.group_report self.now who.now) }
     {
-        let names = self.names.as_slice();
-        let links = self.links.as_slice();
-        let members = members(self.alloc, links, self.starts.as_slice(), who)?;
+        let members = members(self.alloc, &self.links, self.starts.as_slice(), who)?;
         let group = group_of(self.alloc, who, members.as_slice())?;
         let mut out = Vec::new(self.alloc);
-        put_root(&mut out, names, who)?;
-        put_members(&mut out, names, links, members.as_slice())?;
+        put_root(&mut out, &self.names, who)?;
+        put_members(&mut out, &self.names, &self.links, members.as_slice())?;
         put_members_line(&mut out, members.len())?;
-        put_disagreements(&mut out, links, group.as_slice())?;
+        put_disagreements(&mut out, &self.links, group.as_slice())?;
         Ok(Bytes::from(out))
     }
 
@@ -101,7 +99,7 @@ impl Groups {
         ensures { IfOk result (λ bytes. bytes ≡ spec.disagreement_report self.now) }
     {
         let mut out = Vec::new(self.alloc);
-        put_disagreements(&mut out, self.links.as_slice(), self.starts.as_slice())?;
+        put_disagreements(&mut out, &self.links, self.starts.as_slice())?;
         Ok(Bytes::from(out))
     }
 }

@@ -3,6 +3,7 @@
 
 mod entity;
 mod faults;
+mod first_texts;
 mod groups;
 mod laws;
 mod lines;

@@ -1,12 +1,17 @@
 //! Rows of a golden copy of `rr` as links between entities.
-ghost use Rattle.std.specs.Prelude.{◌≡◌, ◌&&◌, option_map, IfOk};
-ghost use Rattle.std.specs.Str.{bytes_eq};
+ghost use Rattle.std.specs.Prelude.{◌≡◌, length, map, option_map, IfOk};
+ghost use Rattle.std.specs.List.{All};
+ghost use Rattle.lei_code.specs.Texts.{Lei};
+ghost use Rattle.copy_csv.specs.Rows.{IsRowOf};
+ghost use Rattle.group_reports.specs.FirstTexts.{text_under};
 ghost use Rattle.register_words.specs.declared.sheets.Sheet.{Sheet as DeclaredSheet};
 ghost use Rattle.group_reports.specs.Links as spec;
 
+use crate::first_texts::FirstTexts;
 use copy_csv::{Row, Sheet};
 use lei_outside::{NoMemory, Text};
 use std::alloc::Global;
+use std::marker::Model;
 
 /// What a row says of the entity at its start.
 #[derive(Clone, Copy, Debug, PartialEq, Eq)]
@@ -40,20 +45,6 @@ impl Link {
         let kind = kind_of(row.text(2), row.text(4));
         Ok(Link { start, kind, end })
     }
-
-    // Whether it names the direct parent of an entity.
-    fn is_direct(&self, lei: &str) -> bool
-        ensures { result ≡ (spec.is_direct self.now.kind && bytes_eq lei.now self.now.start) }
-    {
-        matches!(self.kind, LinkKind::Direct) && lei == self.start.as_str()
-    }
-
-    // Whether it names the ultimate parent of an entity.
-    fn is_ultimate(&self, lei: &str) -> bool
-        ensures { result ≡ (spec.is_ultimate self.now.kind && bytes_eq lei.now self.now.start) }
-    {
-        matches!(self.kind, LinkKind::Ultimate) && lei == self.start.as_str()
-    }
 }
 
 // What a relationship of a type and with a status says of its start.
@@ -71,26 +62,107 @@ fn kind_of(text: &str, status: &str) -> LinkKind
     }
 }
 
-/// The direct parent of an entity, if it has one.
-pub fn direct<'a>(links: &'a [Link], lei: &str) -> Option<&'a str>
-    ensures { option_map (λ end. end.now) result ≡ spec.direct links.now lei.now }
-{
-    for link in links {
-        if link.is_direct(lei) {
-            return Some(link.end.as_str());
-        }
-    }
-    None
+/// All links in the order of the keys of their rows. Contracts see the list of them.
+#[derive(Drop)]
+pub struct Links {
+    items: Vec<Link>,
+    parents: FirstTexts,
+    ultimates: FirstTexts,
 }
 
-/// The ultimate parent that is reported for an entity, if one is.
-pub fn reported<'a>(links: &'a [Link], lei: &str) -> Option<&'a str>
-    ensures { option_map (λ end. end.now) result ≡ spec.reported links.now lei.now }
-{
-    for link in links {
-        if link.is_ultimate(lei) {
-            return Some(link.end.as_str());
-        }
+impl Model for Links {
+    ghost use Rattle.std.specs.Prelude.{List};
+    ghost use Rattle.group_reports.specs.declared.links.Link.{Link as Declared};
+    ghost use Rattle.group_reports.specs.FirstTexts.{FindsParents};
+
+    ghost Value = { List Declared };
+
+    ghost view = { λ links. links.items.items };
+
+    ghost invariant = { λ links. FindsParents links.items.items links.parents links.ultimates };
+}
+
+impl Links {
+    /// The links of rows of `rr`.
+    pub fn of(alloc: Global, rows: &[Row]) -> Result<Self, NoMemory>
+        requires { All (IsRowOf DeclaredSheet.Rr) rows.now }
+        ensures { IfOk result (λ links. links ≡ map spec.link_of rows.now) }
+    {
+        let items = links_of(alloc, rows)?;
+        let parents = parents_of(alloc, items.as_slice())?;
+        let ultimates = ultimates_of(alloc, items.as_slice())?;
+        Ok(Links {
+            items,
+            parents,
+            ultimates,
+        })
     }
-    None
+
+    /// How many they are.
+    pub fn len(&self) -> usize
+        ensures { result ≡ length self.now }
+    {
+        self.items.len()
+    }
+
+    /// The links, lent.
+    pub fn items(&self) -> &[Link]
+        ensures { result.now ≡ self.now }
+    {
+        self.items.as_slice()
+    }
+
+    /// The direct parent of an entity, if it has one.
+    pub fn direct(&self, lei: &str) -> Option<&str>
+        ensures { option_map (λ end. end.now) result ≡ spec.direct self.now lei.now }
+    {
+        self.parents.get(lei)
+    }
+
+    /// The ultimate parent that is reported for an entity, if one is.
+    pub fn reported(&self, lei: &str) -> Option<&str>
+        ensures { option_map (λ end. end.now) result ≡ spec.reported self.now lei.now }
+    {
+        self.ultimates.get(lei)
+    }
+}
+
+// Rows of `rr` as links.
+fn links_of(alloc: Global, rows: &[Row]) -> Result<Vec<Link>, NoMemory>
+    requires { All (IsRowOf DeclaredSheet.Rr) rows.now }
+    ensures { IfOk result (λ links. links.items ≡ map spec.link_of rows.now) }
+{
+    let mut links = Vec::with_capacity(alloc, rows.len())?;
+    for row in rows {
+        links.push(Link::of(alloc, row)?)?;
+    }
+    Ok(links)
+}
+
+// The end of the first link of each start that names a direct parent.
+fn parents_of(alloc: Global, links: &[Link]) -> Result<FirstTexts, NoMemory>
+    ensures { IfOk result (λ parents. (lei : Lei) → text_under parents lei ≡ spec.direct links.now lei) }
+{
+    let mut parents = FirstTexts::new(alloc);
+    for link in links {
+        if !matches!(link.kind, LinkKind::Direct) {
+            continue;
+        }
+        parents.put(alloc, link.start.as_str(), link.end.as_str())?;
+    }
+    Ok(parents)
+}
+
+// The end of the first link of each start that names an ultimate parent.
+fn ultimates_of(alloc: Global, links: &[Link]) -> Result<FirstTexts, NoMemory>
+    ensures { IfOk result (λ ultimates. (lei : Lei) → text_under ultimates lei ≡ spec.reported links.now lei) }
+{
+    let mut ultimates = FirstTexts::new(alloc);
+    for link in links {
+        if !matches!(link.kind, LinkKind::Ultimate) {
+            continue;
+        }
+        ultimates.put(alloc, link.start.as_str(), link.end.as_str())?;
+    }
+    Ok(ultimates)
 }

@@ -4,7 +4,7 @@ ghost use Rattle.group_reports.specs.Groups as spec;
 ghost use Rattle.group_reports.specs.Listings.{all_members, member_of};
 
 use crate::entity::{Entity, add, listed};
-use crate::links::Link;
+use crate::links::Links;
 use crate::walks::depth;
 use lei_outside::{NoMemory, Text};
 use std::alloc::Global;
@@ -21,7 +21,7 @@ pub struct Member {
 /// The members of a group, by depth and then in byte order. The starts are those of the links.
 pub fn members(
     alloc: Global,
-    links: &[Link],
+    links: &Links,
     starts: &[Entity],
     root: &str,
 ) -> Result<Vec<Member>, NoMemory>
@@ -39,7 +39,7 @@ pub fn members(
 fn add_at(
     alloc: Global,
     made: &mut Vec<Member>,
-    links: &[Link],
+    links: &Links,
     starts: &[Entity],
     root: &str,
     level: usize,

@@ -5,25 +5,25 @@ ghost use Rattle.group_reports.specs.Reports as spec;
 
 use crate::entity::Entity;
 use crate::lines::put_line;
-use crate::links::{Link, direct, reported};
+use crate::links::Links;
 use crate::listing::Member;
-use crate::names::{name_or_hyphen, or_hyphen};
+use crate::names::{Names, or_hyphen};
 use crate::walks::{disagrees, top};
-use lei_outside::{NoMemory, Text};
+use lei_outside::NoMemory;
 
 /// Puts the line of a root.
-pub fn put_root(out: &mut Vec<u8>, names: &[(Text, Text)], root: &str) -> Result<(), NoMemory>
+pub fn put_root(out: &mut Vec<u8>, names: &Names, root: &str) -> Result<(), NoMemory>
     ensures { OnOk result (out.new.items ≡ out.old.items ++ spec.root_line names.now root.now) }
 {
-    put_line(out, "GROUP", &[root, name_or_hyphen(names, root)])?;
+    put_line(out, "GROUP", &[root, names.or_hyphen(root)])?;
     Ok(())
 }
 
 /// Puts the lines of members.
 pub fn put_members(
     out: &mut Vec<u8>,
-    names: &[(Text, Text)],
-    links: &[Link],
+    names: &Names,
+    links: &Links,
     members: &[Member],
 ) -> Result<(), NoMemory>
     ensures { OnOk result (out.new.items ≡ out.old.items
@@ -38,8 +38,8 @@ pub fn put_members(
 // Puts the line of a member.
 fn put_member(
     out: &mut Vec<u8>,
-    names: &[(Text, Text)],
-    links: &[Link],
+    names: &Names,
+    links: &Links,
     member: &Member,
 ) -> Result<(), NoMemory>
     ensures { OnOk result (out.new.items ≡ out.old.items
@@ -47,8 +47,8 @@ fn put_member(
 {
     let lei = member.lei.as_str();
     let mut depth = itoa::Buffer::new();
-    let parent = or_hyphen(direct(links, lei));
-    let name = name_or_hyphen(names, lei);
+    let parent = or_hyphen(links.direct(lei));
+    let name = names.or_hyphen(lei);
     put_line(out, depth.format(member.depth), &[lei, parent, name])?;
     Ok(())
 }
@@ -65,7 +65,7 @@ pub fn put_members_line(out: &mut Vec<u8>, count: usize) -> Result<(), NoMemory>
 /// Puts the lines of those of some entities that disagree, and the line that counts them.
 pub fn put_disagreements(
     out: &mut Vec<u8>,
-    links: &[Link],
+    links: &Links,
     entities: &[Entity],
 ) -> Result<(), NoMemory>
     ensures { OnOk result (out.new.items ≡ out.old.items ++ spec.disagreement_lines links.now entities.now) }
@@ -77,11 +77,7 @@ pub fn put_disagreements(
 }
 
 // Puts the lines of those that disagree, and counts them.
-fn put_disagreeing(
-    out: &mut Vec<u8>,
-    links: &[Link],
-    entities: &[Entity],
-) -> Result<usize, NoMemory>
+fn put_disagreeing(out: &mut Vec<u8>, links: &Links, entities: &[Entity]) -> Result<usize, NoMemory>
     ensures out { OnOk result (out.new.items ≡ out.old.items
         ++ flat_map (spec.disagreement_line links.now) (filter (groups.disagrees links.now) entities.now)) }
     ensures count { IfOk result (λ count. count ≡ length (filter (groups.disagrees links.now) entities.now)) }
@@ -99,10 +95,10 @@ fn put_disagreeing(
 }
 
 // Puts the line of an entity that disagrees.
-fn put_disagreement(out: &mut Vec<u8>, links: &[Link], lei: &str) -> Result<(), NoMemory>
+fn put_disagreement(out: &mut Vec<u8>, links: &Links, lei: &str) -> Result<(), NoMemory>
     ensures { OnOk result (out.new.items ≡ out.old.items ++ spec.disagreement_line links.now lei.now) }
 {
-    let reported = or_hyphen(reported(links, lei));
+    let reported = or_hyphen(links.reported(lei));
     let top = or_hyphen(top(links, lei));
     put_line(out, "DISAGREES", &[lei, reported, top])?;
     Ok(())

@@ -2,15 +2,15 @@
 ghost use Rattle.std.specs.Prelude.{◌≡◌, option_map};
 ghost use Rattle.group_reports.specs.Groups as spec;
 
-use crate::links::{Link, direct, reported};
+use crate::links::Links;
 
 /// How deep an entity is below a root, if a walk up from it comes there.
-pub fn depth<'a>(links: &'a [Link], root: &str, lei: &'a str) -> Option<usize>
+pub fn depth<'a>(links: &'a Links, root: &str, lei: &'a str) -> Option<usize>
     ensures { result ≡ spec.depth links.now root.now lei.now }
 {
     let mut current = lei;
     for steps in 0..links.len() {
-        current = direct(links, current)?;
+        current = links.direct(current)?;
         if root == current {
             return Some(steps + 1);
         }
@@ -19,12 +19,12 @@ pub fn depth<'a>(links: &'a [Link], root: &str, lei: &'a str) -> Option<usize>
 }
 
 /// The ultimate parent of an entity as it is computed, if there is one.
-pub fn top<'a>(links: &'a [Link], lei: &str) -> Option<&'a str>
+pub fn top<'a>(links: &'a Links, lei: &str) -> Option<&'a str>
     ensures { option_map (λ top. top.now) result ≡ spec.top links.now lei.now }
 {
-    let mut current = direct(links, lei)?;
+    let mut current = links.direct(lei)?;
     for _ in 0..links.len() {
-        let Some(next) = direct(links, current) else {
+        let Some(next) = links.direct(current) else {
             return Some(current);
         };
         current = next;
@@ -33,10 +33,10 @@ pub fn top<'a>(links: &'a [Link], lei: &str) -> Option<&'a str>
 }
 
 /// Whether the ultimate parent that is reported for an entity isn't the one that is computed.
-pub fn disagrees(links: &[Link], lei: &str) -> bool
+pub fn disagrees(links: &Links, lei: &str) -> bool
     ensures { result ≡ spec.disagrees links.now lei.now }
 {
-    !is_same(reported(links, lei), top(links, lei))
+    !is_same(links.reported(lei), top(links, lei))
 }
 
 // Whether both are missing, or both are there and the same.

@@ -1,6 +1,6 @@
 use Rattle.std.proofs.Common.{◌≡◌, map, take}
 use Rattle.group_reports.specs.Links.{link_of}
-use Rattle.group_reports.proofs.opening.links_of.Given as goal
+use Rattle.group_reports.proofs.links.links_of.Given as goal
 
 -- those of the rows so far were made
 abbrev pub invariant-loop-row : goal.invariant-loop-row
