@@ -19,18 +19,18 @@ lei_or lei (Some other) = other
 
 -- ---- one step
 
-this-is : (root : Lei) (o : Option Lei) → is_this root o ≡ true → o ≡ Some root
+pub this-is : (root : Lei) (o : Option Lei) → is_this root o ≡ true → o ≡ Some root
 this-is root None is = absurd (false≢true is)
 this-is root (Some lei) is = ap Some (sym (same_lei root lei is))
 
-is-this : (root : Lei) (o : Option Lei) → o ≡ Some root → is_this root o ≡ true
+pub is-this : (root : Lei) (o : Option Lei) → o ≡ Some root → is_this root o ≡ true
 is-this root o e = ap (is_this root) e ∙ own_lei root
 
 pub starts-has : (links : List Link) (lei : Lei) → has (starts links) lei ≡ has (map (λ link. link.start) links) lei
 starts-has links lei = in_order-has (map (λ link. link.start) links) lei
 
 -- who has a direct parent is a start
-direct-start : (links : List Link) (lei next : Lei) → direct links lei ≡ Some next → has (map (λ link. link.start) links) lei ≡ true
+pub direct-start : (links : List Link) (lei next : Lei) → direct links lei ≡ Some next → has (map (λ link. link.start) links) lei ≡ true
 direct-start [] lei next e = absurd cc
 direct-start (link ∷ links) lei next e = by (λ is. direct-start links lei next is) (is_direct link.kind && bytes_eq lei link.start) refl e
   where
@@ -44,7 +44,7 @@ direct-start (link ∷ links) lei next e = by (λ is. direct-start links lei nex
 -- ---- a walk up, from its first step on
 
 module _ (links : List Link) where
-  up-first : (lei : Lei) (k : ℕ) → up links lei (suc k) ≡ option_and_then (λ next. up links next k) (direct links lei)
+  pub up-first : (lei : Lei) (k : ℕ) → up links lei (suc k) ≡ option_and_then (λ next. up links next k) (direct links lei)
   up-first lei zero = same (direct links lei)
     where
       same : (o : Option Lei) → o ≡ option_and_then (λ next. Some next) o
@@ -63,7 +63,7 @@ module _ (links : List Link) where
     pub step : direct links lei ≡ Some next
     pub rest : up links next k ≡ Some root
 
-  starts_with : (lei root : Lei) (k : ℕ) → up links lei (suc k) ≡ Some root → Starts lei root k
+  pub starts_with : (lei root : Lei) (k : ℕ) → up links lei (suc k) ≡ Some root → Starts lei root k
   starts_with lei root k e = by (direct links lei) refl (sym (up-first lei k) ∙ e)
     where
       by : (o : Option Lei) → direct links lei ≡ o → option_and_then (λ next. up links next k) o ≡ Some root → Starts lei root k
@@ -127,7 +127,7 @@ module _ (links : List Link) where
       pub leads : up links lei k ≡ Some root
       pub first : (j : ℕ) → j < k → up links lei j ≡ Some root → ⊥
 
-    least-next : (lei next : Lei) (k : ℕ) → IsLeast lei (suc k) → direct links lei ≡ Some next → up links next k ≡ Some root → IsLeast next k
+    pub least-next : (lei next : Lei) (k : ℕ) → IsLeast lei (suc k) → direct links lei ≡ Some next → up links next k ≡ Some root → IsLeast next k
     least-next lei next k least step rest = record {
       leads = rest;
       first = λ j before e.
@@ -154,7 +154,7 @@ module _ (links : List Link) where
             absurd (least.first on.left (omega (arith, few)) on.leads)
 
     -- so a walk with no fewer steps has no more of them than there are links
-    least-few : (k : ℕ) (lei : Lei) → IsLeast lei k → k ≤ length links
+    pub least-few : (k : ℕ) (lei : Lei) → IsLeast lei k → k ≤ length links
     least-few k lei least =
         subst (λ n. n ≤ length links) (path-length k lei)
         (subst (λ n. length (path k lei) ≤ n) (length-map links (λ link. link.start))
@@ -165,7 +165,7 @@ module _ (links : List Link) where
       pub steps : ℕ
       pub is : IsLeast lei steps
 
-    abbrev leads : Lei → ℕ → Bool
+    abbrev pub leads : Lei → ℕ → Bool
     leads lei k = is_this root (up links lei k)
 
     some_least : (lei : Lei) (k : ℕ) → up links lei k ≡ Some root → Least lei
@@ -182,11 +182,11 @@ module _ (links : List Link) where
 
     -- ---- members
 
-    depth-is : (o : Option ℕ) (d : ℕ) → is_depth d o ≡ true → o ≡ Some d
+    pub depth-is : (o : Option ℕ) (d : ℕ) → is_depth d o ≡ true → o ≡ Some d
     depth-is None d is = absurd (false≢true is)
     depth-is (Some k) d is = ap Some (Rattle.std.proofs.lemmas.Bool.eqb-true k d is)
 
-    is-depth : (d : ℕ) → is_depth d (Some d) ≡ true
+    pub is-depth : (d : ℕ) → is_depth d (Some d) ≡ true
     is-depth d = grind arith
 
     member-is : (d : ℕ) (lei : Lei) → has (members_at links root d) lei ≡ true → (bytes_eq root lei ≡ false) × (depth links root lei ≡ Some d)

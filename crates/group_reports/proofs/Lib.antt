@@ -3,3 +3,5 @@ pub mod ChainLemmas
 pub mod WalkLemmas
 pub mod ReportLemmas
 pub mod FirstLemmas
+pub mod LevelLemmas
+pub mod DownLemmas

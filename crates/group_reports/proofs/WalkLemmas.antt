@@ -1,10 +1,10 @@
 -- Walks up, step by step.
-use Rattle.std.specs.Prelude.{◌≡◌, ℕ, zero, suc, ◌+◌, ◌-◌, ◌<◌, ◌≤◌, Bool, true, false, cond, ◌&&◌, List, length, Option, None, Some, find, is_some, is_none, option_and_then}
+use Rattle.std.specs.Prelude.{◌≡◌, ℕ, zero, suc, ◌+◌, ◌-◌, ◌<◌, ◌≤◌, Bool, false, cond, ◌&&◌, List, length, Option, None, Some, find, is_some, is_none, option_and_then}
 use Rattle.std.specs.List.{range_with_len}
 use Rattle.std.proofs.Common.{refl, sym, ap, ◌∙◌, arith}
 use Rattle.lei_code.specs.Texts.{Lei}
 use Rattle.group_reports.specs.declared.links.Link.{Link}
-use Rattle.group_reports.specs.Groups.{depth, ends_after, is_this, top, up}
+use Rattle.group_reports.specs.Groups.{ends_after, top, up}
 use Rattle.group_reports.specs.Links.{direct}
 
 -- the first of the numbers from one on, of which there is one
@@ -32,46 +32,6 @@ module _ (links : List Link) (lei : Lei) where
   gone p fails from (suc n) end =
       ap (λ b. cond b (Some from) (find p (range_with_len (from + 1) n))) (fails from end)
       ∙ gone p fails (from + 1) n (ap (up links lei) (plus from) ∙ ap (option_and_then (direct links)) end)
-
-  module _ (root : Lei) where
-    abbrev hits : ℕ → Bool
-    hits k = is_this root (up links lei k)
-
-    -- after some steps the walk stands at an entity, and the depth is found among the numbers that are left
-    pub record Looks (steps : ℕ) (current : Lei) : Type 0 where
-      pub at : up links lei steps ≡ Some current
-      pub left : find hits (range_with_len (steps + 1) (length links - steps)) ≡ depth links root lei
-
-    pub looks_first : Looks 0 lei
-    looks_first = record { at = refl; left = ap (λ n. find hits (range_with_len 1 n)) (all (length links)) }
-
-    pub looks_end : (steps : ℕ) (current : Lei) → Looks steps current → direct links current ≡ None → depth links root lei ≡ None
-    looks_end steps current looks none =
-        sym looks.left
-        ∙ gone hits (λ k end. ap (is_this root) end) (steps + 1) (length links - steps) (up-next steps current None looks.at none)
-
-    pub looks_over : (steps : ℕ) (current : Lei) → Looks steps current → length links ≤ steps → depth links root lei ≡ None
-    looks_over steps current looks over =
-        sym looks.left ∙ no_number hits (steps + 1) (length links - steps) (omega (arith, over))
-
-    pub looks_here : (steps : ℕ) (current next : Lei) → Looks steps current → steps < length links → direct links current ≡ Some next
-        → is_this root (Some next) ≡ true → depth links root lei ≡ Some (steps + 1)
-    looks_here steps current next looks within step is =
-        sym looks.left
-        ∙ next_number hits (steps + 1) (length links - steps) (length links - (steps + 1)) (omega (arith, within))
-        ∙ ap (λ b. cond b (Some (steps + 1)) (find hits (range_with_len (steps + 1 + 1) (length links - (steps + 1)))))
-        (ap (is_this root) (up-next steps current (Some next) looks.at step) ∙ is)
-
-    pub looks_on : (steps : ℕ) (current next : Lei) → Looks steps current → steps < length links → direct links current ≡ Some next
-        → is_this root (Some next) ≡ false → Looks (steps + 1) next
-    looks_on steps current next looks within step isnt = record {
-      at = up-next steps current (Some next) looks.at step;
-      left =
-          sym (ap (λ b. cond b (Some (steps + 1)) (find hits (range_with_len (steps + 1 + 1) (length links - (steps + 1)))))
-          (ap (is_this root) (up-next steps current (Some next) looks.at step) ∙ isnt))
-          ∙ sym (next_number hits (steps + 1) (length links - steps) (length links - (steps + 1)) (omega (arith, within)))
-          ∙ looks.left;
-    }
 
   -- ---- the end of a walk
 

@@ -1,5 +1,5 @@
 -- The members of a group with their depths, as a list of them is made before it is written.
-use Rattle.std.specs.Prelude.{List, map, unwrap_or}
+use Rattle.std.specs.Prelude.{ℕ, List, map, unwrap_or}
 use Rattle.lei_code.specs.Texts.{Lei}
 use Rattle.group_reports.specs.declared.links.Link.{Link}
 use Rattle.group_reports.specs.declared.listing.Member.{Member}
@@ -8,6 +8,10 @@ use Rattle.group_reports.specs.Groups.{depth, members}
 -- A member, with the depth that it has.
 abbrev pub member_of : List Link → Lei → Lei → Member
 member_of links root lei = record { depth = unwrap_or (depth links root lei) 0; lei = lei }
+
+-- An entity at a depth.
+abbrev pub at_depth : ℕ → Lei → Member
+at_depth d lei = record { depth = d; lei = lei }
 
 -- All members with their depths.
 abbrev pub all_members : List Link → Lei → List Member

@@ -11,6 +11,7 @@ use std::collections::BTreeMap;
 /// By LEI, the first text that was put for it.
 #[derive(Drop)]
 pub struct FirstTexts {
+    pub alloc: Global,
     pub map: BTreeMap<String, Text>,
 }
 
@@ -20,6 +21,7 @@ impl FirstTexts {
         ensures { (lei : Lei) → text_under result lei ≡ None }
     {
         FirstTexts {
+            alloc,
             map: BTreeMap::new(alloc),
         }
     }
@@ -35,24 +37,24 @@ impl FirstTexts {
     }
 
     /// Puts a text for an LEI, unless it has one.
-    pub fn put(&mut self, alloc: Global, lei: &str, text: &str) -> Result<(), NoMemory>
+    pub fn put(&mut self, lei: &str, text: &str) -> Result<(), NoMemory>
         ensures { OnOk result ((other : Lei) → text_under self.new other
             ≡ or_else (text_under self.old other) (only_if (bytes_eq other lei.now) text.now)) }
     {
         if self.map.contains_key(lei) {
             return Ok(());
         }
-        self.put_new(alloc, lei, text)
+        self.put_new(lei, text)
     }
 
     // Puts the first text of an LEI.
-    fn put_new(&mut self, alloc: Global, lei: &str, text: &str) -> Result<(), NoMemory>
+    fn put_new(&mut self, lei: &str, text: &str) -> Result<(), NoMemory>
         requires { text_under self.old lei.now ≡ None }
         ensures { OnOk result ((other : Lei) → text_under self.new other
             ≡ or_else (text_under self.old other) (only_if (bytes_eq other lei.now) text.now)) }
     {
-        let key = String::from_str(alloc, lei)?;
-        let text = Text::copy_of(alloc, text)?;
+        let key = String::from_str(self.alloc, lei)?;
+        let text = Text::copy_of(self.alloc, text)?;
         self.map.insert(key, text)?;
         Ok(())
     }

@@ -148,7 +148,7 @@ fn parents_of(alloc: Global, links: &[Link]) -> Result<FirstTexts, NoMemory>
         if !matches!(link.kind, LinkKind::Direct) {
             continue;
         }
-        parents.put(alloc, link.start.as_str(), link.end.as_str())?;
+        parents.put(link.start.as_str(), link.end.as_str())?;
     }
     Ok(parents)
 }
@@ -162,7 +162,7 @@ fn ultimates_of(alloc: Global, links: &[Link]) -> Result<FirstTexts, NoMemory>
         if !matches!(link.kind, LinkKind::Ultimate) {
             continue;
         }
-        ultimates.put(alloc, link.start.as_str(), link.end.as_str())?;
+        ultimates.put(link.start.as_str(), link.end.as_str())?;
     }
     Ok(ultimates)
 }

@@ -95,7 +95,7 @@ fn texts_of(alloc: Global, names: &[(Text, Text)]) -> Result<FirstTexts, NoMemor
 {
     let mut texts = FirstTexts::new(alloc);
     for name in names {
-        texts.put(alloc, name.0.as_str(), name.1.as_str())?;
+        texts.put(name.0.as_str(), name.1.as_str())?;
     }
     Ok(texts)
 }

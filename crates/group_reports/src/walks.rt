@@ -4,20 +4,6 @@ ghost use Rattle.group_reports.specs.Groups as spec;
 
 use crate::links::Links;
 
-/// How deep an entity is below a root, if a walk up from it comes there.
-pub fn depth<'a>(links: &'a Links, root: &str, lei: &'a str) -> Option<usize>
-    ensures { result ≡ spec.depth links.now root.now lei.now }
-{
-    let mut current = lei;
-    for steps in 0..links.len() {
-        current = links.direct(current)?;
-        if root == current {
-            return Some(steps + 1);
-        }
-    }
-    None
-}
-
 /// The ultimate parent of an entity as it is computed, if there is one.
 pub fn top<'a>(links: &'a Links, lei: &str) -> Option<&'a str>
     ensures { option_map (λ top. top.now) result ≡ spec.top links.now lei.now }
