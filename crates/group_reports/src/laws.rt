@@ -6,8 +6,8 @@ ghost use Rattle.lei_code.specs.Texts.{Lei};
 ghost use Rattle.group_reports.specs.declared.links.Link.{Link as DeclaredLink};
 ghost use Rattle.group_reports.specs.Groups.{Leads, members};
 
-/// An entity other than the root is a member exactly if a chain of direct parents leads from it to the root, however long
-/// the chain is. The root is no member, and none is one twice. Walks may come back to where they were.
+/// An entity other than the root is a member exactly if a chain of direct parents leads from it to the root, however
+/// long the chain is. The root is no member, and none is one twice. Walks may come back to where they were.
 pub fn members_are_those_with_a_chain()
     ensures chain { (links : Items DeclaredLink) (root lei : Lei) → lei ≢ root
         → Contains (members links root) lei ↔ Leads links lei root }

@@ -1,4 +1,4 @@
-//! Reports on groups: who belongs to an entity by direct parents, and where reported ultimate parents differ from these.
+//! Reports on groups: who belongs to an entity by direct parents, and where reported ultimate parents differ.
 #![tactic(auto)]
 
 mod entity;

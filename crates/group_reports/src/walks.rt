@@ -27,7 +27,8 @@ pub fn disagrees(links: &Links, lei: &str) -> bool
 
 // Whether both are missing, or both are there and the same.
 fn is_same(one: Option<&str>, other: Option<&str>) -> bool
-    ensures { result ≡ spec.is_same (option_map (λ lei. lei.now) one.entry) (option_map (λ lei. lei.now) other.entry) }
+    ensures { result
+        ≡ spec.is_same (option_map (λ lei. lei.now) one.entry) (option_map (λ lei. lei.now) other.entry) }
 {
     match (one, other) {
         (None, None) => true,
