@@ -8,13 +8,14 @@ use Rattle.lei_outside.specs.declared.keeper.Batch.{Batch}
 use Rattle.store_tables.specs.Calls.{IsKept, IsNext, IsReady, IsSeen, IsSteady, IsUndone, Tells}
 use Rattle.store_tables.specs.Crash.{IsFound}
 use Rattle.store_tables.specs.Told.{told_by}
-use Rattle.store_tables.proofs.CrashLemmas.{found_settled, kept_tells}
+use Rattle.store_tables.proofs.CrashLemmas.{found_settled, kept_tells, tells_told, told_tells}
 use Rattle.store_tables.proofs.TransactionLemmas.{undone_now}
 use Rattle.keeper_sqlite.specs.Transactions.{Ends, HasKept, MayKeep}
 
 tells : (s : State) (t : KeptTables) → IsReady s → IsTrue s.is_open
     → told_by s.now.schema s.now.trees ≡ Some t → Tells s.now.schema s.now.trees t
-tells s t ready live told = record { both = ready.both; sound = ready.sound live; told = told }
+tells s t ready live told =
+    told_tells s.now.schema s.now.trees t ready.whole.schema (ready.whole.sound live) ready.second told
 
 abbrev Law : State → Type 0
 Law s = IsTrue s.is_open → (db : Trees) → s.may_leave db → db ≡ s.committed.trees
@@ -25,7 +26,7 @@ kept_ends : (batch : Batch) (old new : State) → IsReady old → Law new → Ha
     × ((left : Option KeptTables) → IsFound new left → left ≡ Some (with_batch batch t))
 kept_ends batch old new ready law kept t next told =
     let after = kept.told t next (tells old t ready kept.was_open told) in
-    (after.told, found_settled new (with_batch batch t) (law kept.is_open) kept.settled after)
+    (tells_told new.now.schema new.now.trees _ after, found_settled new (with_batch batch t) (law kept.is_open) kept.settled after)
 
 module _ (batch : Batch) (old new : State) (law : Law new) (survives : Survives old new (IsKept batch old))
     (ready : HasCleanDisk old → IsReady old) (mode : new.in_transaction ≡ false) where
@@ -58,8 +59,8 @@ module _ (batch : Batch) (old new : State) (law : Law new) (survives : Survives 
     mode = λ _. mode;
     was_open = λ clean live. (undone clean).was_open live;
     kept = λ clean. tt;
-    undone = λ clean live. ap (λ (d : Database). told_by d.schema d.trees)
-        (undone_now old new (ready (earlier clean)).settled (undone clean) live);
+    undone = λ clean live t was. ap (λ (d : Database). told_by d.schema d.trees)
+        (undone_now old new (ready (earlier clean)).whole.settled (undone clean) live) ∙ was;
     crash = found;
   }
 
@@ -93,18 +94,18 @@ steady_ends batch r a b c one two = record {
       (λ kept. (
         kept.0,
         λ t next told. kept.1 t next
-            (one.told (earlier clean) (two.was_open clean kept.0) ∙ told),
+            (one.told (earlier clean) (two.was_open clean kept.0) t told),
       )) (two.kept clean);
-  undone = λ clean. on_err r _ _ (λ same live. same live ∙ one.told (earlier clean) (two.was_open clean live))
+  undone = λ clean. on_err r _ _ (λ same live t was. same live t (one.told (earlier clean) (two.was_open clean live) t was))
       (two.undone clean);
   crash = λ clean left it. elim (two.crash clean left it) [
     | inl found ↦ elim (one.crash (earlier clean) left found)
         [ inl was ↦ inl was | inr seen ↦ inr (inl seen) ]
     | inr (inl seen) ↦ inr (inl
-        (one.was_open (earlier clean) seen.0, seen.1 ∙ one.told (earlier clean) seen.0))
+        (one.was_open (earlier clean) seen.0, λ t was. seen.1 t (one.told (earlier clean) seen.0 t was)))
     | inr (inr may) ↦ inr (inr (
       one.was_open (earlier clean) may.0,
-      λ t next told. may.1 t next (one.told (earlier clean) may.0 ∙ told),
+      λ t next told. may.1 t next (one.told (earlier clean) may.0 t told),
     ))
   ];
 }

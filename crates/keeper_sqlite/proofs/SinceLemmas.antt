@@ -68,7 +68,7 @@ module _ (adopted old new : State) (was : IsTrue (is_some (told_in adopted))) (o
   seen_told : HasCleanDisk old → (left : Option KeptTables) → IsSeen old left → leaves_in old left
   seen_told clean left seen =
       let it = told_old clean seen.0 in
-      let is : left ≡ Some it.0 = seen.1 ∙ it.2 in
+      let is : left ≡ Some it.0 = seen.1 it.0 it.2 in
       (clean, inl (ap is_some is, is ∙ sym it.1))
 
 module _ (adopted old new : State) (on : KeepsOn adopted old) (one : IsSteady old new) where
@@ -81,7 +81,7 @@ module _ (adopted old new : State) (on : KeepsOn adopted old) (one : IsSteady ol
     told = λ was clean live.
         let it = told_old adopted old new was on (earlier clean) (one.was_open clean live) in
         is_some_of (told_in new) it.0
-        (told_now new clean live (one.mode (on.mode was)) ∙ (one.told clean live ∙ it.2));
+        (told_now new clean live (one.mode (on.mode was)) ∙ one.told clean live it.0 it.2);
   }
 
   -- what is told was told before
@@ -90,7 +90,7 @@ module _ (adopted old new : State) (on : KeepsOn adopted old) (one : IsSteady ol
   same_told was t told =
       let it = told_is new t told in
       let before = told_old adopted old new was on (earlier it.0.clean) (one.was_open it.0.clean it.0.live) in
-      before.1 ∙ (sym before.2 ∙ (sym (one.told it.0.clean it.0.live) ∙ it.1))
+      before.1 ∙ (sym (one.told it.0.clean it.0.live before.0 before.2) ∙ it.1)
 
   leaves_before : IsTrue (is_some (told_in adopted)) → (left : Option KeptTables) → leaves_in new left
       → leaves_in old left
@@ -190,7 +190,7 @@ ends_on batch (Err e) adopted old new on next it = record {
   told = λ was clean live.
       let t = before batch (Err e) adopted old new on next it was clean (it.was_open clean live) in
       is_some_of (told_in new) t.0
-      (told_now new clean live (it.mode (on.mode was)) ∙ (it.undone clean live ∙ t.2));
+      (told_now new clean live (it.mode (on.mode was)) ∙ it.undone clean live t.0 t.2);
 }
 
 pub ends_commits : {E : Type 0} (batch : Batch) (r : Result (Unit {0}) E) (adopted old new : State)
@@ -212,7 +212,7 @@ ends_commits batch (Err e) adopted old new on next it = stays_by _ _ (λ t told.
     let was = before batch (Err e) adopted old new on next it since.0 now.0.clean
     (it.was_open now.0.clean now.0.live) in
     since_true (is_some (told_in adopted)) (told_in old) since.0
-    ∙ (was.1 ∙ (sym was.2 ∙ (sym (it.undone now.0.clean now.0.live) ∙ now.1))))
+    ∙ (was.1 ∙ (sym (it.undone now.0.clean now.0.live was.0 was.2) ∙ now.1)))
 
 -- what a crash may leave after a commit that was refused
 left_either : {E : Type 0} (batch : Batch) (e : E) (adopted old new : State) → KeepsOn adopted old
@@ -230,7 +230,7 @@ left_either batch e adopted old new on next it true was left after = go (after w
         let some = some_of left told.0 in
         let now = told_is new some.0 (sym told.1 ∙ some.1) in
         let x = before batch (Err e) adopted old new on next it was clean (it.was_open clean now.0.live) in
-        let same : told_in old ≡ Some some.0 = x.1 ∙ (sym x.2 ∙ (sym (it.undone clean now.0.live) ∙ now.1)) in
+        let same : told_in old ≡ Some some.0 = x.1 ∙ (sym (it.undone clean now.0.live x.0 x.2) ∙ now.1) in
         inl (λ _. (was_clean batch (Err e) adopted old new on next it clean, inl (told.0, some.1 ∙ sym same)))
     go (clean, inr found) = elim (it.crash clean left found) [
       | inl was_found ↦ inl (λ _. (was_clean batch (Err e) adopted old new on next it clean, inr was_found))

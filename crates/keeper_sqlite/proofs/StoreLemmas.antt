@@ -1,6 +1,12 @@
 -- The calls of a keeper over a connection.
-use Rattle.std.proofs.Common.{◌≡◌, ◌⊎◌, inl, inr, ◌-◌, ℕ, ℤ, pos, false, List, [], ◌∷◌, length, map, slice_get, ap₂, Option, Some, None, Ok, Err, Result, OnOk, OnErr, IsTrue, refl, sym, ap, ◌∙◌}
+use Rattle.std.proofs.Common.{◌≡◌, ◌⊎◌, inl, inr, ◌-◌, ◌++◌, ℕ, ℤ, pos, false, List, [], ◌∷◌, length, map, slice_get, ap₂, Option, Some, None, Ok, Err, Result, OnOk, OnErr, IsTrue, true, refl, sym, ap, subst, ◌∙◌, arith}
+use Rattle.sqlite_trees.specs.Tree.{Trees}
+use Rattle.sqlite.specs.Effect.{Database, IsDatabase}
 use Rattle.sqlite.specs.State.{State, HasCleanDisk, IsLive, Survives}
+use Rattle.sqlite.proofs.StateLemmas.{survives_then, survives_weaker}
+use Rattle.sqlite.proofs.Callers.{survives_begin}
+use Rattle.sqlite.specs.Held.{Held, state}
+use Rattle.sqlite_trees.specs.declared.store.Store.{Ghosts}
 use Rattle.sqlite_value.specs.declared.value.Value.{Value}
 use Rattle.sqlite_value.specs.declared.value.Value.TheVariants.{Int, Blob}
 use Rattle.sqlite_value.specs.Order.{Row, bytes, column}
@@ -8,17 +14,22 @@ use Rattle.lei_outside.specs.Keeping.{KeptTables, last_number, number_of}
 use Rattle.lei_outside.specs.declared.entry.KeptEntry.{KeptEntry}
 use Rattle.lei_outside.specs.declared.keeper.KeptCell.{KeptCell}
 use Rattle.store_statements.specs.Rows.{cell_row, entry_row}
-use Rattle.store_statements.specs.Schemas.{both_schema}
-use Rattle.store_tables.specs.Calls.{IsMade, IsReady, IsSteady, IsUndone, last_rows, number_row}
+use Rattle.store_statements.specs.Schemas.{whole_schema}
+use Rattle.store_tables.specs.Calls.{IsMade, IsReady, IsSteady, IsUndone, IsWhole, Makes, Moves, ReadsForm, last_rows, number_row}
+use Rattle.store_tables.specs.Stored.{second_row}
 use Rattle.store_tables.specs.Told.{told_by}
+use Rattle.store_tables.proofs.CrashLemmas.{tells_told, told_tells_first}
+use Rattle.store_tables.proofs.NameLemmas.{joined_again}
 use Rattle.store_tables.proofs.TransactionLemmas.{made_steady}
-use Rattle.keeper_sqlite.specs.Transactions.{HasMade}
+use Rattle.keeper_sqlite.specs.Transactions.{HasForm, HasMade, HasMoved, IsMoved}
+use Rattle.keeper_sqlite.specs.declared.over.Form.{Form}
 
 went : {E : Type 0} (old new : State) (r : Result (Unit {0}) E) → OnOk r (HasMade old new)
     → OnErr r (IsUndone old new)
     → IsUndone old new ⊎ (IsTrue old.is_open
-    × (told_by new.now.schema new.now.trees ≡ told_by old.now.schema old.now.trees))
-went old new (Ok x) made undone = inr (made.was_open, made.told)
+    × ((t : KeptTables) → told_by old.now.schema old.now.trees ≡ Some t
+    → told_by new.now.schema new.now.trees ≡ Some t))
+went old new (Ok x) made undone = inr (made.was_open, λ t was. made.told ∙ was)
 went old new (Err e) made undone = inl undone
 
 pub make_steady : {E : Type 0} (old new : State) (r : Result (Unit {0}) E)
@@ -29,12 +40,123 @@ make_steady old new r settled mode made undone survives =
     made_steady old new (λ _. settled) (λ _. mode) (λ clean. went old new r (made clean) (undone clean))
     survives
 
-pub made_ready : (old new : State) → HasMade old new → IsReady new
-made_ready old new made = record { both = made.both; settled = λ _. made.settled; sound = λ _. made.sound }
+moved : {E : Type 0} (old new : State) (r : Result (Unit {0}) E) → OnOk r (HasMoved old new)
+    → OnErr r (IsUndone old new)
+    → IsUndone old new ⊎ (IsTrue old.is_open
+    × ((t : KeptTables) → told_by old.now.schema old.now.trees ≡ Some t
+    → told_by new.now.schema new.now.trees ≡ Some t))
+moved old new (Ok x) made undone = inr (made.was_open, made.told)
+moved old new (Err e) made undone = inl undone
 
-pub is_ready : (s : State) → s.now.schema ≡ both_schema → (IsTrue s.is_open → s.now ≡ s.committed) → IsLive s
-    → IsReady s
-is_ready s both settled live = record { both = both; settled = settled; sound = λ h. (live h).0 }
+pub move_steady : {E : Type 0} (old new : State) (r : Result (Unit {0}) E)
+    → (HasCleanDisk old → HasForm old Form.First) → new.in_transaction ≡ false
+    → (HasCleanDisk new → IsWhole old → old.now.trees 4 ≡ [] → OnOk r (HasMoved old new))
+    → (HasCleanDisk new → OnErr r (IsUndone old new))
+    → Survives old new (IsMoved old) → IsSteady old new
+move_steady old new r first mode made undone survives =
+    made_steady old new (λ clean. (first (earlier clean)).whole.settled) (λ _. mode)
+    (λ clean. let it = first (earlier clean) in
+    moved old new r (made clean it.whole (it.first refl)) (undone clean))
+    (survives_weaker old new (IsMoved old) (IsMade old)
+    (λ clean db may. let it = first (earlier clean) in may it.whole (it.first refl)) survives)
+  where
+    earlier : HasCleanDisk new → HasCleanDisk old
+    earlier clean = omega (arith, survives.clean, clean)
+
+-- what a transaction that made the tables commits
+pub is_made : (s : State) (now : Database) (db : Trees) → IsTrue s.is_open → IsDatabase now
+    → told_by now.schema now.trees ≡ told_by s.now.schema s.now.trees → db ≡ now.trees → IsMade s db
+is_made s now db live sound told is = subst (IsMade s) (sym is)
+    (live, λ t was. (now.schema, sound, told ∙ was))
+
+-- and one that moved the cells
+pub is_moved : (s mid : State) (db : Trees) → Moves s mid → db ≡ mid.now.trees → IsMoved s db
+is_moved s mid db moves is whole form = subst (IsMade s) (sym is) (
+  moves.inside.was_open,
+  λ t was. let tells = moves.told t (told_tells_first s.now.schema s.now.trees t whole.schema
+      (whole.sound moves.inside.was_open) form was) in
+      (mid.now.schema, tells.holds.sound, tells_told mid.now.schema mid.now.trees t tells),
+)
+
+pub has_moved : (s mid new : State) → Moves s mid → new.now ≡ mid.now → IsWhole s → s.now.trees 4 ≡ []
+    → HasMoved s new
+has_moved s mid new moves is whole form = record {
+  was_open = moves.inside.was_open;
+  told = λ t was. let tells = moves.told t (told_tells_first s.now.schema s.now.trees t whole.schema
+      (whole.sound moves.inside.was_open) form was) in
+      ap (λ (d : Database). told_by d.schema d.trees) is ∙ tells_told mid.now.schema mid.now.trees t tells;
+}
+
+pub moved_after : {S : Type 0} (g : Ghosts S) (old tx : Held S) (mid new : State)
+    → tx ≡ record old { in_transaction = true } → Moves (state g tx) mid → new.now ≡ mid.now
+    → IsWhole (state g old) → (state g old).now.trees 4 ≡ [] → HasMoved (state g old) new
+moved_after g old tx mid new begun moves is whole form =
+    let it = subst (λ h. Moves (state g h) mid) begun moves in
+    has_moved (state g old) mid new
+    (record {
+      inside = record {
+        was_open = it.inside.was_open;
+        is_open = it.inside.is_open;
+        committed = it.inside.committed;
+        mode = it.inside.mode;
+      };
+      told = it.told;
+    }) is whole form
+
+pub made_survives : {S : Type 0} (g : Ghosts S) (old tx : Held S) (mid new : State)
+    → tx ≡ record old { in_transaction = true } → Survives (state g tx) mid (λ _. ⊥)
+    → Survives mid new (λ db. db ≡ mid.now.trees)
+    → (HasCleanDisk mid → Makes whole_schema (state g tx) mid × IsDatabase mid.now)
+    → Survives (state g old) new (IsMade (state g old))
+made_survives g old tx mid new begun one two made =
+    survives_then (state g old) mid new (λ _. ⊥) (λ db. db ≡ mid.now.trees) (IsMade (state g old))
+    (λ _ db none. absurd none) (λ clean db is.
+    let it = subst (λ h. Makes whole_schema (state g h) mid × IsDatabase mid.now) begun
+    (made (omega (arith, two.clean, clean))) in
+    is_made (state g old) mid.now db it.0.inside.was_open it.1 it.0.told is)
+    (survives_begin g old mid (λ _. ⊥) (subst (λ h. Survives (state g h) mid (λ _. ⊥)) begun one)) two
+
+pub moved_survives : {S : Type 0} (g : Ghosts S) (old tx : Held S) (mid new : State)
+    → tx ≡ record old { in_transaction = true } → Survives (state g tx) mid (λ _. ⊥)
+    → Survives mid new (λ db. db ≡ mid.now.trees)
+    → (HasCleanDisk mid → Moves (state g tx) mid)
+    → Survives (state g old) new (IsMoved (state g old))
+moved_survives g old tx mid new begun one two moves =
+    survives_then (state g old) mid new (λ _. ⊥) (λ db. db ≡ mid.now.trees) (IsMoved (state g old))
+    (λ _ db none. absurd none) (λ clean db is.
+    let it = subst (λ h. Moves (state g h) mid) begun (moves (omega (arith, two.clean, clean))) in
+    is_moved (state g old) mid db
+    (record {
+      inside = record {
+        was_open = it.inside.was_open;
+        is_open = it.inside.is_open;
+        committed = it.inside.committed;
+        mode = it.inside.mode;
+      };
+      told = it.told;
+    }) is)
+    (survives_begin g old mid (λ _. ⊥) (subst (λ h. Survives (state g h) mid (λ _. ⊥)) begun one)) two
+
+pub is_whole : (s : State) → s.now.schema ≡ whole_schema → (IsTrue s.is_open → s.now ≡ s.committed)
+    → IsLive s → IsWhole s
+is_whole s schema settled live = record { schema = schema; settled = settled; sound = λ h. (live h).0 }
+
+-- what reading the form says of a store with all four tables
+pub has_form : (old new : State) (rows : List Row) (form : Form) → IsWhole old → ReadsForm old new rows
+    → (form ≡ Form.First → rows ≡ []) → (form ≡ Form.Second → rows ≡ second_row ∷ [])
+    → HasForm new form
+has_form old new rows form whole reads first second = record {
+  whole = record {
+    schema = ap (λ (d : Database). d.schema) reads.now ∙ whole.schema;
+    settled = λ live. reads.now ∙ (whole.settled reads.was_open ∙ sym reads.committed);
+    sound = λ live. subst IsDatabase (sym reads.now) (whole.sound reads.was_open);
+  };
+  first = λ is. reads.none (first is);
+  second = λ is. reads.second (second is);
+}
+
+pub form_ready : (s : State) (form : Form) → HasForm s form → form ≡ Form.Second → IsReady s
+form_ready s form has is = record { whole = has.whole; second = has.second is }
 
 -- ---- what is read
 
@@ -89,10 +211,9 @@ entry_in row = record {
 cell_in : Row → KeptCell
 cell_in row = record {
   kind = number_in (column row 0);
-  name = bytes (column row 1);
-  touched = number_in
-      (column row 2);
-  row = blob_in (column row 3);
+  name = bytes (column row 1) ++ bytes (column row 2);
+  touched = number_in (column row 3);
+  row = blob_in (column row 4);
 }
 
 entries_back : (list : List KeptEntry) → map entry_in (map entry_row list) ≡ list
@@ -103,8 +224,8 @@ entries_back (e ∷ list) = ap (λ xs. e ∷ xs) (entries_back list)
 blob_back : (c : KeptCell) (o : Option (List ℕ))
     → cell_in (cell_row (record c { row = o })) ≡ record c { row = o }
 unfolding cell_in number_in blob_in
-blob_back c None = refl
-blob_back c (Some b) = refl
+blob_back c None = λ i. record c { name = joined_again c.name i; row = None }
+blob_back c (Some b) = λ i. record c { name = joined_again c.name i; row = Some b }
 
 cells_back : (list : List KeptCell) → map cell_in (map cell_row list) ≡ list
 cells_back [] = refl

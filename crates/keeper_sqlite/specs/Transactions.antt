@@ -1,14 +1,14 @@
 -- What transactions leave.
-use Rattle.std.specs.Prelude.{◌≡◌, ◌≤◌, ◌⊎◌, false, Option, Some, Result, OnOk, OnErr, IsTrue}
+use Rattle.std.specs.Prelude.{◌≡◌, ◌≤◌, ◌⊎◌, [], true, false, Option, Some, Result, OnOk, OnErr, IsTrue}
 use Rattle.sqlite_trees.specs.View.{doubt}
 use Rattle.sqlite.specs.State.{State, HasCleanDisk}
 use Rattle.lei_outside.specs.Keeping.{KeptTables, with_batch}
 use Rattle.lei_outside.specs.declared.keeper.Batch.{Batch}
-use Rattle.sqlite.specs.Effect.{IsDatabase}
-use Rattle.store_statements.specs.Schemas.{both_schema}
-use Rattle.store_tables.specs.Calls.{IsNext, IsSeen, Tells}
+use Rattle.sqlite_trees.specs.Tree.{Trees}
+use Rattle.store_tables.specs.Calls.{IsMade, IsNext, IsSeen, IsWhole, Tells}
 use Rattle.store_tables.specs.Crash.{IsFound}
-use Rattle.store_tables.specs.Told.{told_by}
+use Rattle.store_tables.specs.Told.{says_second, told_by}
+use Rattle.keeper_sqlite.specs.declared.over.Form.{Form}
 
 -- It was committed: the tables that were told are told with the batch, where its entry is the next.
 pub record HasKept (batch : Batch) (old new : State) : Type 0 where
@@ -21,11 +21,24 @@ pub record HasKept (batch : Batch) (old new : State) : Type 0 where
 -- The tables were made, which changes nothing of what is told.
 pub record HasMade (old new : State) : Type 0 where
   pub was_open : IsTrue old.is_open
-  pub is_open : IsTrue new.is_open
-  pub both : new.now.schema ≡ both_schema
-  pub settled : new.now ≡ new.committed
-  pub sound : IsDatabase new.now
+  pub whole : IsWhole new
   pub told : told_by new.now.schema new.now.trees ≡ told_by old.now.schema old.now.trees
+
+-- The cells were moved to form 2, which changes nothing of what is told.
+pub record HasMoved (old new : State) : Type 0 where
+  pub was_open : IsTrue old.is_open
+  pub told : (t : KeptTables) → told_by old.now.schema old.now.trees ≡ Some t
+      → told_by new.now.schema new.now.trees ≡ Some t
+
+-- What a transaction commits that moves a store of form 1 with all four tables.
+abbrev pub IsMoved : State → Trees → Type 0
+IsMoved s trees = IsWhole s → s.now.trees 4 ≡ [] → IsMade s trees
+
+-- An open connection between transactions has all four tables, and the table of the form says this.
+pub record HasForm (s : State) (form : Form) : Type 0 where
+  pub whole : IsWhole s
+  pub first : form ≡ Form.First → s.now.trees 4 ≡ []
+  pub second : form ≡ Form.Second → says_second (s.now.trees 4) ≡ true
 
 -- A crash may leave the tables with a batch.
 abbrev pub MayKeep : Batch → State → Option KeptTables → Type 0
@@ -46,7 +59,7 @@ pub record Ends {E : Type 0} (batch : Batch) (result : Result (Unit {0}) E) (old
       → (told_by new.now.schema new.now.trees ≡ Some (with_batch batch t))
       × ((left : Option KeptTables) → IsFound new left → left ≡ Some (with_batch batch t))))
   pub undone : HasCleanDisk new
-      → OnErr result (IsTrue new.is_open
-      → told_by new.now.schema new.now.trees ≡ told_by old.now.schema old.now.trees)
+      → OnErr result (IsTrue new.is_open → (t : KeptTables) → told_by old.now.schema old.now.trees ≡ Some t
+      → told_by new.now.schema new.now.trees ≡ Some t)
   pub crash : HasCleanDisk new → (left : Option KeptTables) → IsFound new left
       → IsFound old left ⊎ (IsSeen old left ⊎ MayKeep batch old left)

@@ -4,6 +4,7 @@
 mod faults;
 mod keeper;
 mod making;
+mod moving;
 mod over;
 mod reading;
 mod rows;

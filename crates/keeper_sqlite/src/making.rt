@@ -3,8 +3,8 @@ ghost use Rattle.std.specs.Prelude.{◌≡◌, false, IsTrue, OnOk, OnErr};
 ghost use Rattle.sqlite.specs.Effect.{IsDatabase};
 ghost use Rattle.sqlite.specs.Held.{state};
 ghost use Rattle.sqlite.specs.State.{HasCleanDisk, KeepsCommit, Survives};
-ghost use Rattle.store_statements.specs.Schemas.{both_schema, entry_schema};
-ghost use Rattle.store_tables.specs.Calls.{IsBegun, IsInside, IsMade, IsUndone, Makes};
+ghost use Rattle.store_statements.specs.Schemas.{both_schema, entry_schema, store_schema, whole_schema};
+ghost use Rattle.store_tables.specs.Calls.{IsBegun, IsFirst, IsInside, IsMade, IsUndone, Makes};
 ghost use Rattle.keeper_sqlite.specs.Transactions.{HasMade};
 
 use sqlite::{Alter, Connection, Error, Transaction};
@@ -21,7 +21,7 @@ const MAKE_ENTRIES: &'static str = "CREATE TABLE IF NOT EXISTS entry (
   answer BLOB NOT NULL
 ) STRICT";
 
-// A cell a row, by its kind and its name, and beside that in the order of the entries that touched them last,
+// A cell of form 1 a row, by its kind and its name, and beside that in the order of the entries that touched them last,
 // so that the cells of a few entries are found without looking at all.
 const MAKE_CELLS: &'static str = "CREATE TABLE IF NOT EXISTS cell (
   kind INTEGER NOT NULL,
@@ -30,6 +30,24 @@ const MAKE_CELLS: &'static str = "CREATE TABLE IF NOT EXISTS cell (
   row BLOB,
   PRIMARY KEY (kind, name),
   UNIQUE (touched, kind, name)
+) STRICT";
+
+// One row, where the store has form 2.
+const MAKE_STORE: &'static str = "CREATE TABLE IF NOT EXISTS store (
+  one INTEGER PRIMARY KEY,
+  form INTEGER NOT NULL
+) STRICT";
+
+// A cell of form 2 a row, by its kind and the two parts of its name, and beside that in the order of the
+// entries, as above.
+const MAKE_CELL2: &'static str = "CREATE TABLE IF NOT EXISTS cell2 (
+  kind INTEGER NOT NULL,
+  lei TEXT NOT NULL,
+  rest TEXT NOT NULL,
+  touched INTEGER NOT NULL CHECK (touched >= 1),
+  row BLOB,
+  PRIMARY KEY (kind, lei, rest),
+  UNIQUE (touched, kind, lei, rest)
 ) STRICT";
 
 // Makes the table of entries.
@@ -50,7 +68,7 @@ fn make_entries<S: Alter>(tx: &mut Transaction<'_, S>) -> Result<usize, Error>
     tx.execute(MAKE_ENTRIES, &[])
 }
 
-// Makes the table of cells.
+// Makes the table of the cells of form 1.
 fn make_cells<S: Alter>(tx: &mut Transaction<'_, S>) -> Result<usize, Error>
     ensures same_reference { tx.new.conn.ghost_name ≡ tx.old.conn.ghost_name }
     ensures inside { HasCleanDisk (state S.Store tx.new.conn.now)
@@ -59,8 +77,7 @@ fn make_cells<S: Alter>(tx: &mut Transaction<'_, S>) -> Result<usize, Error>
     ensures makes { HasCleanDisk (state S.Store tx.new.conn.now)
         → IsTrue (state S.Store tx.old.conn.now).in_transaction
         → (state S.Store tx.old.conn.now).now.schema ≡ entry_schema
-        → OnOk result (Makes both_schema (state S.Store tx.old.conn.now) (state S.Store tx.new.conn.now)
-        × IsDatabase (state S.Store tx.new.conn.now).now) }
+        → OnOk result (Makes both_schema (state S.Store tx.old.conn.now) (state S.Store tx.new.conn.now)) }
     ensures keeps { HasCleanDisk (state S.Store tx.new.conn.now)
         → IsTrue (state S.Store tx.old.conn.now).in_transaction
         → KeepsCommit (state S.Store tx.old.conn.now) (state S.Store tx.new.conn.now) }
@@ -69,7 +86,44 @@ fn make_cells<S: Alter>(tx: &mut Transaction<'_, S>) -> Result<usize, Error>
     tx.execute(MAKE_CELLS, &[])
 }
 
-// Makes what isn't there of both.
+// Makes the table of the form.
+fn make_store<S: Alter>(tx: &mut Transaction<'_, S>) -> Result<usize, Error>
+    ensures same_reference { tx.new.conn.ghost_name ≡ tx.old.conn.ghost_name }
+    ensures inside { HasCleanDisk (state S.Store tx.new.conn.now)
+        → IsTrue (state S.Store tx.old.conn.now).in_transaction
+        → OnOk result (IsInside (state S.Store tx.old.conn.now) (state S.Store tx.new.conn.now)) }
+    ensures makes { HasCleanDisk (state S.Store tx.new.conn.now)
+        → IsTrue (state S.Store tx.old.conn.now).in_transaction
+        → IsFirst (state S.Store tx.old.conn.now).now.schema
+        → OnOk result (Makes store_schema (state S.Store tx.old.conn.now) (state S.Store tx.new.conn.now)) }
+    ensures keeps { HasCleanDisk (state S.Store tx.new.conn.now)
+        → IsTrue (state S.Store tx.old.conn.now).in_transaction
+        → KeepsCommit (state S.Store tx.old.conn.now) (state S.Store tx.new.conn.now) }
+    ensures survives { Survives (state S.Store tx.old.conn.now) (state S.Store tx.new.conn.now) (λ _. ⊥) }
+{
+    tx.execute(MAKE_STORE, &[])
+}
+
+// Makes the table of the cells of form 2.
+fn make_cell2<S: Alter>(tx: &mut Transaction<'_, S>) -> Result<usize, Error>
+    ensures same_reference { tx.new.conn.ghost_name ≡ tx.old.conn.ghost_name }
+    ensures inside { HasCleanDisk (state S.Store tx.new.conn.now)
+        → IsTrue (state S.Store tx.old.conn.now).in_transaction
+        → OnOk result (IsInside (state S.Store tx.old.conn.now) (state S.Store tx.new.conn.now)) }
+    ensures makes { HasCleanDisk (state S.Store tx.new.conn.now)
+        → IsTrue (state S.Store tx.old.conn.now).in_transaction
+        → (state S.Store tx.old.conn.now).now.schema ≡ store_schema
+        → OnOk result (Makes whole_schema (state S.Store tx.old.conn.now) (state S.Store tx.new.conn.now)
+        × IsDatabase (state S.Store tx.new.conn.now).now) }
+    ensures keeps { HasCleanDisk (state S.Store tx.new.conn.now)
+        → IsTrue (state S.Store tx.old.conn.now).in_transaction
+        → KeepsCommit (state S.Store tx.old.conn.now) (state S.Store tx.new.conn.now) }
+    ensures survives { Survives (state S.Store tx.old.conn.now) (state S.Store tx.new.conn.now) (λ _. ⊥) }
+{
+    tx.execute(MAKE_CELL2, &[])
+}
+
+// Makes what isn't there of the tables of form 1.
 fn make_both<S: Alter>(tx: &mut Transaction<'_, S>) -> Result<(), Error>
     ensures same_reference { tx.new.conn.ghost_name ≡ tx.old.conn.ghost_name }
     ensures inside { HasCleanDisk (state S.Store tx.new.conn.now)
@@ -78,8 +132,7 @@ fn make_both<S: Alter>(tx: &mut Transaction<'_, S>) -> Result<(), Error>
     ensures makes { HasCleanDisk (state S.Store tx.new.conn.now)
         → IsTrue (state S.Store tx.old.conn.now).in_transaction
         → IsBegun (state S.Store tx.old.conn.now).now.schema
-        → OnOk result (Makes both_schema (state S.Store tx.old.conn.now) (state S.Store tx.new.conn.now)
-        × IsDatabase (state S.Store tx.new.conn.now).now) }
+        → OnOk result (Makes both_schema (state S.Store tx.old.conn.now) (state S.Store tx.new.conn.now)) }
     ensures keeps { HasCleanDisk (state S.Store tx.new.conn.now)
         → IsTrue (state S.Store tx.old.conn.now).in_transaction
         → KeepsCommit (state S.Store tx.old.conn.now) (state S.Store tx.new.conn.now) }
@@ -90,7 +143,49 @@ fn make_both<S: Alter>(tx: &mut Transaction<'_, S>) -> Result<(), Error>
     Ok(())
 }
 
-// Makes what isn't there of both, by one transaction.
+// Makes what isn't there of the tables that form 2 adds.
+fn make_second<S: Alter>(tx: &mut Transaction<'_, S>) -> Result<(), Error>
+    ensures same_reference { tx.new.conn.ghost_name ≡ tx.old.conn.ghost_name }
+    ensures inside { HasCleanDisk (state S.Store tx.new.conn.now)
+        → IsTrue (state S.Store tx.old.conn.now).in_transaction
+        → OnOk result (IsInside (state S.Store tx.old.conn.now) (state S.Store tx.new.conn.now)) }
+    ensures makes { HasCleanDisk (state S.Store tx.new.conn.now)
+        → IsTrue (state S.Store tx.old.conn.now).in_transaction
+        → IsFirst (state S.Store tx.old.conn.now).now.schema
+        → OnOk result (Makes whole_schema (state S.Store tx.old.conn.now) (state S.Store tx.new.conn.now)
+        × IsDatabase (state S.Store tx.new.conn.now).now) }
+    ensures keeps { HasCleanDisk (state S.Store tx.new.conn.now)
+        → IsTrue (state S.Store tx.old.conn.now).in_transaction
+        → KeepsCommit (state S.Store tx.old.conn.now) (state S.Store tx.new.conn.now) }
+    ensures survives { Survives (state S.Store tx.old.conn.now) (state S.Store tx.new.conn.now) (λ _. ⊥) }
+{
+    make_store(tx)?;
+    make_cell2(tx)?;
+    Ok(())
+}
+
+// Makes what isn't there of all four.
+fn make_all<S: Alter>(tx: &mut Transaction<'_, S>) -> Result<(), Error>
+    ensures same_reference { tx.new.conn.ghost_name ≡ tx.old.conn.ghost_name }
+    ensures inside { HasCleanDisk (state S.Store tx.new.conn.now)
+        → IsTrue (state S.Store tx.old.conn.now).in_transaction
+        → OnOk result (IsInside (state S.Store tx.old.conn.now) (state S.Store tx.new.conn.now)) }
+    ensures makes { HasCleanDisk (state S.Store tx.new.conn.now)
+        → IsTrue (state S.Store tx.old.conn.now).in_transaction
+        → IsBegun (state S.Store tx.old.conn.now).now.schema
+        → OnOk result (Makes whole_schema (state S.Store tx.old.conn.now) (state S.Store tx.new.conn.now)
+        × IsDatabase (state S.Store tx.new.conn.now).now) }
+    ensures keeps { HasCleanDisk (state S.Store tx.new.conn.now)
+        → IsTrue (state S.Store tx.old.conn.now).in_transaction
+        → KeepsCommit (state S.Store tx.old.conn.now) (state S.Store tx.new.conn.now) }
+    ensures survives { Survives (state S.Store tx.old.conn.now) (state S.Store tx.new.conn.now) (λ _. ⊥) }
+{
+    make_both(tx)?;
+    make_second(tx)?;
+    Ok(())
+}
+
+// Makes what isn't there of all four tables, by one transaction.
 pub fn make_tables<S: Alter>(conn: &mut Connection<S>) -> Result<(), Error>
     requires { conn.old.in_transaction ≡ false }
     ensures mode { conn.new.in_transaction ≡ false }
@@ -102,7 +197,24 @@ pub fn make_tables<S: Alter>(conn: &mut Connection<S>) -> Result<(), Error>
         → Survives (state S.Store conn.old) (state S.Store conn.new) (IsMade (state S.Store conn.old)) }
 {
     let mut tx = conn.transaction();
-    make_both(&mut tx)?;
+    make_all(&mut tx)?;
+    tx.commit()?;
+    Ok(())
+}
+
+// Makes what isn't there of the tables that form 2 adds, by one transaction.
+pub fn add_tables<S: Alter>(conn: &mut Connection<S>) -> Result<(), Error>
+    requires { conn.old.in_transaction ≡ false }
+    ensures mode { conn.new.in_transaction ≡ false }
+    ensures made { HasCleanDisk (state S.Store conn.new) → IsFirst (state S.Store conn.old).now.schema
+        → OnOk result (HasMade (state S.Store conn.old) (state S.Store conn.new)) }
+    ensures undone { HasCleanDisk (state S.Store conn.new)
+        → OnErr result (IsUndone (state S.Store conn.old) (state S.Store conn.new)) }
+    ensures survives { IsFirst (state S.Store conn.old).now.schema
+        → Survives (state S.Store conn.old) (state S.Store conn.new) (IsMade (state S.Store conn.old)) }
+{
+    let mut tx = conn.transaction();
+    make_second(&mut tx)?;
     tx.commit()?;
     Ok(())
 }

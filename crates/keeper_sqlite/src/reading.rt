@@ -7,7 +7,7 @@ ghost use Rattle.sqlite.specs.Held.{state};
 ghost use Rattle.sqlite.specs.State.{HasCleanDisk};
 ghost use Rattle.lei_outside.specs.Keeping.{KeptTables, cells_between, entries_between};
 ghost use Rattle.store_statements.specs.Rows.{cell_row, entry_row};
-ghost use Rattle.store_tables.specs.Calls.{IsReady, IsSteady, last_rows};
+ghost use Rattle.store_tables.specs.Calls.{IsReady, IsSteady, IsWhole, ReadsForm, last_rows};
 ghost use Rattle.store_tables.specs.Told.{told_by};
 
 use sqlite::types::ValueRef;
@@ -21,8 +21,11 @@ const LAST: &'static str = "SELECT seq FROM entry ORDER BY seq DESC LIMIT 1";
 const ENTRIES: &'static str = "SELECT seq, kind, office, number, moment, rules, body, answer
 FROM entry WHERE seq > ?1 AND seq <= ?2 ORDER BY seq";
 
-const CELLS: &'static str = "SELECT kind, name, touched, row
-FROM cell WHERE touched > ?1 AND touched <= ?2 ORDER BY kind, name";
+const CELLS: &'static str = "SELECT kind, lei, rest, touched, row
+FROM cell2 WHERE touched > ?1 AND touched <= ?2 ORDER BY kind, lei, rest";
+
+// Two rows are enough to tell that they are too many.
+const FORM: &'static str = "SELECT one, form FROM store LIMIT 2";
 
 // The row of the greatest number of an entry, or none where there is no entry.
 pub fn read_last<S: Alter>(conn: &mut Connection<S>) -> Result<Vec<Row>, Error>
@@ -51,21 +54,33 @@ pub fn read_entries<S: Alter>(
     conn.query_all(ENTRIES, &[number(after), number(upto)])
 }
 
-// The rows of the cells that an entry touched last whose number is greater than `after` and at most `upto`,
-// in the order of kinds and names.
+// The rows of the cells of form 2 that an entry touched last whose number is greater than `after` and at most
+// `upto`, in the order of kinds and names.
 pub fn read_cells<S: Alter>(
     conn: &mut Connection<S>,
     after: u64,
     upto: u64,
 ) -> Result<Vec<Row>, Error>
-    requires ready { HasCleanDisk (state S.Store conn.old) → IsReady (state S.Store conn.old) }
+    requires whole { HasCleanDisk (state S.Store conn.old) → IsWhole (state S.Store conn.old) }
     ensures steady { IsSteady (state S.Store conn.old) (state S.Store conn.new) }
-    ensures answer { HasCleanDisk (state S.Store conn.new) → IfOk result (λ rows.
+    ensures answer { HasCleanDisk (state S.Store conn.new) → IsReady (state S.Store conn.old)
+        → IfOk result (λ rows.
         (t : KeptTables) → told_by (state S.Store conn.new).now.schema (state S.Store conn.new).now.trees
         ≡ Some t
         → rows.items ≡ map cell_row (cells_between after upto t)) }
 {
     conn.query_all(CELLS, &[number(after), number(upto)])
+}
+
+// The rows of the table of the form, two at most.
+pub fn read_form<S: Alter>(conn: &mut Connection<S>) -> Result<Vec<Row>, Error>
+    requires whole { HasCleanDisk (state S.Store conn.old) → IsWhole (state S.Store conn.old) }
+    ensures steady { IsSteady (state S.Store conn.old) (state S.Store conn.new) }
+    ensures mode { conn.old.in_transaction ≡ false → conn.new.in_transaction ≡ false }
+    ensures form { HasCleanDisk (state S.Store conn.new) → IfOk result (λ rows.
+        ReadsForm (state S.Store conn.old) (state S.Store conn.new) rows.items) }
+{
+    conn.query_all(FORM, &[])
 }
 
 // A number as a value to compare with. One that is greater than all that are kept is taken as the greatest of

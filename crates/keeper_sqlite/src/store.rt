@@ -68,7 +68,7 @@ impl<S: Alter> Store<S> {
         ensures same { Stays (tables_of S.Store self.old) (tables_of S.Store self.new) }
         ensures crash { LeavesNoMore (leaves_of S.Store self.old) (leaves_of S.Store self.new) }
     {
-        over::last(&mut self.conn, &mut self.cause)
+        over::last(&mut self.conn, self.alloc, &mut self.cause)
     }
 
     pub fn entries(&mut self, after: u64, upto: u64) -> Result<List<KeptEntry>, KeepFault>
@@ -97,6 +97,6 @@ impl<S: Alter> Store<S> {
         ensures crash { CommitLeaves batch.now result (tables_of S.Store self.old)
             (tables_of S.Store self.new) (leaves_of S.Store self.old) (leaves_of S.Store self.new) }
     {
-        over::commit(&mut self.conn, batch, &mut self.cause)
+        over::commit(&mut self.conn, self.alloc, batch, &mut self.cause)
     }
 }

@@ -15,8 +15,9 @@ const INSERT: &'static str =
     "INSERT INTO entry (seq, kind, office, number, moment, rules, body, answer)
 VALUES (?1, ?2, ?3, ?4, ?5, ?6, ?7, ?8)";
 
-const PUT: &'static str = "INSERT INTO cell (kind, name, touched, row) VALUES (?1, ?2, ?3, ?4)
-ON CONFLICT (kind, name) DO UPDATE SET touched = excluded.touched, row = excluded.row";
+const PUT: &'static str =
+    "INSERT INTO cell2 (kind, lei, rest, touched, row) VALUES (?1, ?2, ?3, ?4, ?5)
+ON CONFLICT (kind, lei, rest) DO UPDATE SET touched = excluded.touched, row = excluded.row";
 
 // Puts an entry behind the others. It is refused where one with its number is there.
 pub fn insert_entry<S: Alter>(
@@ -37,8 +38,8 @@ pub fn insert_entry<S: Alter>(
     tx.execute(INSERT, &entry_values(entry))
 }
 
-// Puts a cell in its place, where another one may stand.
-pub fn put_cell<S: Alter>(tx: &mut Transaction<'_, S>, cell: &KeptCell) -> Result<usize, Error>
+// Puts a cell in its place of form 2, where another one may stand.
+fn put_cell<S: Alter>(tx: &mut Transaction<'_, S>, cell: &KeptCell) -> Result<usize, Error>
     requires { cell.now.touched ≤ 9223372036854775807 }
     ensures same_reference { tx.new.conn.ghost_name ≡ tx.old.conn.ghost_name }
     ensures puts { HasCleanDisk (state S.Store tx.new.conn.now)
@@ -54,7 +55,7 @@ pub fn put_cell<S: Alter>(tx: &mut Transaction<'_, S>, cell: &KeptCell) -> Resul
 }
 
 // Puts cells in their places, from the first to the last.
-fn put_cells<S: Alter>(tx: &mut Transaction<'_, S>, cells: &[KeptCell]) -> Result<(), Error>
+pub fn put_cells<S: Alter>(tx: &mut Transaction<'_, S>, cells: &[KeptCell]) -> Result<(), Error>
     requires { AllByRecursion (λ cell. cell.touched ≤ 9223372036854775807) cells.now }
     ensures same_reference { tx.new.conn.ghost_name ≡ tx.old.conn.ghost_name }
     ensures puts { HasCleanDisk (state S.Store tx.new.conn.now)

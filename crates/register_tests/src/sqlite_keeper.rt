@@ -266,7 +266,7 @@ const DAMAGE: [(&str, ExitStatus); 8] = [
         ExitStatus::KeeperFault,
     ),
     ("DELETE FROM entry WHERE seq = 5", ExitStatus::StoreDamaged),
-    ("DELETE FROM cell", ExitStatus::StoreDamaged),
+    ("DELETE FROM cell2", ExitStatus::StoreDamaged),
 ];
 
 // Whether a store with the session is refused with this status after the damage, and has all its entries

@@ -1,4 +1,4 @@
--- What the statements mean over a store with both tables.
+-- What the statements mean over a store with all four tables.
 use Rattle.std.specs.Prelude.{ℕ, true, false, List, [], ◌∷◌, pos, negsuc, Some, None}
 use Rattle.sqlite_value.specs.declared.value.Value.TheVariants.{Null, Int}
 use Rattle.sqlite_value.specs.declared.keys.Collation.TheVariants.{Binary}
@@ -45,16 +45,16 @@ entries_query = record {
   offset = no_offset;
 }
 
--- The rows of the cells within the range, by kind and name.
+-- The rows of the cells of form 2 within the range, by kind and the two parts of the name.
 abbrev pub cells_query : Query
 cells_query = record {
-  from = inner 1 end;
-  filter = within 3;
+  from = inner 5 end;
+  filter = within 4;
   group = None;
-  project = col 1 1 ∷ col 1 2 ∷ col 1 3 ∷ col 1 4 ∷ [];
+  project = col 1 1 ∷ col 1 2 ∷ col 1 3 ∷ col 1 4 ∷ col 1 5 ∷ [];
   distinct = false;
   collations = [];
-  order = (col 1 1, up) ∷ (col 1 2, up) ∷ [];
+  order = (col 1 1, up) ∷ (col 1 2, up) ∷ (col 1 3, up) ∷ [];
   limit = no_limit;
   offset = no_offset;
 }
@@ -81,18 +81,18 @@ alone query = record { lets = []; body = query }
 abbrev pub insert_terms : List Term
 insert_terms = col 0 0 ∷ lit Null ∷ col 0 1 ∷ col 0 2 ∷ col 0 3 ∷ col 0 4 ∷ col 0 5 ∷ col 0 6 ∷ col 0 7 ∷ []
 
--- The row of the cell whose values are the parameters.
+-- The row of the cell of form 2 whose values are the parameters.
 abbrev pub put_terms : List Term
-put_terms = lit Null ∷ col 0 0 ∷ col 0 1 ∷ col 0 2 ∷ col 0 3 ∷ []
+put_terms = lit Null ∷ col 0 0 ∷ col 0 1 ∷ col 0 2 ∷ col 0 3 ∷ col 0 4 ∷ []
 
--- The row with the id of the fifth parameter, with the entry and the row of the cell that was to be put. The
--- last five parameters are the id and the columns of that cell.
+-- The row with the id of the sixth parameter, with the entry and the row of the cell that was to be put. The
+-- last six parameters are the id and the columns of that cell.
 abbrev pub put_query : Query
 put_query = record {
-  from = inner 1 end;
-  filter = op2 (Compare Eq Binary) (col 1 0) (col 0 4) ∷ [];
+  from = inner 5 end;
+  filter = op2 (Compare Eq Binary) (col 1 0) (col 0 5) ∷ [];
   group = None;
-  project = col 1 0 ∷ col 1 0 ∷ col 1 1 ∷ col 1 2 ∷ col 0 8 ∷ col 0 9 ∷ [];
+  project = col 1 0 ∷ col 1 0 ∷ col 1 1 ∷ col 1 2 ∷ col 1 3 ∷ col 0 10 ∷ col 0 11 ∷ [];
   distinct = false;
   collations = [];
   order = [];
@@ -102,4 +102,52 @@ put_query = record {
 
 -- Where a cell of the kind and the name stands, it gets the entry and the row.
 abbrev pub put_clause : Upsert
-put_clause = record { target = Some (1 ∷ 2 ∷ []); update = Some (alone put_query) }
+put_clause = record { target = Some (1 ∷ 2 ∷ 3 ∷ []); update = Some (alone put_query) }
+
+-- ---- the form, and the move from form 1 to form 2
+
+-- What the rows of the table of the form have, two rows at most.
+abbrev pub form_query : Query
+form_query = record {
+  from = inner 4 end;
+  filter = [];
+  group = None;
+  project = col 1 0 ∷ col 1 2 ∷ [];
+  distinct = false;
+  collations = [];
+  order = [];
+  limit = lit (Int (pos 2));
+  offset = no_offset;
+}
+
+-- The row of form 2.
+abbrev pub form_terms : List Term
+form_terms = lit (Int (pos 1)) ∷ lit Null ∷ lit (Int (pos 2)) ∷ []
+
+-- The first rows of the cells of form 1, as they are stored.
+abbrev pub page_query : Query
+page_query = record {
+  from = inner 1 end;
+  filter = [];
+  group = None;
+  project = col 1 0 ∷ col 1 1 ∷ col 1 2 ∷ col 1 3 ∷ col 1 4 ∷ [];
+  distinct = false;
+  collations = [];
+  order = (col 1 0, up) ∷ [];
+  limit = lit (Int (pos 100));
+  offset = no_offset;
+}
+
+-- The ids of the rows of the cells of form 1 up to the parameter.
+abbrev pub clear_query : Query
+clear_query = record {
+  from = inner 1 end;
+  filter = op2 (Compare Le Binary) (col 1 0) (col 0 0) ∷ [];
+  group = None;
+  project = col 1 0 ∷ [];
+  distinct = false;
+  collations = [];
+  order = [];
+  limit = no_limit;
+  offset = no_offset;
+}

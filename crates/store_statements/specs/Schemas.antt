@@ -1,4 +1,4 @@
--- The schemas that a store of the register may have: no table, the table of entries alone, or both tables.
+-- The schemas that a store of the register may have: no table, the first one, two or three, or all four.
 use Rattle.std.specs.Prelude.{ℕ, Bool, true, false, List, [], ◌∷◌, pos, codes, Some, None}
 use Rattle.sqlite_value.specs.declared.keys.Collation.TheVariants.{Binary}
 use Rattle.sqlite_value.specs.declared.value.Value.TheVariants.{Null, Int}
@@ -56,7 +56,7 @@ entry_table = record {
   is_counted = false;
 }
 
--- The table of cells. No two have one kind and name, and so no two have one entry, kind and name.
+-- The table of the cells of form 1. No two have one kind and name, and so no two have one entry, kind and name.
 abbrev pub cell_table : Table
 cell_table = record {
   name = codes "cell";
@@ -75,27 +75,88 @@ cell_table = record {
   is_counted = false;
 }
 
--- An index that SQLite makes of a key of the table of cells.
-abbrev pub index_of : List ℕ → ℕ → List ℕ → Index
-index_of name tree places =
-    record { name = name; tree = tree; table = 1; columns = places; order = plain; is_unique = true }
+-- The table of the form, whose rows have the number `one` as their id.
+abbrev pub store_table : Table
+store_table = record {
+  name = codes "store";
+  tree = 4;
+  columns = column_of (codes "one") Integer false ∷ column_of (codes "form") Integer true ∷ [];
+  key = Some 0;
+  primary = 0 ∷ [];
+  uniques = [];
+  orders = [];
+  checks = [];
+  references = [];
+  computed = [];
+  stamps = no_stamps;
+  is_counted = false;
+}
 
--- The index of cells by kind and name.
+-- The table of the cells of form 2. No two have one kind and name, and so no two have one entry, kind and name.
+abbrev pub cell2_table : Table
+cell2_table = record {
+  name = codes "cell2";
+  tree = 5;
+  columns = column_of (codes "kind") Integer true ∷ column_of (codes "lei") Text true
+      ∷ column_of (codes "rest") Text true
+      ∷ column_of (codes "touched") Integer true
+      ∷ column_of (codes "row") Blob false ∷ [];
+  key = None;
+  primary = 1 ∷ 2 ∷ 3 ∷ [];
+  uniques = (1 ∷ 2 ∷ 3 ∷ []) ∷ (4 ∷ 1 ∷ 2 ∷ 3 ∷ []) ∷ [];
+  orders = plain ∷ plain ∷ [];
+  checks = at_least_one 4 ∷ [];
+  references = [];
+  computed = [];
+  stamps = no_stamps;
+  is_counted = false;
+}
+
+-- An index that SQLite makes of a key of a table of cells, which is the table of this tree.
+abbrev pub index_of : ℕ → List ℕ → ℕ → List ℕ → Index
+index_of table name tree places =
+    record { name = name; tree = tree; table = table; columns = places; order = plain; is_unique = true }
+
+-- The index of cells of form 1 by kind and name.
 abbrev pub by_name : Index
-by_name = index_of (codes "sqlite_autoindex_cell_1") 2 (1 ∷ 2 ∷ [])
+by_name = index_of 1 (codes "sqlite_autoindex_cell_1") 2 (1 ∷ 2 ∷ [])
 
--- The index of cells by the entry that touched them last, kind and name.
+-- The index of cells of form 1 by the entry that touched them last, kind and name.
 abbrev pub by_entry : Index
-by_entry = index_of (codes "sqlite_autoindex_cell_2") 3 (3 ∷ 1 ∷ 2 ∷ [])
+by_entry = index_of 1 (codes "sqlite_autoindex_cell_2") 3 (3 ∷ 1 ∷ 2 ∷ [])
+
+-- The index of cells of form 2 by kind and the two parts of the name.
+abbrev pub by_parts : Index
+by_parts = index_of 5 (codes "sqlite_autoindex_cell2_1") 6 (1 ∷ 2 ∷ 3 ∷ [])
+
+-- The index of cells of form 2 by the entry that touched them last, kind and the two parts of the name.
+abbrev pub by_entry2 : Index
+by_entry2 = index_of 5 (codes "sqlite_autoindex_cell2_2") 7 (4 ∷ 1 ∷ 2 ∷ 3 ∷ [])
 
 -- The schema of a store in which nothing was made.
 abbrev pub no_schema : Schema
 no_schema = record { tables = []; indexes = []; views = [] }
 
--- That of a store in which the table of cells isn't made yet.
+-- That of a store with the table of entries alone.
 abbrev pub entry_schema : Schema
 entry_schema = record { tables = entry_table ∷ []; indexes = []; views = [] }
 
--- That of a store with both tables.
+-- That of a store as it was before there was a form 2.
 abbrev pub both_schema : Schema
 both_schema = record { tables = entry_table ∷ cell_table ∷ []; indexes = by_name ∷ by_entry ∷ []; views = [] }
+
+-- That of a store in which the cells of form 2 have no table yet.
+abbrev pub store_schema : Schema
+store_schema = record {
+  tables = entry_table ∷ cell_table ∷ store_table ∷ [];
+  indexes = by_name ∷ by_entry ∷ [];
+  views = [];
+}
+
+-- That of a store with all four tables.
+abbrev pub whole_schema : Schema
+whole_schema = record {
+  tables = entry_table ∷ cell_table ∷ store_table ∷ cell2_table ∷ [];
+  indexes = by_name ∷ by_entry ∷ by_parts ∷ by_entry2 ∷ [];
+  views = [];
+}

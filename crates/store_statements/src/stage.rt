@@ -7,7 +7,7 @@ ghost use Rattle.sqlite_sql.specs.declared.ops.CompareOp.TheVariants.{Ge};
 ghost use Rattle.sqlite_value.specs.Keys.{plain};
 ghost use Rattle.sqlite_schema.specs.Code.{term_in};
 ghost use Rattle.store_statements.specs.Checks.{node_at};
-ghost use Rattle.store_statements.specs.Schemas.{at_least_one, both_schema, by_entry, by_name, cell_table, column_of, entry_schema, entry_table, index_of, no_schema, no_stamps};
+ghost use Rattle.store_statements.specs.Schemas.{at_least_one, both_schema, by_entry, by_entry2, by_name, by_parts, cell_table, cell2_table, column_of, entry_schema, entry_table, index_of, no_schema, no_stamps, store_schema, store_table, whole_schema};
 
 use sqlite_items::Items;
 use sqlite_schema::code::{Op, Terms};
@@ -23,8 +23,12 @@ pub enum Stage {
     Nothing,
     /// The table of entries.
     Entries,
-    /// Both tables.
+    /// The tables of entries and of the cells of form 1.
     Both,
+    /// These two and the table of the form.
+    Store,
+    /// These three and the table of the cells of form 2.
+    Whole,
     /// Anything else, as a table of another shape, a further table, or an index.
     Other,
 }
@@ -189,24 +193,144 @@ fn is_cell_table(table: &Table) -> bool
     !table.is_counted
 }
 
-// An index of the table of cells, by its name, its tree and its places.
-fn is_index(index: &Index, name: &[u8], tree: u32, places: &[usize]) -> bool
-    ensures { IsTrue result ↔ (index.now ≡ index_of name.now tree places.now) }
+// The columns of the table of the cells of form 2.
+fn are_cell2_columns(columns: &[Column]) -> bool
+    ensures { IsTrue result ↔ (columns.now ≡ cell2_table.columns) }
 {
-    if index.name.as_slice() != name || index.tree != tree || index.table != 1 {
+    let [kind, lei, rest, touched, row] = columns else {
+        return false;
+    };
+    if !is_column(kind, b"kind", Kind::Integer, true) || !is_column(lei, b"lei", Kind::Text, true) {
+        return false;
+    }
+    if !is_column(rest, b"rest", Kind::Text, true)
+        || !is_column(touched, b"touched", Kind::Integer, true)
+    {
+        return false;
+    }
+    is_column(row, b"row", Kind::Blob, false)
+}
+
+// The keys of the table of the cells of form 2: kind and name, and entry, kind and name.
+fn are_cell2_keys(keys: &[Items<usize>]) -> bool
+    ensures { IsTrue result ↔ (keys.now ≡ cell2_table.uniques) }
+{
+    let [first, second] = keys else {
+        return false;
+    };
+    first.as_slice() == [1, 2, 3].as_slice() && second.as_slice() == [4, 1, 2, 3].as_slice()
+}
+
+fn is_cell2_table(table: &Table) -> bool
+    ensures { IsTrue result ↔ (table.now ≡ cell2_table) }
+{
+    if table.name.as_slice() != b"cell2".as_slice() || table.tree != 5 || table.key.is_some() {
+        return false;
+    }
+    if table.primary.as_slice() != [1, 2, 3].as_slice() || !is_check(&table.checks, 4) {
+        return false;
+    }
+    if !are_cell2_columns(table.columns.as_slice()) || !is_unstamped(&table.stamps) {
+        return false;
+    }
+    if !are_cell2_keys(table.uniques.as_slice()) || !are_plain(table.orders.as_slice()) {
+        return false;
+    }
+    if !table.references.is_empty() || !table.computed.is_empty() {
+        return false;
+    }
+    !table.is_counted
+}
+
+// The columns of the table of the form.
+fn are_store_columns(columns: &[Column]) -> bool
+    ensures { IsTrue result ↔ (columns.now ≡ store_table.columns) }
+{
+    let [one, form] = columns else {
+        return false;
+    };
+    is_column(one, b"one", Kind::Integer, false) && is_column(form, b"form", Kind::Integer, true)
+}
+
+fn is_store_table(table: &Table) -> bool
+    ensures { IsTrue result ↔ (table.now ≡ store_table) }
+{
+    if table.name.as_slice() != b"store".as_slice() || table.tree != 4 || table.key != Some(0) {
+        return false;
+    }
+    if table.primary.as_slice() != [0].as_slice() || !table.checks.roots.is_empty() {
+        return false;
+    }
+    if !are_store_columns(table.columns.as_slice()) || !is_unstamped(&table.stamps) {
+        return false;
+    }
+    if !table.uniques.is_empty() || !table.orders.is_empty() || !table.references.is_empty() {
+        return false;
+    }
+    table.computed.is_empty() && !table.is_counted
+}
+
+// An index of a table, by the table's tree, its own name, tree and places.
+fn is_index(index: &Index, table: u32, name: &[u8], tree: u32, places: &[usize]) -> bool
+    ensures { IsTrue result ↔ (index.now ≡ index_of table name.now tree places.now) }
+{
+    if index.name.as_slice() != name || index.tree != tree || index.table != table {
         return false;
     }
     index.columns.as_slice() == places && index.order.digits == 0 && index.is_unique
 }
 
+// The indexes of the cells of form 1.
+fn are_first_indexes(first: &Index, second: &Index) -> bool
+    ensures { IsTrue result ↔ (first.now ≡ by_name) × (second.now ≡ by_entry) }
+{
+    is_index(first, 1, b"sqlite_autoindex_cell_1", 2, [1, 2].as_slice())
+        && is_index(
+            second,
+            1,
+            b"sqlite_autoindex_cell_2",
+            3,
+            [3, 1, 2].as_slice(),
+        )
+}
+
+// The indexes of the cells of form 2.
+fn are_second_indexes(first: &Index, second: &Index) -> bool
+    ensures { IsTrue result ↔ (first.now ≡ by_parts) × (second.now ≡ by_entry2) }
+{
+    is_index(
+        first,
+        5,
+        b"sqlite_autoindex_cell2_1",
+        6,
+        [1, 2, 3].as_slice(),
+    ) && is_index(
+        second,
+        5,
+        b"sqlite_autoindex_cell2_2",
+        7,
+        [4, 1, 2, 3].as_slice(),
+    )
+}
+
+// The indexes of a store that has no table of the cells of form 2.
 fn are_indexes(indexes: &[Index]) -> bool
     ensures { IsTrue result ↔ (indexes.now ≡ both_schema.indexes) }
 {
     let [first, second] = indexes else {
         return false;
     };
-    is_index(first, b"sqlite_autoindex_cell_1", 2, [1, 2].as_slice())
-        && is_index(second, b"sqlite_autoindex_cell_2", 3, [3, 1, 2].as_slice())
+    are_first_indexes(first, second)
+}
+
+// The indexes of a store that has all four tables.
+fn are_all_indexes(indexes: &[Index]) -> bool
+    ensures { IsTrue result ↔ (indexes.now ≡ whole_schema.indexes) }
+{
+    let [first, second, third, fourth] = indexes else {
+        return false;
+    };
+    are_first_indexes(first, second) && are_second_indexes(third, fourth)
 }
 
 /// Which tables a store with this schema has. It looks at nothing but the schema, and takes no memory.
@@ -214,6 +338,8 @@ pub fn stage_of(schema: &Schema) -> Stage
     ensures nothing { (result ≡ Stage.Nothing) ↔ (schema.now ≡ no_schema) }
     ensures entries { (result ≡ Stage.Entries) ↔ (schema.now ≡ entry_schema) }
     ensures both { (result ≡ Stage.Both) ↔ (schema.now ≡ both_schema) }
+    ensures store { (result ≡ Stage.Store) ↔ (schema.now ≡ store_schema) }
+    ensures whole { (result ≡ Stage.Whole) ↔ (schema.now ≡ whole_schema) }
 {
     if !schema.views.is_empty() {
         return Stage::Other;
@@ -224,6 +350,25 @@ pub fn stage_of(schema: &Schema) -> Stage
         [entry, cell] if is_entry_table(entry) && is_cell_table(cell) => {
             if are_indexes(schema.indexes.as_slice()) {
                 Stage::Both
+            } else {
+                Stage::Other
+            }
+        }
+        [entry, cell, store]
+            if is_entry_table(entry) && is_cell_table(cell) && is_store_table(store) => {
+            if are_indexes(schema.indexes.as_slice()) {
+                Stage::Store
+            } else {
+                Stage::Other
+            }
+        }
+        [entry, cell, store, cell2]
+            if is_entry_table(entry)
+                && is_cell_table(cell)
+                && is_store_table(store)
+                && is_cell2_table(cell2) => {
+            if are_all_indexes(schema.indexes.as_slice()) {
+                Stage::Whole
             } else {
                 Stage::Other
             }

@@ -14,40 +14,42 @@ use Rattle.lei_outside.specs.Keeping.{KeptTables, cells_between, entries_between
 use Rattle.lei_outside.specs.declared.entry.KeptEntry.{KeptEntry}
 use Rattle.lei_outside.specs.declared.keeper.KeptCell.{KeptCell}
 use Rattle.store_statements.specs.Rows.{cell_row, entry_row}
-use Rattle.store_statements.specs.Schemas.{both_schema}
+use Rattle.store_statements.specs.Schemas.{whole_schema}
 use Rattle.store_statements.specs.Texts.{cells_text, entries_text, insert_text, last_text, put_text}
 use Rattle.store_statements.proofs.Meanings.{cells_is, cells_plain, entries_is, entries_plain, last_is, last_plain}
-use Rattle.store_tables.specs.Calls.{IsInside, IsNext, IsReady, IsSteady, Tells, Turns, last_rows, with_cell, with_cells, with_entry}
+use Rattle.store_tables.specs.Calls.{Holds, IsInside, IsNext, IsReady, IsSteady, IsWhole, Tells, Turns, last_rows, with_cell, with_cells, with_entry}
 use Rattle.store_tables.specs.Stored.{cell_fits, entry_fits, is_entry_number}
 use Rattle.store_tables.proofs.SameLemmas.{both_of}
-use Rattle.store_tables.specs.Told.{told_by}
+use Rattle.store_tables.specs.Told.{says_second, told_by}
+use Rattle.store_tables.proofs.CrashLemmas.{told_tells}
 use Rattle.store_tables.proofs.CellReading.{cells_answer}
 use Rattle.store_tables.proofs.CellWriting.{puts}
 use Rattle.store_tables.proofs.EntryReading.{entries_answer, range}
 use Rattle.store_tables.proofs.EntryWriting.{inserts}
 use Rattle.store_tables.proofs.LastReading.{last_answer}
 use Rattle.store_tables.proofs.StateLemmas.{query_steady, shown_unchanged}
-use Rattle.store_tables.proofs.StepLemmas.{Holds, holds_apart, holds_insert, holds_put, holds_told, told_holds}
+use Rattle.store_tables.proofs.StepLemmas.{HasRows, hold_rows, rows_apart, rows_hold, rows_insert, rows_put}
 
 -- ---- reading
 
-plain_under : (s : Schema) (sql : List ℕ) → s ≡ both_schema → IsPlain (understood both_schema sql)
+pub plain_under : (s : Schema) (sql : List ℕ) → s ≡ whole_schema → IsPlain (understood whole_schema sql)
     → IsPlain (understood s sql)
 plain_under s sql is plain = subst (λ x. IsPlain (understood x sql)) (sym is) plain
 
 -- what is told after it was told before, of a store that holds it
 held : (old new : State) (t : KeptTables) → IsReady old → IsUnchanged old new
-    → told_by new.now.schema new.now.trees ≡ Some t → Holds old.now t
+    → told_by new.now.schema new.now.trees ≡ Some t → HasRows old.now t
 held old new t ready same told =
-    told_holds old.now t ready.both (ready.sound same.0.was_open)
-    (subst (λ (d : Database). told_by d.schema d.trees ≡ Some t) same.0.now_is told)
+    hold_rows old.now t
+    (told_tells old.now.schema old.now.trees t ready.whole.schema (ready.whole.sound same.0.was_open) ready.second
+    (subst (λ (d : Database). told_by d.schema d.trees ≡ Some t) same.0.now_is told)).holds
 
 pub last_told : (old new : State) (rows : List Row) (t : KeptTables) → IsReady old
     → Shown last_text [] old new rows → told_by new.now.schema new.now.trees ≡ Some t → rows ≡ last_rows t
 last_told old new rows t ready h told =
-    let same = shown_unchanged last_text [] old new rows (plain_under _ last_text ready.both last_plain) h in
+    let same = shown_unchanged last_text [] old new rows (plain_under _ last_text ready.whole.schema last_plain) h in
     let it = held old new t ready same told in
-    let a = reads_as last_text [] old new both_schema ready.both _ last_is.0 last_plain last_is.1 rows h in
+    let a = reads_as last_text [] old new whole_schema ready.whole.schema _ last_is.0 last_plain last_is.1 rows h in
     last_answer old.now.trees rows it.told.entries (a.answer Null) ∙ ap last_rows (sym it.is)
 
 pub entries_told : (after upto : ℕ) (old new : State) (rows : List Row) (t : KeptTables) → IsReady old
@@ -55,9 +57,9 @@ pub entries_told : (after upto : ℕ) (old new : State) (rows : List Row) (t : K
     → told_by new.now.schema new.now.trees ≡ Some t → rows ≡ map entry_row (entries_between after upto t)
 entries_told after upto old new rows t ready h told =
     let same = shown_unchanged entries_text (range after upto) old new rows
-    (plain_under _ entries_text ready.both entries_plain) h in
+    (plain_under _ entries_text ready.whole.schema entries_plain) h in
     let it = held old new t ready same told in
-    let a = reads_as entries_text (range after upto) old new both_schema ready.both _ entries_is.0
+    let a = reads_as entries_text (range after upto) old new whole_schema ready.whole.schema _ entries_is.0
     entries_plain entries_is.1 rows h in
     entries_answer after upto old.now.trees rows it.told.entries (a.answer Null)
     ∙ ap (λ x. map entry_row (entries_between after upto x)) (sym it.is)
@@ -67,11 +69,11 @@ pub cells_told : (after upto : ℕ) (old new : State) (rows : List Row) (t : Kep
     → told_by new.now.schema new.now.trees ≡ Some t → rows ≡ map cell_row (cells_between after upto t)
 cells_told after upto old new rows t ready h told =
     let same = shown_unchanged cells_text (range after upto) old new rows
-    (plain_under _ cells_text ready.both cells_plain) h in
+    (plain_under _ cells_text ready.whole.schema cells_plain) h in
     let it = held old new t ready same told in
-    let a = reads_as cells_text (range after upto) old new both_schema ready.both _ cells_is.0 cells_plain
+    let a = reads_as cells_text (range after upto) old new whole_schema ready.whole.schema _ cells_is.0 cells_plain
     cells_is.1 rows h in
-    cells_answer after upto old.now.trees rows it.told.cells (holds_apart old.now t it) (a.answer Null)
+    cells_answer after upto old.now.trees rows it.told.cells (rows_apart old.now t it) (a.answer Null)
     ∙ ap (λ x. map cell_row (cells_between after upto x)) (sym it.is)
 
 -- ---- inside a transaction
@@ -92,12 +94,6 @@ keeps_commit sql params old new (Err e) (inl (ran, inr back)) = record
     { was_open = back.was_open; committed = λ live. (back.undone live).1 }
 keeps_commit sql params old new (Err e) (inr (ends, is, same)) = record
     { was_open = λ _. same.0.was_open; committed = λ _. same.0.committed_is }
-
-tells_holds : (s : State) (t : KeptTables) → Tells s.now.schema s.now.trees t → Holds s.now t
-tells_holds s t h = told_holds s.now t h.both h.sound h.told
-
-holds_tells : (s : State) (t : KeptTables) → Holds s.now t → Tells s.now.schema s.now.trees t
-holds_tells s t h = record { both = h.schema; sound = h.sound; told = holds_told s.now t h }
 
 test_le : (m n : ℕ) → m ≤ n → nat_le m n ≡ true
 test_le m n low = grind (arith, nat_tests)
@@ -129,11 +125,13 @@ pub turns_insert : (old new : State) (e : KeptEntry) (count : ℕ) → EntryRang
     → Turns (with_entry e) (IsNext e) old new
 turns_insert old new e count ranges h = record {
   inside = ran_inside insert_text (entry_row e) old new count h;
-  told = λ t next tells.
-      let it = tells_holds old t tells in
-      let fits = entry_within e (omega (arith, next)) ranges in
-      holds_tells new (with_entry e t)
-      (holds_insert old.now new.now t e it (inserts old new e count tells.both h.0) fits next);
+  holds = λ t next holds.
+      let it = hold_rows old.now t holds in
+      let made = inserts old new e count holds.whole h.0 in
+      let fits = entry_within e (omega (arith, next)) ranges in (
+        rows_hold new.now (with_entry e t) (rows_insert old.now new.now t e it made fits next),
+        made.form,
+      );
 }
 
 pub turns_put : (old new : State) (c : KeptCell) (count : ℕ) → c.touched ≤ 9223372036854775807
@@ -141,20 +139,18 @@ pub turns_put : (old new : State) (c : KeptCell) (count : ℕ) → c.touched ≤
     → Turns (with_cell c) (λ _. 1 ≤ c.touched) old new
 turns_put old new c count high kind h = record {
   inside = ran_inside put_text (cell_row c) old new count h;
-  told = λ t low tells.
-      let it = tells_holds old t tells in
+  holds = λ t low holds.
+      let it = hold_rows old.now t holds in
       let fits = cell_within c low high kind in
-      holds_tells new (with_cell c t)
-      (holds_put old.now new.now t c it
-      (puts old new c count tells.both fits it.told.cells (holds_apart old.now t it) h.0) fits);
+      let made = puts old new c count holds.whole fits it.told.cells (rows_apart old.now t it) h.0 in
+      (rows_hold new.now (with_cell c t) (rows_put old.now new.now t c it made fits), made.form);
 }
 
 pub turns_none : (s : State) (P : KeptTables → Type 0) → IsTrue s.is_open → IsTrue s.in_transaction
     → Turns (with_cells []) P s s
 turns_none s P live mode = record {
   inside = record { was_open = live; is_open = live; committed = refl; mode = mode };
-  told = λ t fits
-      tells. tells;
+  holds = λ t fits holds. (holds, (refl, refl));
 }
 
 pub turns_then : (f g : KeptTables → KeptTables) (P Q R : KeptTables → Type 0) (a b c : State)
@@ -167,8 +163,24 @@ turns_then f g P Q R a b c fits one two = record {
         two.inside.committed ∙ one.inside.committed;
     mode = two.inside.mode;
   };
-  told = λ t r tells. let it = fits t r in two.told (f t) it.1 (one.told t it.0 tells);
+  holds = λ t r holds.
+      let it = fits t r in
+      let first = one.holds t it.0 holds in
+      let second = two.holds (f t) it.1 first.0 in
+      (second.0, (second.1.0 ∙ first.1.0, second.1.1 ∙ first.1.1));
 }
+
+-- In a store of form 2 the told tables become that.
+pub turns_tells : (change : KeptTables → KeptTables) (Fits : KeptTables → Type 0) (old new : State)
+    (t : KeptTables) → Turns change Fits old new → Fits t → Tells old.now.schema old.now.trees t
+    → Tells new.now.schema new.now.trees (change t)
+turns_tells change Fits old new t turns fits tells =
+    let it = turns.holds t fits tells.holds in
+    record {
+      holds = it.0;
+      second = ap says_second it.1.1 ∙ tells.second;
+      emptied = it.1.0 ∙ tells.emptied;
+    }
 
 -- the cells so far with one more
 pub one_more : (front : List KeptCell) (c : KeptCell) (t : KeptTables)
@@ -185,8 +197,8 @@ cells_more front c P a b d low one two =
     (λ t p. (p, low t p)) one two in
     record {
       inside = both.inside;
-      told = λ t p tells. subst (Tells d.now.schema d.now.trees)
-          (one_more front c t) (both.told t p tells);
+      holds = λ t p holds. let it = both.holds t p holds in
+          (subst (Holds d.now.schema d.now.trees) (one_more front c t) it.0, it.1);
     }
 
 -- ---- the clauses of the functions that run the statements
@@ -195,18 +207,27 @@ pub if_ok : {X E : Type 0} (r : Result X E) (P Q : X → Type 0) → ((x : X) �
 if_ok (Ok x) P Q then h = then x h
 if_ok (Err e) P Q then h = tt
 
-pub ready_steady : {X : Type 0} (sql : List ℕ) (params : Row) (old new : State) (show : X → List Row)
-    (r : Result X Error) → (HasCleanDisk old → IsReady old)
-    → IsPlain (understood both_schema sql) → (old.in_transaction ≡ false → new.in_transaction ≡ false)
+pub whole_steady : {X : Type 0} (sql : List ℕ) (params : Row) (old new : State) (show : X → List Row)
+    (r : Result X Error) → (HasCleanDisk old → IsWhole old)
+    → IsPlain (understood whole_schema sql) → (old.in_transaction ≡ false → new.in_transaction ≡ false)
     → (HasCleanDisk new → IfOk r (λ rows. Shown sql params old new (show rows)))
     → (HasCleanDisk new → IfErr r (FailsToQuery sql params old new))
     → Survives old new (CommitsShowing sql params old) → IsSteady old new
-ready_steady sql params old new show r ready plain mode ok err survives =
-    query_steady sql params old new show r (λ clean. (ready (earlier clean)).settled)
-    (λ clean. plain_under _ sql (ready (earlier clean)).both plain) mode ok err survives
+whole_steady sql params old new show r whole plain mode ok err survives =
+    query_steady sql params old new show r (λ clean. (whole (earlier clean)).settled)
+    (λ clean. plain_under _ sql (whole (earlier clean)).schema plain) mode ok err survives
   where
     earlier : HasCleanDisk new → HasCleanDisk old
     earlier clean = omega (arith, survives.clean, clean)
+
+pub ready_steady : {X : Type 0} (sql : List ℕ) (params : Row) (old new : State) (show : X → List Row)
+    (r : Result X Error) → (HasCleanDisk old → IsReady old)
+    → IsPlain (understood whole_schema sql) → (old.in_transaction ≡ false → new.in_transaction ≡ false)
+    → (HasCleanDisk new → IfOk r (λ rows. Shown sql params old new (show rows)))
+    → (HasCleanDisk new → IfErr r (FailsToQuery sql params old new))
+    → Survives old new (CommitsShowing sql params old) → IsSteady old new
+ready_steady sql params old new show r ready =
+    whole_steady sql params old new show r (λ clean. (ready clean).whole)
 
 pub adds_entry : (old new : State) (e : KeptEntry) (r : Result ℕ Error) → EntryRanges e
     → ExecutesInside 0 insert_text (entry_row e) old new r → OnOk r (Turns (with_entry e) (IsNext e) old new)

@@ -1,5 +1,5 @@
 -- What a crash may leave: one sound schema fits trees, so what an open would find is what the trees tell.
-use Rattle.std.proofs.Common.{◌≡◌, Option, Some, sym, ap, subst, ◌∙◌}
+use Rattle.std.proofs.Common.{◌≡◌, true, [], Option, Some, sym, ap, subst, ◌∙◌}
 use Rattle.sqlite_trees.specs.Tree.{Trees}
 use Rattle.sqlite_trees.specs.Objects.{catalog_tree}
 use Rattle.sqlite_schema.specs.declared.schema.Schema.{Schema}
@@ -9,17 +9,45 @@ use Rattle.sqlite.specs.Effect.{Database}
 use Rattle.sqlite.specs.State.{State}
 use Rattle.lei_outside.specs.Keeping.{KeptTables, with_batch}
 use Rattle.lei_outside.specs.declared.keeper.Batch.{Batch}
-use Rattle.store_tables.specs.Calls.{IsKept, IsNext, Tells}
+use Rattle.store_statements.specs.Schemas.{whole_schema}
+use Rattle.store_tables.specs.Calls.{IsKept, IsNext, Tells, TellsFirst}
 use Rattle.store_tables.specs.Crash.{IsFound}
-use Rattle.store_tables.specs.Told.{told_by}
+use Rattle.store_tables.specs.Told.{says_second, told_by}
+use Rattle.store_tables.proofs.RowLemmas.{first_told, second_told, told_second, told_whole, whole_rows}
 
 pub one_schema : (s t : Schema) (trees : Trees) → IsSound s trees → IsSound t trees → s ≡ t
 one_schema s t trees p q = lists_once (trees catalog_tree) s t p.lists q.lists
 
+-- a store of form 2 tells what its rows tell
+pub tells_told : (schema : Schema) (trees : Trees) (t : KeptTables) → Tells schema trees t
+    → told_by schema trees ≡ Some t
+tells_told schema trees t tells =
+    told_whole schema trees tells.holds.whole
+    ∙ (told_second (whole_rows trees) tells.second tells.emptied ∙ tells.holds.told)
+
+pub told_tells : (schema : Schema) (trees : Trees) (t : KeptTables) → schema ≡ whole_schema
+    → IsSound schema trees → says_second (trees 4) ≡ true → told_by schema trees ≡ Some t
+    → Tells schema trees t
+told_tells schema trees t whole sound second told =
+    let it = second_told (whole_rows trees) t second (sym (told_whole schema trees whole) ∙ told) in
+    record {
+      holds = record { whole = whole; sound = sound; told = it.1 };
+      second = second;
+      emptied = it.0;
+    }
+
+-- and so does one of form 1
+pub told_tells_first : (schema : Schema) (trees : Trees) (t : KeptTables) → schema ≡ whole_schema
+    → IsSound schema trees → trees 4 ≡ [] → told_by schema trees ≡ Some t → TellsFirst schema trees t
+told_tells_first schema trees t whole sound form told =
+    let it = first_told (whole_rows trees) t form (sym (told_whole schema trees whole) ∙ told) in
+    record { whole = whole; sound = sound; told = it.1; form = form; none = it.0 }
+
 told_once : (s t : Schema) (trees : Trees) (left : Option KeptTables) (tables : KeptTables) → IsSound s trees
     → left ≡ told_by s trees → Tells t trees tables → left ≡ Some tables
 told_once s t trees left tables sound is tells = is
-    ∙ (ap (λ x. told_by x trees) (one_schema s t trees sound tells.sound) ∙ tells.told)
+    ∙ (ap (λ x. told_by x trees) (one_schema s t trees sound tells.holds.sound)
+    ∙ tells_told t trees tables tells)
 
 -- where a crash leaves the last commit and nothing else
 pub found_settled : (s : State) (t : KeptTables) → ((db : Trees) → s.may_leave db → db ≡ s.committed.trees)

@@ -4,9 +4,15 @@ pub mod CellWriting
 pub mod CrashLemmas
 pub mod EntryReading
 pub mod EntryWriting
+pub mod FormLemmas
+pub mod InsideLemmas
 pub mod LastReading
+pub mod LawLemmas
 pub mod MakeLemmas
+pub mod MoveLemmas
+pub mod NameLemmas
 pub mod NumberLemmas
+pub mod PageLemmas
 pub mod PlaceLemmas
 pub mod QueryLemmas
 pub mod RowLemmas

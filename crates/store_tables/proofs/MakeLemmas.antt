@@ -11,13 +11,13 @@ use Rattle.sqlite.specs.Does.{Tally, lacks_sequence}
 use Rattle.sqlite.specs.Effect.{Database, IsDatabase}
 use Rattle.sqlite.specs.State.{State, ExecutesInside, Writes}
 use Rattle.sqlite.proofs.Callers.{runs_as}
-use Rattle.store_statements.specs.Schemas.{both_schema, cell_table, entry_schema, entry_table, no_schema}
-use Rattle.store_statements.specs.Texts.{cell_table_text, entry_table_text}
-use Rattle.store_statements.proofs.Meanings.{cell_table_is, entry_table_is, keep_entries_is, keep_entries_plain, make_cells_is, make_cells_plain, make_entries_is, make_entries_plain, schemas_are}
+use Rattle.store_statements.specs.Schemas.{both_schema, cell2_table, cell_table, entry_schema, entry_table, no_schema, store_schema, store_table, whole_schema}
+use Rattle.store_statements.specs.Texts.{cell2_table_text, cell_table_text, entry_table_text, store_table_text}
+use Rattle.store_statements.proofs.Meanings.{cell2_table_is, cell_table_is, entry_table_is, keep_entries_is, keep_entries_plain, keep_store_is, keep_store_plain, make_cell2_is, make_cell2_plain, make_cells_is, make_cells_plain, make_entries_is, make_entries_plain, make_store_is, make_store_plain, schemas_are, store_table_is}
 use Rattle.store_tables.specs.Calls.{IsInside, Makes}
 use Rattle.store_tables.specs.Told.{StoredRows, told_by, told_of}
 use Rattle.store_tables.proofs.CallLemmas.{ran_inside}
-use Rattle.store_tables.proofs.RowLemmas.{rows_in_both, rows_in_entry, rows_in_none}
+use Rattle.store_tables.proofs.RowLemmas.{rows_in_both, rows_in_entry, rows_in_none, rows_in_store, rows_in_whole}
 use Rattle.store_tables.proofs.WriteLemmas.{same_value, went}
 
 -- what the text of a table makes
@@ -54,7 +54,7 @@ makes_entries old new count has h =
       schema = schema;
       told = ap (option_and_then told_of)
           (rows_in_entry _ new.now.trees schema
-          ∙ (ap (λ rows. Some (record { entries = rows; cells = [] })) it.0.empty
+          ∙ (ap (λ rows. Some (record { entries = rows; cells = []; forms = []; cells2 = [] })) it.0.empty
           ∙ sym (rows_in_none _ old.now.trees has)));
     }
 
@@ -68,14 +68,79 @@ makes_cells old new count has h =
     cell_table_is (ap lacks_sequence schemas_are.1) w in
     let schema = it.1 ∙ schemas_are.1 in
     let rows : ◌≡◌ {A = Option StoredRows}
-    (Some (record { entries = new.now.trees 0; cells = new.now.trees 1 }))
-    (Some (record { entries = old.now.trees 0; cells = [] })) =
-    λ i. Some (record { entries = it.0.others.0 i; cells = it.0.empty i }) in
+    (Some (record { entries = new.now.trees 0; cells = new.now.trees 1; forms = []; cells2 = [] }))
+    (Some (record { entries = old.now.trees 0; cells = []; forms = []; cells2 = [] })) =
+    λ i. Some (record { entries = it.0.others.0 i; cells = it.0.empty i; forms = []; cells2 = [] }) in
     record {
       inside = ran_inside cell_table_text [] old new count h;
       schema = schema;
       told = ap (option_and_then told_of)
           (rows_in_both _ new.now.trees schema ∙ (rows ∙ sym (rows_in_entry _ old.now.trees has)));
+    }
+
+pub makes_store : (old new : State) (count : ℕ) → old.now.schema ≡ both_schema
+    → ExecutesInside 0 store_table_text [] old new (Ok count) → Makes store_schema old new
+makes_store old new count has h =
+    let w = subst (λ t. Writes old new None CreateTable t [] count) make_store_is.1
+    (runs_as store_table_text [] old new both_schema has CreateTable make_store_is.0 make_store_plain
+    count h.0) in
+    let it = created_by store_table_text both_schema (record store_table { tree = 0 }) old new count has
+    store_table_is (ap lacks_sequence schemas_are.2) w in
+    let schema = it.1 ∙ schemas_are.2 in
+    let rows : ◌≡◌ {A = Option StoredRows}
+    (Some (record {
+      entries = new.now.trees 0;
+      cells = new.now.trees 1;
+      forms = new.now.trees 4;
+      cells2 = [];
+    }))
+    (Some (record { entries = old.now.trees 0; cells = old.now.trees 1; forms = []; cells2 = [] })) =
+    λ i. Some (record {
+      entries = it.0.others.0 i;
+      cells = it.0.others.1.0 i;
+      forms = it.0.empty i;
+      cells2 = [];
+    }) in
+    record {
+      inside = ran_inside store_table_text [] old new count h;
+      schema = schema;
+      told = ap (option_and_then told_of)
+          (rows_in_store _ new.now.trees schema ∙ (rows ∙ sym (rows_in_both _ old.now.trees has)));
+    }
+
+pub makes_cell2 : (old new : State) (count : ℕ) → old.now.schema ≡ store_schema
+    → ExecutesInside 0 cell2_table_text [] old new (Ok count) → Makes whole_schema old new
+makes_cell2 old new count has h =
+    let w = subst (λ t. Writes old new None CreateTable t [] count) make_cell2_is.1
+    (runs_as cell2_table_text [] old new store_schema has CreateTable make_cell2_is.0 make_cell2_plain
+    count h.0) in
+    let it = created_by cell2_table_text store_schema (record cell2_table { tree = 0 }) old new count has
+    cell2_table_is (ap lacks_sequence schemas_are.3) w in
+    let schema = it.1 ∙ schemas_are.3 in
+    let rows : ◌≡◌ {A = Option StoredRows}
+    (Some (record {
+      entries = new.now.trees 0;
+      cells = new.now.trees 1;
+      forms = new.now.trees 4;
+      cells2 = new.now.trees 5;
+    }))
+    (Some (record {
+      entries = old.now.trees 0;
+      cells = old.now.trees 1;
+      forms = old.now.trees 4;
+      cells2 = [];
+    })) =
+    λ i. Some (record {
+      entries = it.0.others.0 i;
+      cells = it.0.others.1.0 i;
+      forms = it.0.others.1.1.0 i;
+      cells2 = it.0.empty i;
+    }) in
+    record {
+      inside = ran_inside cell2_table_text [] old new count h;
+      schema = schema;
+      told = ap (option_and_then told_of)
+          (rows_in_whole _ new.now.trees schema ∙ (rows ∙ sym (rows_in_store _ old.now.trees has)));
     }
 
 pub makes_then : (s t : Schema) (a b c : State) → Makes s a b → Makes t b c → Makes t a c
@@ -111,16 +176,41 @@ entries_made old new (Ok count) (inl has) h = makes_entries old new count has h
 entries_made old new (Ok count) (inr has) h = keeps_entries old new count has h
 entries_made old new (Err e) has h = tt
 
-cells_sound : (old new : State) (count : ℕ) → old.now.schema ≡ entry_schema
-    → ExecutesInside 0 cell_table_text [] old new (Ok count) → IsDatabase new.now
-cells_sound old new count has h =
-    (runs_as cell_table_text [] old new entry_schema has CreateTable make_cells_is.0 make_cells_plain count
+pub cells_made : (old new : State) (r : Result ℕ Error) → old.now.schema ≡ entry_schema
+    → ExecutesInside 0 cell_table_text [] old new r → OnOk r (Makes both_schema old new)
+cells_made old new (Ok count) has h = makes_cells old new count has h
+cells_made old new (Err e) has h = tt
+
+keeps_store : (old new : State) (count : ℕ) → old.now.schema ≡ store_schema
+    → ExecutesInside 0 store_table_text [] old new (Ok count) → Makes store_schema old new
+keeps_store old new count has h =
+    let same = runs_as store_table_text [] old new store_schema has Nothing keep_store_is keep_store_plain
+    count h.0 in
+    let now = same.0.0.now_is in
+    record {
+      inside = ran_inside store_table_text [] old new count h;
+      schema = ap (λ (d : Database). d.schema) now ∙ has;
+      told = ap (λ (d : Database). told_by d.schema d.trees) now;
+    }
+
+pub store_made : (old new : State) (r : Result ℕ Error)
+    → (old.now.schema ≡ both_schema) ⊎ (old.now.schema ≡ store_schema)
+    → ExecutesInside 0 store_table_text [] old new r
+    → OnOk r (Makes store_schema old new)
+store_made old new (Ok count) (inl has) h = makes_store old new count has h
+store_made old new (Ok count) (inr has) h = keeps_store old new count has h
+store_made old new (Err e) has h = tt
+
+cell2_sound : (old new : State) (count : ℕ) → old.now.schema ≡ store_schema
+    → ExecutesInside 0 cell2_table_text [] old new (Ok count) → IsDatabase new.now
+cell2_sound old new count has h =
+    (runs_as cell2_table_text [] old new store_schema has CreateTable make_cell2_is.0 make_cell2_plain count
     h.0).sound
 
-pub cells_made : (old new : State) (r : Result ℕ Error) → old.now.schema ≡ entry_schema
-    → ExecutesInside 0 cell_table_text [] old new r → OnOk r (Makes both_schema old new × IsDatabase new.now)
-cells_made old new (Ok count) has h = (makes_cells old new count has h, cells_sound old new count has h)
-cells_made old new (Err e) has h = tt
+pub cell2_made : (old new : State) (r : Result ℕ Error) → old.now.schema ≡ store_schema
+    → ExecutesInside 0 cell2_table_text [] old new r → OnOk r (Makes whole_schema old new × IsDatabase new.now)
+cell2_made old new (Ok count) has h = (makes_cell2 old new count has h, cell2_sound old new count has h)
+cell2_made old new (Err e) has h = tt
 
 pub inside_by : (sql : List ℕ) (old new : State) (r : Result ℕ Error) → ExecutesInside 0 sql [] old new r
     → OnOk r (IsInside old new)

@@ -13,13 +13,13 @@ use Rattle.sqlite_value.proofs.OrderLemmas.{value_cmp-Int}
 use Rattle.sqlite_trees.specs.Tree.{IsAscending, IsTable, rowid}
 use Rattle.sqlite_trees.proofs.ListLemmas.{all-append}
 use Rattle.lei_outside.specs.Keeping.{AreKept, CellContent, CellPlace, IsEntryNumber, KeptTables, RiseFrom, last_number}
-use Rattle.store_tables.specs.Stored.{cell_of, entry_of}
+use Rattle.store_tables.specs.Stored.{CellForm, entry_of, form_1, form_2}
 use Rattle.std.proofs.Common.{option_and_then}
 use Rattle.sqlite_trees.specs.Tree.{Trees}
 use Rattle.sqlite_schema.specs.declared.schema.Schema.{Schema}
-use Rattle.store_tables.specs.Told.{StoredRows, placed, rows_in, tables_of, told_by, told_of}
+use Rattle.store_tables.specs.Told.{StoredRows, placed, rows_in, tables_of, told_as, told_by, told_of}
 use Rattle.store_tables.proofs.EntryReading.{cell_number, entry_number}
-use Rattle.store_tables.proofs.RowLemmas.{AreEntries, AreTold, IsCell, IsEntry, told_of_is}
+use Rattle.store_tables.proofs.RowLemmas.{AreEntries, AreTold, IsCell, IsEntry, told_as_is, told_one}
 
 pub seq : Row → ℕ
 seq r = (entry_of r).seq
@@ -56,28 +56,30 @@ all_above (r ∷ rows) each =
 
 -- ---- cells have the number of an entry
 
-found_number : (q : CellPlace) (content : CellContent) (rows : List Row) → AllByRecursion IsCell rows
-    → find (slice_cmp nat_cmp) q (map placed rows) ≡ Some content → IsEntryNumber content.touched
-found_number q content [] each found = absurd (cc)
-found_number q content (r ∷ rows) each found = go (eq_by_cmp (slice_cmp nat_cmp) q (placed r).0) found
-    (found_number q content rows each.1)
+found_number : (form : CellForm) (q : CellPlace) (content : CellContent) (rows : List Row)
+    → AllByRecursion (IsCell form) rows
+    → find (slice_cmp nat_cmp) q (map (placed form) rows) ≡ Some content → IsEntryNumber content.touched
+found_number form q content [] each found = absurd (cc)
+found_number form q content (r ∷ rows) each found = go (eq_by_cmp (slice_cmp nat_cmp) q (placed form r).0)
+    found (found_number form q content rows each.1)
   where
-    go : (b : Bool) → cond b (Some (placed r).1) (find (slice_cmp nat_cmp) q (map placed rows)) ≡ Some content
-        → (find (slice_cmp nat_cmp) q (map placed rows) ≡ Some content → IsEntryNumber content.touched)
+    go : (b : Bool)
+        → cond b (Some (placed form r).1) (find (slice_cmp nat_cmp) q (map (placed form) rows)) ≡ Some content
+        → (find (slice_cmp nat_cmp) q (map (placed form) rows) ≡ Some content → IsEntryNumber content.touched)
         → IsEntryNumber content.touched
     go true is more =
-        let same : (placed r).1 ≡ content = cc in
-        let n = cell_number (cell_of r) each.0.1 in
+        let same : (placed form r).1 ≡ content = cc in
+        let n = cell_number (form.read r) each.0.1 in
         subst (λ c. IsEntryNumber c.touched) same (n.0, omega (arith, n.1))
     go false is more = more is
 
 -- Tables that are told are kept ones.
-pub told_kept : (rows : StoredRows) → AreTold rows → AreKept (tables_of rows)
-told_kept rows are = record {
-  entries = rise_from 0 rows.entries (all_above rows.entries are.entries.each) are.entries.rise
-      are.entries.each;
-  cells = λ place content is. found_number place content rows.cells are.cells.each
-      (sym (get-from_entries nat_list_cmp_total (map placed rows.cells) place) ∙ is);
+pub told_kept : (form : CellForm) (entries cells : List Row) → AreTold form entries cells
+    → AreKept (tables_of form entries cells)
+told_kept form entries cells are = record {
+  entries = rise_from 0 entries (all_above entries are.entries.each) are.entries.rise are.entries.each;
+  cells = λ place content is. found_number form place content cells are.cells.each
+      (sym (get-from_entries nat_list_cmp_total (map (placed form) cells) place) ∙ is);
 }
 
 -- ---- the last
@@ -122,39 +124,46 @@ pub front_of : {X : Type 0} (P : X → Type 0) (xs : List X) (x : X) → AllByRe
 front_of P [] x all = (tt, all.0)
 front_of P (y ∷ xs) x all = let it = front_of P xs x all.1 in ((all.0, it.0), it.1)
 
-pub last_number_of : (rows : StoredRows) (front : List Row) (last : Row) → rows.entries ≡ front ++ last ∷ []
-    → last_number (tables_of rows) ≡ (entry_of last).seq
-last_number_of rows front last is =
-    let mapped : map entry_of rows.entries ≡ map entry_of front ++ entry_of last ∷ [] = ap (map entry_of) is
+pub last_number_of : (form : CellForm) (entries cells front : List Row) (last : Row)
+    → entries ≡ front ++ last ∷ []
+    → last_number (tables_of form entries cells) ≡ (entry_of last).seq
+last_number_of form entries cells front last is =
+    let mapped : map entry_of entries ≡ map entry_of front ++ entry_of last ∷ [] = ap (map entry_of) is
     ∙ map_snoc entry_of front last in
     rw (mapped, last_of (map entry_of front) (entry_of last)) refl
 
 -- each number is at most the last
-pub all_at_most : (rows : StoredRows) → AreEntries rows.entries
-    → AllByRecursion (λ r. (entry_of r).seq ≤ last_number (tables_of rows)) rows.entries
-all_at_most rows are = elim (snoc rows.entries) [
-  | inl none ↦ subst (AllByRecursion (λ r. (entry_of r).seq ≤ last_number (tables_of rows))) (sym none) tt
+pub all_at_most : (form : CellForm) (entries cells : List Row) → AreEntries entries
+    → AllByRecursion (λ r. (entry_of r).seq ≤ last_number (tables_of form entries cells)) entries
+all_at_most form entries cells are = elim (snoc entries) [
+  | inl none ↦ subst (AllByRecursion (λ r. (entry_of r).seq ≤ last_number (tables_of form entries cells)))
+      (sym none) tt
   | inr it ↦
-      let top = last_number_of rows it.front it.last it.is in
+      let top = last_number_of form entries cells it.front it.last it.is in
       let each = front_of IsEntry it.front it.last (subst (AllByRecursion IsEntry) it.is are.each) in
       let below = before_last (λ a b. value_cmp (rowid a) (rowid b) ≡ Less) it.front it.last
       (subst IsTable it.is are.rise) in
-      let front : AllByRecursion (λ r. (entry_of r).seq ≤ last_number (tables_of rows)) it.front = low
-      it.front it.last each.1 top each.0 below in
-      subst (AllByRecursion (λ r. (entry_of r).seq ≤ last_number (tables_of rows))) (sym it.is)
-      (all-append (λ r. (entry_of r).seq ≤ last_number (tables_of rows)) it.front (it.last ∷ []) front
-      (omega (arith, top), tt))
+      let front : AllByRecursion (λ r. (entry_of r).seq ≤ last_number (tables_of form entries cells)) it.front
+      = low it.front it.last each.1 top each.0 below in
+      subst (AllByRecursion (λ r. (entry_of r).seq ≤ last_number (tables_of form entries cells))) (sym it.is)
+      (all-append (λ r. (entry_of r).seq ≤ last_number (tables_of form entries cells)) it.front (it.last ∷ [])
+      front (omega (arith, top), tt))
 ]
   where
-    low : (xs : List Row) (last : Row) → IsEntry last → last_number (tables_of rows) ≡ (entry_of last).seq
-        → AllByRecursion IsEntry xs
+    low : (xs : List Row) (last : Row) → IsEntry last
+        → last_number (tables_of form entries cells) ≡ (entry_of last).seq → AllByRecursion IsEntry xs
         → AllByRecursion (λ r. value_cmp (rowid r) (rowid last) ≡ Less) xs
-        → AllByRecursion (λ r. (entry_of r).seq ≤ last_number (tables_of rows)) xs
+        → AllByRecursion (λ r. (entry_of r).seq ≤ last_number (tables_of form entries cells)) xs
     low [] last is top each below = tt
     low (r ∷ xs) last is top each below = (
       let less = numbers_rise r last each.0 is below.0 in omega (arith, less, top),
       low xs last is top each.1 below.1,
     )
+
+as_kept : (form : CellForm) (entries cells : List Row) (t : KeptTables) → told_as form entries cells ≡ Some t
+    → AreKept t
+as_kept form entries cells t told =
+    let it = told_as_is form entries cells t told in subst AreKept (sym it.1) (told_kept form entries cells it.0)
 
 pub told_are_kept : (schema : Schema) (trees : Trees) (t : KeptTables) → told_by schema trees ≡ Some t
     → AreKept t
@@ -162,4 +171,7 @@ told_are_kept schema trees t told = go (rows_in schema trees) told
   where
     go : (o : Option StoredRows) → option_and_then told_of o ≡ Some t → AreKept t
     go None e = absurd (cc)
-    go (Some rows) e = let it = told_of_is rows t e in subst AreKept (sym it.1) (told_kept rows it.0)
+    go (Some rows) e = elim (told_one rows t e) [
+      | inl first ↦ as_kept form_1 rows.entries rows.cells t first
+      | inr second ↦ as_kept form_2 rows.entries rows.cells2 t second
+    ]

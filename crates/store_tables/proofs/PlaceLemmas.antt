@@ -1,5 +1,5 @@
--- The places of cells: no two rows of the table of cells have one place, so their map has each of them, in
--- the order of places.
+-- The places of cells: no two rows of a table of cells have one place, so their map has each of them, in the
+-- order of places.
 use Rattle.std.proofs.Common.{◌≡◌, ℕ, ℤ, pos, Bool, true, false, ◌&&◌, cond, T, List, [], ◌∷◌, length, map, None, Some, Ordering, Less, Equal, Greater, is_eq, is_lt, refl, sym, ap, ap₂, inl, inr, subst, subst₂, ◌∙◌, arith, true≢false, IsPermutation}
 use Rattle.std.specs.List.{AllByRecursion}
 use Rattle.std.specs.Ordering.{is_ne, eq_by_cmp, int_cmp, nat_cmp, ordering_then}
@@ -21,15 +21,18 @@ use Rattle.sqlite_schema.specs.Rules.{agree, clashes, differ, equal}
 use Rattle.sqlite_rules.specs.Lists.{Has}
 use Rattle.sqlite_rules.proofs.ListLemmas.{some_from}
 use Rattle.lei_outside.specs.Keeping.{CellContent, CellPlace, place_of}
-use Rattle.store_tables.specs.Stored.{cell_of, stored_cell}
+use Rattle.lei_outside.specs.declared.keeper.KeptCell.{KeptCell}
+use Rattle.store_tables.specs.Stored.{CellForm, cell2_of, cell_of, form_1, form_2, stored_cell, stored_cell2}
 use Rattle.store_tables.specs.Told.{placed}
 use Rattle.sqlite_rules.specs.Edit.{id_in}
+use Rattle.store_statements.specs.Names.{lei_of, rest_of}
+use Rattle.store_tables.proofs.NameLemmas.{parts_order}
 use Rattle.store_tables.proofs.RowLemmas.{AreCells, IsCell}
 use Rattle.store_tables.proofs.SameLemmas.{both_of}
 use Rattle.store_tables.proofs.ValueLemmas.{told_truth}
 
-abbrev pub place : Row → CellPlace
-place r = place_of (cell_of r)
+abbrev pub place : CellForm → Row → CellPlace
+place form r = place_of (form.read r)
 
 abbrev pub same_place : CellPlace → CellPlace → Bool
 same_place = eq_by_cmp (slice_cmp nat_cmp)
@@ -63,81 +66,118 @@ keys_agree m n s t = ap₂ (λ a b. a && (b && true)) (int_equal m n) (text_equa
 abbrev pub by_place : List ℕ
 by_place = 1 ∷ 2 ∷ []
 
--- it tells whether two cells have one place
-pub agree_is : (a b : Row) → IsCell a → IsCell b
-    → agree plain by_place a by_place b ≡ same_place (place a) (place b)
+-- it tells whether two cells of form 1 have one place
+pub agree_is : (a b : Row) → IsCell form_1 a → IsCell form_1 b
+    → agree plain by_place a by_place b ≡ same_place (place form_1 a) (place form_1 b)
 unfolding first_key
 agree_is a b p q =
-    subst (λ x. agree plain by_place x by_place b ≡ same_place (place a) (place b)) (sym p.0)
+    subst (λ x. agree plain by_place x by_place b ≡ same_place (place form_1 a) (place form_1 b)) (sym p.0)
     (subst (λ y. agree plain by_place (stored_cell (id_in (column a 0)) (cell_of a)) by_place y
-    ≡ same_place (place a) (place b)) (sym q.0)
+    ≡ same_place (place form_1 a) (place form_1 b)) (sym q.0)
     (keys_agree (cell_of a).kind (cell_of b).kind (cell_of a).name (cell_of b).name))
+
+then_parts : (o p q : Ordering)
+    → (is_eq o && (is_eq p && (is_eq q && true))) ≡ is_eq (ordering_then o (ordering_then p q))
+then_parts Less p q = refl
+then_parts Equal p q = then_eq p q
+then_parts Greater p q = refl
+
+parts_agree : (m n : ℕ) (s t : List ℕ)
+    → (equal Binary (Int (pos m)) (Int (pos n))
+    && (equal Binary (Text (lei_of s)) (Text (lei_of t))
+    && (equal Binary (Text (rest_of s)) (Text (rest_of t)) && true)))
+    ≡ same_place (m ∷ s) (n ∷ t)
+parts_agree m n s t =
+    rw (int_equal m n, text_equal (lei_of s) (lei_of t), text_equal (rest_of s) (rest_of t))
+    (then_parts (nat_cmp m n) (slice_cmp nat_cmp (lei_of s) (lei_of t))
+    (slice_cmp nat_cmp (rest_of s) (rest_of t))
+    ∙ ap is_eq (parts_order m n s t))
+
+abbrev pub by_both : List ℕ
+by_both = 1 ∷ 2 ∷ 3 ∷ []
+
+-- and so of two cells of form 2, by the parts of their names
+pub agree2_is : (a b : Row) → IsCell form_2 a → IsCell form_2 b
+    → agree plain by_both a by_both b ≡ same_place (place form_2 a) (place form_2 b)
+unfolding first_key
+agree2_is a b p q =
+    subst (λ x. agree plain by_both x by_both b ≡ same_place (place form_2 a) (place form_2 b)) (sym p.0)
+    (subst (λ y. agree plain by_both (stored_cell2 (id_in (column a 0)) (cell2_of a)) by_both y
+    ≡ same_place (place form_2 a) (place form_2 b)) (sym q.0)
+    (parts_agree (cell2_of a).kind (cell2_of b).kind (cell2_of a).name (cell2_of b).name))
 
 -- ---- no two rows have one place
 
-abbrev pub Apart : List Row → Type 0
-Apart [] = Unit {0}
-Apart (r ∷ rows) = AllByRecursion (λ s. same_place (place r) (place s) ≡ false) rows × Apart rows
+abbrev pub Apart : CellForm → List Row → Type 0
+Apart form [] = Unit {0}
+Apart form (r ∷ rows) =
+    AllByRecursion (λ s. same_place (place form r) (place form s) ≡ false) rows × Apart form rows
 
 -- rows with different ids differ in SQL's sense
 ids_differ : (a b : ℤ) → value_cmp (Int a) (Int b) ≡ Less → differ (Int a) (Int b) ≡ true
 unfolding binary
 ids_differ a b below = told_truth _ ∙ ap is_ne below
 
-differ_is : (a b : Row) → IsCell a → IsCell b → value_cmp (rowid a) (rowid b) ≡ Less
-    → differ (rowid a) (rowid b) ≡ true
-differ_is a b p q below =
-    let x : rowid a ≡ Int (id_in (column a 0)) = ap rowid p.0 in
-    let y : rowid b ≡ Int (id_in (column b 0)) = ap rowid q.0 in
-    subst₂ (λ v w. differ v w ≡ true) (sym x) (sym y)
-    (ids_differ _ _ (subst₂ (λ v w. value_cmp v w ≡ Less) x y below))
-
 pub none_true : (b : Bool) → (b ≡ true → ⊥) → b ≡ false
 none_true true h = absurd (h refl)
 none_true false h = refl
 
-module _ (all : List Row) (unique : (x : Row) → Has all x → clashes plain by_place all x ≡ false) where
-  apart_from : (a b : Row) → Has all a → Has all b → IsCell a → IsCell b
-      → value_cmp (rowid a) (rowid b) ≡ Less → same_place (place a) (place b) ≡ false
-  apart_from a b has_a has_b p q below = none_true _ (λ same.
-      let agrees : agree plain by_place a by_place b ≡ true = agree_is a b p q ∙ same in
-      let clash : (agree plain by_place a by_place b && differ (rowid a) (rowid b))
-      ≡ true = both_of _ _ agrees (differ_is a b p q below) in
-      let some = some_from (λ other. agree plain by_place other by_place b && differ (rowid other) (rowid b))
-      all a has_a clash in
-      true≢false (sym some ∙ unique b has_b))
+-- A key of the table that tells places apart, and the ids of its rows.
+pub record Keyed (form : CellForm) (key : List ℕ) : Type 0 where
+  pub agrees : (a b : Row) → IsCell form a → IsCell form b
+      → agree plain key a key b ≡ same_place (place form a) (place form b)
+  pub ids : (id : ℤ) (c : KeptCell) → rowid (form.stored id c) ≡ Int id
 
-  each_apart : (a : Row) (rows : List Row) → Has all a → ((x : Row) → Has rows x → Has all x) → IsCell a
-      → AllByRecursion IsCell rows
-      → AllByRecursion (λ s. value_cmp (rowid a) (rowid s) ≡ Less) rows
-      → AllByRecursion (λ s. same_place (place a) (place s) ≡ false) rows
-  each_apart a [] has within p each below = tt
-  each_apart a (s ∷ rows) has within p each below = (
-    apart_from a s has (within s (inl refl)) p each.0 below.0,
-    each_apart a rows has (λ x h. within x (inr h)) p each.1 below.1,
-  )
+pub keyed_1 : Keyed form_1 by_place
+keyed_1 = record { agrees = agree_is; ids = λ id c. refl }
 
-  apart_in : (rows : List Row) → ((x : Row) → Has rows x → Has all x) → IsTable rows
-      → AllByRecursion IsCell rows → Apart rows
-  apart_in [] within up each = tt
-  apart_in (r ∷ rows) within up each = (
-    each_apart r rows (within r (inl refl)) (λ x h. within x (inr h)) each.0 each.1 up.0,
-    apart_in rows (λ x h. within x (inr h)) up.1 each.1,
-  )
+pub keyed_2 : Keyed form_2 by_both
+keyed_2 = record { agrees = agree2_is; ids = λ id c. refl }
 
--- A schema with the index on kind and name keeps the rows apart.
-pub apart_rows : (rows : List Row) → ((x : Row) → Has rows x → clashes plain by_place rows x ≡ false)
-    → AreCells rows → Apart rows
-apart_rows rows unique are = apart_in rows unique rows (λ x h. h) are.rise are.each
+module _ (form : CellForm) (key : List ℕ) (keyed : Keyed form key) where
+  differ_is : (a b : Row) → IsCell form a → IsCell form b → value_cmp (rowid a) (rowid b) ≡ Less
+      → differ (rowid a) (rowid b) ≡ true
+  differ_is a b p q below =
+      let x : rowid a ≡ Int (id_in (column a 0)) = ap rowid p.0 ∙ keyed.ids _ _ in
+      let y : rowid b ≡ Int (id_in (column b 0)) = ap rowid q.0 ∙ keyed.ids _ _ in
+      subst₂ (λ v w. differ v w ≡ true) (sym x) (sym y)
+      (ids_differ _ _ (subst₂ (λ v w. value_cmp v w ≡ Less) x y below))
+
+  module _ (all : List Row) (unique : (x : Row) → Has all x → clashes plain key all x ≡ false) where
+    apart_from : (a b : Row) → Has all a → Has all b → IsCell form a → IsCell form b
+        → value_cmp (rowid a) (rowid b) ≡ Less → same_place (place form a) (place form b) ≡ false
+    apart_from a b has_a has_b p q below = none_true _ (λ same.
+        let agrees : agree plain key a key b ≡ true = keyed.agrees a b p q ∙ same in
+        let clash : (agree plain key a key b && differ (rowid a) (rowid b))
+        ≡ true = both_of _ _ agrees (differ_is a b p q below) in
+        let some = some_from (λ other. agree plain key other key b && differ (rowid other) (rowid b))
+        all a has_a clash in
+        true≢false (sym some ∙ unique b has_b))
+
+    each_apart : (a : Row) (rows : List Row) → Has all a → ((x : Row) → Has rows x → Has all x)
+        → IsCell form a → AllByRecursion (IsCell form) rows
+        → AllByRecursion (λ s. value_cmp (rowid a) (rowid s) ≡ Less) rows
+        → AllByRecursion (λ s. same_place (place form a) (place form s) ≡ false) rows
+    each_apart a [] has within p each below = tt
+    each_apart a (s ∷ rows) has within p each below = (
+      apart_from a s has (within s (inl refl)) p each.0 below.0,
+      each_apart a rows has (λ x h. within x (inr h)) p each.1 below.1,
+    )
+
+    apart_in : (rows : List Row) → ((x : Row) → Has rows x → Has all x) → IsTable rows
+        → AllByRecursion (IsCell form) rows → Apart form rows
+    apart_in [] within up each = tt
+    apart_in (r ∷ rows) within up each = (
+      each_apart r rows (within r (inl refl)) (λ x h. within x (inr h)) each.0 each.1 up.0,
+      apart_in rows (λ x h. within x (inr h)) up.1 each.1,
+    )
+
+  -- A schema with the index on kind and name keeps the rows apart.
+  pub apart_rows : (rows : List Row) → ((x : Row) → Has rows x → clashes plain key rows x ≡ false)
+      → AreCells form rows → Apart form rows
+  apart_rows rows unique are = apart_in rows unique rows (λ x h. h) are.rise are.each
 
 -- ---- their map
-
-none_found : (q : CellPlace) (rows : List Row) → AllByRecursion (λ s. same_place q (place s) ≡ false) rows
-    → find (slice_cmp nat_cmp) q (map placed rows) ≡ None
-none_found q [] all = refl
-none_found q (s ∷ rows) all = ap
-    (λ b. cond b (Some (placed s).1) (find (slice_cmp nat_cmp) q (map placed rows))) all.0
-    ∙ none_found q rows all.1
 
 put_new : (k : CellPlace) (v : CellContent) (es : List (CellPlace × CellContent))
     → find (slice_cmp nat_cmp) k es ≡ None → IsPermutation ((k, v) ∷ es) (put (slice_cmp nat_cmp) k v es)
@@ -158,30 +198,6 @@ len_none : (es : List (CellPlace × CellContent)) → length es ≡ 0 → es ≡
 len_none [] e = refl
 len_none (x ∷ es) e = absurd (omega (arith, e))
 
--- The entries of the map of rows that are apart are what the rows put.
-pub entries_same : (rows : List Row) → Apart rows
-    → IsPermutation (map placed rows) (entries (from_entries {R = slice_cmp nat_cmp} (map placed rows)))
-entries_same [] apart = subst (IsPermutation []) (sym none) (IsPermutation-refl [])
-  where
-    none : entries (from_entries {R = slice_cmp nat_cmp} (map placed [])) ≡ []
-    none = len_none _ (sym (len-entries (from_entries {R = slice_cmp nat_cmp} (map placed [])))
-        ∙ len-empty (slice_cmp nat_cmp) CellContent)
-entries_same (r ∷ rows) apart =
-    let m = from_entries {R = slice_cmp nat_cmp} (map placed rows) in
-    let absent : find (slice_cmp nat_cmp) (place r) (entries m) ≡ None =
-    sym (get-entries m (place r))
-    ∙ (get-from_entries nat_list_cmp_total (map placed rows) (place r)
-    ∙ none_found (place r) rows apart.0) in
-    subst (IsPermutation (placed r ∷ map placed rows))
-    (sym (entries-insert nat_list_cmp_total m (placed r).0 (placed r).1))
-    (IsPermutation-trans _ _ _ (IsPermutation-cons (placed r) _ _ (entries_same rows apart.1))
-    (put_new (placed r).0 (placed r).1 (entries m) absent))
-
--- ---- the rows in the order of places
-
-abbrev pub before : Row → Row → Type 0
-before a b = slice_cmp nat_cmp (place a) (place b) ≡ Less
-
 less : (o : Ordering) → T (is_lt o) → o ≡ Less
 less Less h = refl
 less Equal h = absurd h
@@ -192,32 +208,68 @@ parts true true h = (tt, tt)
 parts true false h = absurd h
 parts false b h = absurd h
 
-below_each : (a : Row) (rows : List Row) → T (below_all (slice_cmp nat_cmp) (place a) (map placed rows))
-    → AllByRecursion (before a) rows
-below_each a [] h = tt
-below_each a (s ∷ rows) h = let it = parts _ _ h in (less _ it.0, below_each a rows it.1)
+module _ (form : CellForm) where
+  pub none_found : (q : CellPlace) (rows : List Row)
+      → AllByRecursion (λ s. same_place q (place form s) ≡ false) rows
+      → find (slice_cmp nat_cmp) q (map (placed form) rows) ≡ None
+  none_found q [] all = refl
+  none_found q (s ∷ rows) all = ap
+      (λ b. cond b (Some (placed form s).1) (find (slice_cmp nat_cmp) q (map (placed form) rows))) all.0
+      ∙ none_found q rows all.1
 
-sorted_rows : (rows : List Row) → T (is_sorted (slice_cmp nat_cmp) (map placed rows))
-    → IsAscending before rows
-sorted_rows [] h = tt
-sorted_rows (r ∷ rows) h = let it = parts _ _ h in (below_each r rows it.0, sorted_rows rows it.1)
+  -- The entries of the map of rows that are apart are what the rows put.
+  pub entries_same : (rows : List Row) → Apart form rows
+      → IsPermutation (map (placed form) rows)
+      (entries (from_entries {R = slice_cmp nat_cmp} (map (placed form) rows)))
+  entries_same [] apart = subst (IsPermutation []) (sym none) (IsPermutation-refl [])
+    where
+      none : entries (from_entries {R = slice_cmp nat_cmp} (map (placed form) [])) ≡ []
+      none = len_none _ (sym (len-entries (from_entries {R = slice_cmp nat_cmp} (map (placed form) [])))
+          ∙ len-empty (slice_cmp nat_cmp) CellContent)
+  entries_same (r ∷ rows) apart =
+      let m = from_entries {R = slice_cmp nat_cmp} (map (placed form) rows) in
+      let absent : find (slice_cmp nat_cmp) (place form r) (entries m) ≡ None =
+      sym (get-entries m (place form r))
+      ∙ (get-from_entries nat_list_cmp_total (map (placed form) rows) (place form r)
+      ∙ none_found (place form r) rows apart.0) in
+      subst (IsPermutation (placed form r ∷ map (placed form) rows))
+      (sym (entries-insert nat_list_cmp_total m (placed form r).0 (placed form r).1))
+      (IsPermutation-trans _ _ _ (IsPermutation-cons (placed form r) _ _ (entries_same rows apart.1))
+      (put_new (placed form r).0 (placed form r).1 (entries m) absent))
 
--- the rows of a table of cells, in the order of their places
-pub record Ordered (rows : List Row) : Type 0 where
-  pub all : List Row
-  pub same : IsPermutation rows all
-  pub up : IsAscending before all
-  pub each : AllByRecursion IsCell all
-  pub are : entries (from_entries {R = slice_cmp nat_cmp} (map placed rows)) ≡ map placed all
+  -- ---- the rows in the order of places
 
-pub in_order : (rows : List Row) → Apart rows → AllByRecursion IsCell rows → Ordered rows
-in_order rows apart each =
-    let m = from_entries {R = slice_cmp nat_cmp} (map placed rows) in
-    let it = pull_back placed (map placed rows) (entries m) (entries_same rows apart) rows refl in
-    record {
-      all = it.0;
-      same = it.1;
-      up = sorted_rows it.0 (subst (λ es. T (is_sorted (slice_cmp nat_cmp) es)) it.2 (entries_sorted m));
-      each = all-permutation IsCell rows it.0 it.1 each;
-      are = it.2;
-    }
+  abbrev pub before : Row → Row → Type 0
+  before a b = slice_cmp nat_cmp (place form a) (place form b) ≡ Less
+
+  below_each : (a : Row) (rows : List Row)
+      → T (below_all (slice_cmp nat_cmp) (place form a) (map (placed form) rows))
+      → AllByRecursion (before a) rows
+  below_each a [] h = tt
+  below_each a (s ∷ rows) h = let it = parts _ _ h in (less _ it.0, below_each a rows it.1)
+
+  sorted_rows : (rows : List Row) → T (is_sorted (slice_cmp nat_cmp) (map (placed form) rows))
+      → IsAscending before rows
+  sorted_rows [] h = tt
+  sorted_rows (r ∷ rows) h = let it = parts _ _ h in (below_each r rows it.0, sorted_rows rows it.1)
+
+  -- the rows of a table of cells, in the order of their places
+  pub record Ordered (rows : List Row) : Type 0 where
+    pub all : List Row
+    pub same : IsPermutation rows all
+    pub up : IsAscending before all
+    pub each : AllByRecursion (IsCell form) all
+    pub are : entries (from_entries {R = slice_cmp nat_cmp} (map (placed form) rows)) ≡ map (placed form) all
+
+  pub in_order : (rows : List Row) → Apart form rows → AllByRecursion (IsCell form) rows → Ordered rows
+  in_order rows apart each =
+      let m = from_entries {R = slice_cmp nat_cmp} (map (placed form) rows) in
+      let it = pull_back (placed form) (map (placed form) rows) (entries m) (entries_same rows apart) rows refl
+      in
+      record {
+        all = it.0;
+        same = it.1;
+        up = sorted_rows it.0 (subst (λ es. T (is_sorted (slice_cmp nat_cmp) es)) it.2 (entries_sorted m));
+        each = all-permutation (IsCell form) rows it.0 it.1 each;
+        are = it.2;
+      }

@@ -47,7 +47,7 @@ module _ (t : ℕ) (filters project : List Term) (order : List (Term × Key)) (l
       go false more = more
 
   module _ (db : Trees) (rows : List Row) (a : IsAnswer asked (overlay db []) params rows) where
-    kept_is : a.kept ≡ map shown (filter passes (overlay db [] t))
+    pub kept_is : a.kept ≡ map shown (filter passes (overlay db [] t))
     kept_is = a.distinct ∙ (ap (map (output asked)) (a.grouped ∙ staged_is (overlay db [] t))
         ∙ map-map (output asked) env _)
 

@@ -1,15 +1,16 @@
 -- What tests of rows say, as facts on each row.
-use Rattle.std.proofs.Common.{◌≡◌, ◌⊎◌, inl, inr, Bool, true, false, cond, List, [], ◌∷◌, None, Some, Ordering, Less, Equal, Greater, is_lt, ℕ, length, refl, sym, ap, ◌∙◌, arith}
+use Rattle.std.proofs.Common.{◌≡◌, ◌⊎◌, inl, inr, Bool, true, false, cond, ◌&&◌, List, [], ◌∷◌, None, Some, Ordering, Less, Equal, Greater, is_lt, ℕ, length, refl, sym, ap, ◌∙◌, arith, option_and_then}
 use Rattle.std.specs.List.{AllByRecursion, list_all}
 use Rattle.sqlite_value.specs.Order.{Row, column, value_cmp}
 use Rattle.sqlite_rules.specs.Edit.{id_in}
 use Rattle.sqlite_trees.specs.Tree.{Trees, IsTable, rowid}
 use Rattle.sqlite_schema.specs.declared.schema.Schema.{Schema}
 use Rattle.lei_outside.specs.Keeping.{KeptTables}
-use Rattle.store_statements.specs.Schemas.{both_schema, entry_schema, no_schema}
+use Rattle.store_statements.specs.Schemas.{both_schema, entry_schema, no_schema, store_schema, whole_schema}
+use Rattle.store_tables.specs.Calls.{AreFirst}
 use Rattle.store_tables.specs.Same.{same_schema}
-use Rattle.store_tables.specs.Stored.{cell_fits, cell_of, entry_fits, entry_of, is_cell, is_entry, stored_cell, stored_entry}
-use Rattle.store_tables.specs.Told.{StoredRows, are_told, rise, rows_in, tables_of, told_of}
+use Rattle.store_tables.specs.Stored.{CellForm, cell_fits, entry_fits, entry_of, form_1, form_2, is_cell, is_entry, stored_entry}
+use Rattle.store_tables.specs.Told.{StoredRows, are_told, is_first, is_none, is_second, rise, rows_in, says_second, tables_of, told_as, told_by, told_of}
 use Rattle.store_tables.proofs.SameLemmas.{both_of, left_of, right_of, row_is, row_itself, schema_is, schema_itself}
 
 -- ---- rows of entries and cells
@@ -17,8 +18,8 @@ use Rattle.store_tables.proofs.SameLemmas.{both_of, left_of, right_of, row_is, r
 abbrev pub IsEntry : Row → Type 0
 IsEntry r = (r ≡ stored_entry (entry_of r)) × (entry_fits (entry_of r) ≡ true)
 
-abbrev pub IsCell : Row → Type 0
-IsCell r = (r ≡ stored_cell (id_in (column r 0)) (cell_of r)) × (cell_fits (cell_of r) ≡ true)
+abbrev pub IsCell : CellForm → Row → Type 0
+IsCell form r = (r ≡ form.stored (id_in (column r 0)) (form.read r)) × (cell_fits (form.read r) ≡ true)
 
 entry_is : (r : Row) → is_entry r ≡ true → IsEntry r
 entry_is r h = (row_is _ _ (left_of _ _ h), right_of _ _ h)
@@ -26,11 +27,11 @@ entry_is r h = (row_is _ _ (left_of _ _ h), right_of _ _ h)
 entry_back : (r : Row) → IsEntry r → is_entry r ≡ true
 entry_back r h = both_of _ _ (row_itself _ _ h.0) h.1
 
-cell_is : (r : Row) → is_cell r ≡ true → IsCell r
-cell_is r h = (row_is _ _ (left_of _ _ h), right_of _ _ h)
+cell_is : (form : CellForm) (r : Row) → is_cell form r ≡ true → IsCell form r
+cell_is form r h = (row_is _ _ (left_of _ _ h), right_of _ _ h)
 
-cell_back : (r : Row) → IsCell r → is_cell r ≡ true
-cell_back r h = both_of _ _ (row_itself _ _ h.0) h.1
+cell_back : (form : CellForm) (r : Row) → IsCell form r → is_cell form r ≡ true
+cell_back form r h = both_of _ _ (row_itself _ _ h.0) h.1
 
 -- ---- tests of all rows
 
@@ -63,22 +64,23 @@ rise_back (r ∷ rows) h = both_of _ _
     (all_back _ (λ later. value_cmp (rowid r) (rowid later) ≡ Less) (λ later below. ap is_lt below) rows h.0)
     (rise_back rows h.1)
 
--- ---- the rows of both tables
+-- ---- the rows of entries and of cells
 
 pub record AreEntries (rows : List Row) : Type 0 where
   pub rise : IsTable rows
   pub each : AllByRecursion IsEntry rows
 
-pub record AreCells (rows : List Row) : Type 0 where
+pub record AreCells (form : CellForm) (rows : List Row) : Type 0 where
   pub rise : IsTable rows
-  pub each : AllByRecursion IsCell rows
+  pub each : AllByRecursion (IsCell form) rows
 
-pub record AreTold (rows : StoredRows) : Type 0 where
-  pub entries : AreEntries rows.entries
-  pub cells : AreCells rows.cells
+pub record AreTold (form : CellForm) (first second : List Row) : Type 0 where
+  pub entries : AreEntries first
+  pub cells : AreCells form second
 
-pub told_are : (rows : StoredRows) → are_told rows ≡ true → AreTold rows
-told_are rows h = record {
+pub told_are : (form : CellForm) (entries cells : List Row) → are_told form entries cells ≡ true
+    → AreTold form entries cells
+told_are form entries cells h = record {
   entries = record {
     rise = rise_is _ (left_of _ _ (left_of _ _ h));
     each = all_of _ IsEntry entry_is _
@@ -86,26 +88,93 @@ told_are rows h = record {
   };
   cells = record {
     rise = rise_is _ (left_of _ _ (right_of _ _ h));
-    each = all_of _ IsCell cell_is _
+    each = all_of _ (IsCell form) (cell_is form) _
         (right_of _ _ (right_of _ _ h));
   };
 }
 
-pub are_told_by : (rows : StoredRows) → AreTold rows → are_told rows ≡ true
-are_told_by rows h =
+pub are_told_by : (form : CellForm) (entries cells : List Row) → AreTold form entries cells
+    → are_told form entries cells ≡ true
+are_told_by form entries cells h =
     both_of _ _ (both_of _ _ (rise_back _ h.entries.rise) (all_back _ IsEntry entry_back _ h.entries.each))
-    (both_of _ _ (rise_back _ h.cells.rise) (all_back _ IsCell cell_back _ h.cells.each))
+    (both_of _ _ (rise_back _ h.cells.rise) (all_back _ (IsCell form) (cell_back form) _ h.cells.each))
+
+pub are_first : (rows : List Row) → AreFirst rows → AreCells form_1 rows
+are_first rows h = record {
+  rise = rise_is rows (left_of _ _ h);
+  each = all_of _ (IsCell form_1) (cell_is form_1) rows (right_of _ _ h);
+}
+
+pub first_back : (rows : List Row) → AreCells form_1 rows → AreFirst rows
+first_back rows are = both_of _ _ (rise_back rows are.rise)
+    (all_back _ (IsCell form_1) (cell_back form_1) rows are.each)
 
 test_or_none : (b : Bool) (x t : KeptTables) → cond b (Some x) None ≡ Some t → (b ≡ true) × (t ≡ x)
 test_or_none true x t h = (refl, cc)
 test_or_none false x t h = absurd (cc)
 
-pub told_of_is : (rows : StoredRows) (t : KeptTables) → told_of rows ≡ Some t
-    → AreTold rows × (t ≡ tables_of rows)
-told_of_is rows t h = let it = test_or_none (are_told rows) _ t h in (told_are rows it.0, it.1)
+pub told_as_is : (form : CellForm) (entries cells : List Row) (t : KeptTables)
+    → told_as form entries cells ≡ Some t
+    → AreTold form entries cells × (t ≡ tables_of form entries cells)
+told_as_is form entries cells t h =
+    let it = test_or_none (are_told form entries cells) _ t h in (told_are form entries cells it.0, it.1)
 
-pub told_of_back : (rows : StoredRows) → AreTold rows → told_of rows ≡ Some (tables_of rows)
-told_of_back rows h = ap (λ b. cond b (Some (tables_of rows)) None) (are_told_by rows h)
+pub told_as_back : (form : CellForm) (entries cells : List Row) → AreTold form entries cells
+    → told_as form entries cells ≡ Some (tables_of form entries cells)
+told_as_back form entries cells h = ap (λ b. cond b (Some (tables_of form entries cells)) None)
+    (are_told_by form entries cells h)
+
+-- ---- by the form of the store
+
+pub none_is : (rows : List Row) → is_none rows ≡ true → rows ≡ []
+none_is [] h = refl
+none_is (r ∷ rows) h = absurd (cc)
+
+pub none_back : (rows : List Row) → rows ≡ [] → is_none rows ≡ true
+none_back rows e = ap is_none e
+
+-- a store that says form 2 isn't of form 1
+second_some : (forms : List Row) → says_second forms ≡ true → is_none forms ≡ false
+second_some [] h = absurd (cc)
+second_some (r ∷ []) h = refl
+second_some (r ∷ s ∷ rows) h = absurd (cc)
+
+not_both : (a b : Bool) → a ≡ false → (a && b) ≡ false
+not_both a b e = rw e refl
+
+module _ (rows : StoredRows) where
+  not_first : says_second rows.forms ≡ true → is_first rows ≡ false
+  not_first says = not_both _ (is_none rows.cells2) (second_some rows.forms says)
+
+  pub told_second : says_second rows.forms ≡ true → rows.cells ≡ []
+      → told_of rows ≡ told_as form_2 rows.entries rows.cells2
+  told_second says none = rw (not_first says, both_of _ _ says (none_back rows.cells none)) refl
+
+  pub second_told : (t : KeptTables) → says_second rows.forms ≡ true → told_of rows ≡ Some t
+      → (rows.cells ≡ []) × (told_as form_2 rows.entries rows.cells2 ≡ Some t)
+  second_told t says told = go (is_none rows.cells) refl
+      (rw (not_first says, says) at told)
+    where
+      go : (b : Bool) → is_none rows.cells ≡ b
+          → cond (true && b) (told_as form_2 rows.entries rows.cells2) None ≡ Some t
+          → (rows.cells ≡ []) × (told_as form_2 rows.entries rows.cells2 ≡ Some t)
+      go true e h = (none_is rows.cells e, h)
+      go false e h = absurd (cc)
+
+  pub told_first : rows.forms ≡ [] → rows.cells2 ≡ [] → told_of rows ≡ told_as form_1 rows.entries rows.cells
+  told_first forms none = rw (both_of _ _ (none_back rows.forms forms) (none_back rows.cells2 none)) refl
+
+  pub first_told : (t : KeptTables) → rows.forms ≡ [] → told_of rows ≡ Some t
+      → (rows.cells2 ≡ []) × (told_as form_1 rows.entries rows.cells ≡ Some t)
+  first_told t forms told = go (is_none rows.cells2) refl
+      (rw (ap is_none forms, ap says_second forms) at told)
+    where
+      go : (b : Bool) → is_none rows.cells2 ≡ b
+          → cond (true && b) (told_as form_1 rows.entries rows.cells)
+          (cond (false && is_none rows.cells) (told_as form_2 rows.entries rows.cells2) None) ≡ Some t
+          → (rows.cells2 ≡ []) × (told_as form_1 rows.entries rows.cells ≡ Some t)
+      go true e h = (none_is rows.cells2 e, h)
+      go false e h = absurd (cc)
 
 -- ---- under a schema
 
@@ -126,51 +195,98 @@ other b x y h = rw h refl
 count : Schema → ℕ
 count s = length s.tables
 
-entry_not_both : entry_schema ≡ both_schema → ⊥
-unfolding count
-entry_not_both same = let e : ◌≡◌ {A = ℕ} 1 2 = ap count same in omega (arith, e)
+other_count : (m n : ℕ) (a b : Schema) → count a ≡ m → count b ≡ n → (m ≡ n → ⊥) → a ≡ b → ⊥
+other_count m n a b p q differ same = differ (sym p ∙ (ap count same ∙ q))
 
-none_not_both : no_schema ≡ both_schema → ⊥
+whole_count : count whole_schema ≡ 4
 unfolding count
-none_not_both same = let e : ◌≡◌ {A = ℕ} 0 2 = ap count same in omega (arith, e)
+whole_count = refl
 
-none_not_entry : no_schema ≡ entry_schema → ⊥
+store_count : count store_schema ≡ 3
 unfolding count
-none_not_entry same = let e : ◌≡◌ {A = ℕ} 0 1 = ap count same in omega (arith, e)
+store_count = refl
+
+both_count : count both_schema ≡ 2
+unfolding count
+both_count = refl
+
+entry_count : count entry_schema ≡ 1
+unfolding count
+entry_count = refl
+
+none_count : count no_schema ≡ 0
+unfolding count
+none_count = refl
+
+-- a schema that is one of the five isn't another one of them
+is_not : (schema s other : Schema) (m n : ℕ) → schema ≡ s → count s ≡ m → count other ≡ n → (m ≡ n → ⊥)
+    → same_schema schema other ≡ false
+is_not schema s other m n is p q differ = not_same schema other
+    (λ same. other_count m n s other p q differ (sym is ∙ same))
+
+pub rows_in_whole : (schema : Schema) (trees : Trees) → schema ≡ whole_schema
+    → rows_in schema trees
+    ≡ Some (record { entries = trees 0; cells = trees 1; forms = trees 4; cells2 = trees 5 })
+rows_in_whole schema trees is = first (same_schema schema whole_schema) _ _ (schema_itself _ _ is)
+
+pub rows_in_store : (schema : Schema) (trees : Trees) → schema ≡ store_schema
+    → rows_in schema trees ≡ Some (record { entries = trees 0; cells = trees 1; forms = trees 4; cells2 = [] })
+rows_in_store schema trees is =
+    other (same_schema schema whole_schema) _ _
+    (is_not schema store_schema whole_schema 3 4 is store_count whole_count (λ e. omega (arith, e)))
+    ∙ first (same_schema schema store_schema) _ _ (schema_itself _ _ is)
 
 pub rows_in_both : (schema : Schema) (trees : Trees) → schema ≡ both_schema
-    → rows_in schema trees ≡ Some (record { entries = trees 0; cells = trees 1 })
-rows_in_both schema trees is = first (same_schema schema both_schema) _ _ (schema_itself _ _ is)
+    → rows_in schema trees ≡ Some (record { entries = trees 0; cells = trees 1; forms = []; cells2 = [] })
+rows_in_both schema trees is =
+    other (same_schema schema whole_schema) _ _
+    (is_not schema both_schema whole_schema 2 4 is both_count whole_count (λ e. omega (arith, e)))
+    ∙ (other (same_schema schema store_schema) _ _
+    (is_not schema both_schema store_schema 2 3 is both_count store_count (λ e. omega (arith, e)))
+    ∙ first (same_schema schema both_schema) _ _ (schema_itself _ _ is))
 
 pub rows_in_entry : (schema : Schema) (trees : Trees) → schema ≡ entry_schema
-    → rows_in schema trees ≡ Some (record { entries = trees 0; cells = [] })
+    → rows_in schema trees ≡ Some (record { entries = trees 0; cells = []; forms = []; cells2 = [] })
 rows_in_entry schema trees is =
-    other (same_schema schema both_schema) _ _
-    (not_same schema both_schema (λ same. entry_not_both (sym is ∙ same)))
-    ∙ first (same_schema schema entry_schema) _ _ (schema_itself _ _ is)
+    other (same_schema schema whole_schema) _ _
+    (is_not schema entry_schema whole_schema 1 4 is entry_count whole_count (λ e. omega (arith, e)))
+    ∙ (other (same_schema schema store_schema) _ _
+    (is_not schema entry_schema store_schema 1 3 is entry_count store_count (λ e. omega (arith, e)))
+    ∙ (other (same_schema schema both_schema) _ _
+    (is_not schema entry_schema both_schema 1 2 is entry_count both_count (λ e. omega (arith, e)))
+    ∙ first (same_schema schema entry_schema) _ _ (schema_itself _ _ is)))
 
 pub rows_in_none : (schema : Schema) (trees : Trees) → schema ≡ no_schema
-    → rows_in schema trees ≡ Some (record { entries = []; cells = [] })
+    → rows_in schema trees ≡ Some (record { entries = []; cells = []; forms = []; cells2 = [] })
 rows_in_none schema trees is =
-    other (same_schema schema both_schema) _ _
-    (not_same schema both_schema (λ same. none_not_both (sym is ∙ same)))
+    other (same_schema schema whole_schema) _ _
+    (is_not schema no_schema whole_schema 0 4 is none_count whole_count (λ e. omega (arith, e)))
+    ∙ (other (same_schema schema store_schema) _ _
+    (is_not schema no_schema store_schema 0 3 is none_count store_count (λ e. omega (arith, e)))
+    ∙ (other (same_schema schema both_schema) _ _
+    (is_not schema no_schema both_schema 0 2 is none_count both_count (λ e. omega (arith, e)))
     ∙ (other (same_schema schema entry_schema) _ _
-    (not_same schema entry_schema (λ same. none_not_entry (sym is ∙ same)))
-    ∙ first (same_schema schema no_schema) _ _ (schema_itself _ _ is))
+    (is_not schema no_schema entry_schema 0 1 is none_count entry_count (λ e. omega (arith, e)))
+    ∙ first (same_schema schema no_schema) _ _ (schema_itself _ _ is))))
 
--- a schema under which there are rows is one of the three
-pub one_of_three : (schema : Schema) (trees : Trees) (rows : StoredRows) → rows_in schema trees ≡ Some rows
-    → (schema ≡ both_schema) ⊎ ((schema ≡ entry_schema) ⊎ (schema ≡ no_schema))
-one_of_three schema trees rows is = go (same_schema schema both_schema) (same_schema schema entry_schema)
-    (same_schema schema no_schema) refl refl refl is
+-- ---- what a store with all four tables tells
+
+abbrev pub whole_rows : Trees → StoredRows
+whole_rows trees = record { entries = trees 0; cells = trees 1; forms = trees 4; cells2 = trees 5 }
+
+pub told_whole : (schema : Schema) (trees : Trees) → schema ≡ whole_schema
+    → told_by schema trees ≡ told_of (whole_rows trees)
+told_whole schema trees is = ap (option_and_then told_of) (rows_in_whole schema trees is)
+
+-- what is told is told by one of the two forms
+pub told_one : (rows : StoredRows) (t : KeptTables) → told_of rows ≡ Some t
+    → (told_as form_1 rows.entries rows.cells ≡ Some t) ⊎ (told_as form_2 rows.entries rows.cells2 ≡ Some t)
+told_one rows t told = go (is_first rows) (is_second rows) told
   where
-    go : (a b c : Bool) → same_schema schema both_schema ≡ a → same_schema schema entry_schema ≡ b
-        → same_schema schema no_schema ≡ c
-        → cond a (Some (record { entries = trees 0; cells = trees 1 }))
-        (cond b (Some (record { entries = trees 0; cells = [] }))
-        (cond c (Some (record { entries = []; cells = [] })) None)) ≡ Some rows
-        → (schema ≡ both_schema) ⊎ ((schema ≡ entry_schema) ⊎ (schema ≡ no_schema))
-    go true b c p q r h = inl (schema_is _ _ p)
-    go false true c p q r h = inr (inl (schema_is _ _ q))
-    go false false true p q r h = inr (inr (schema_is _ _ r))
-    go false false false p q r h = absurd (cc)
+    go : (a b : Bool) → cond a (told_as form_1 rows.entries rows.cells)
+        (cond b (told_as form_2 rows.entries rows.cells2) None) ≡ Some t
+        → (told_as form_1 rows.entries rows.cells ≡ Some t)
+        ⊎ (told_as form_2 rows.entries rows.cells2 ≡ Some t)
+    go true b h = inl h
+    go false true h = inr h
+    go false false h = absurd (cc)

@@ -1,5 +1,5 @@
 -- What a query leaves of a connection.
-use Rattle.std.proofs.Common.{◌≡◌, ◌⊎◌, inl, inr, ℕ, false, List, Ok, Err, Result, IfOk, IfErr, IsTrue, refl, sym, ap, subst, ◌∙◌, arith}
+use Rattle.std.proofs.Common.{◌≡◌, ◌⊎◌, inl, inr, ℕ, false, List, Ok, Err, Result, IfOk, IfErr, IsTrue, sym, ap, subst, ◌∙◌, arith}
 use Rattle.sqlite_value.specs.Order.{Row}
 use Rattle.sqlite_trees.specs.Tree.{Trees}
 use Rattle.sqlite.specs.declared.error.Error.{Error}
@@ -64,8 +64,8 @@ rests_steady old new P settled mode rests survives none = record {
   clean = survives.clean;
   mode = mode;
   was_open = λ clean live. rests_open old new (rests clean) live;
-  told = λ clean live. ap (λ (d : Database). told_by d.schema d.trees)
-      (rests_now old new (settled clean) (rests clean) live);
+  told = λ clean live t was. ap (λ (d : Database). told_by d.schema d.trees)
+      (rests_now old new (settled clean) (rests clean) live) ∙ was;
   crash = λ clean left found. inl (elim (survives.crash clean found.0 found.2) [
     | inl was ↦ (found.0, found.1, was, found.3, found.4)
     | inr made ↦ absurd (none clean found.0 made)
@@ -89,10 +89,11 @@ steady_then a b c one two = record {
   clean = omega (arith, one.clean, two.clean);
   mode = λ h. two.mode (one.mode h);
   was_open = λ clean live. one.was_open (earlier clean) (two.was_open clean live);
-  told = λ clean live. two.told clean live ∙ one.told (earlier clean) (two.was_open clean live);
+  told = λ clean live t was. two.told clean live t (one.told (earlier clean) (two.was_open clean live) t was);
   crash = λ clean left found. elim (two.crash clean left found) [
     | inl mid ↦ one.crash (earlier clean) left mid
-    | inr seen ↦ inr (one.was_open (earlier clean) seen.0, seen.1 ∙ one.told (earlier clean) seen.0)
+    | inr seen ↦ inr
+        (one.was_open (earlier clean) seen.0, λ t was. seen.1 t (one.told (earlier clean) seen.0 t was))
   ];
 }
   where
@@ -104,6 +105,6 @@ steady_same s = record {
   clean = omega arith;
   mode = λ h. h;
   was_open = λ clean live. live;
-  told = λ clean live. refl;
+  told = λ clean live t was. was;
   crash = λ clean left found. inl found;
 }

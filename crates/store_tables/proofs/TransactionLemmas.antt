@@ -1,5 +1,5 @@
 -- What a transaction leaves, whether it is committed or taken back.
-use Rattle.std.proofs.Common.{◌≡◌, ◌⊎◌, inl, inr, false, Option, IsTrue, sym, ap, ◌∙◌, true≢false}
+use Rattle.std.proofs.Common.{◌≡◌, ◌⊎◌, inl, inr, false, Option, Some, IsTrue, sym, ap, ◌∙◌, true≢false}
 use Rattle.sqlite_trees.specs.Tree.{Trees}
 use Rattle.sqlite.specs.declared.error.Error.{Error}
 use Rattle.sqlite.specs.Effect.{Database}
@@ -43,22 +43,25 @@ made_seen old new left crash found = elim (crash found.0 found.2) [
   | inl was ↦ inl (found.0, found.1, was, found.3, found.4)
   | inr made ↦ inr (
     made.0,
-    found.4
-        ∙ (ap (λ s. told_by s found.0) (one_schema found.1 made.1.0 found.0 found.3 made.1.1) ∙ made.1.2),
+    λ t told. let it = made.1 t told in
+        found.4 ∙ (ap (λ s. told_by s found.0) (one_schema found.1 it.0 found.0 found.3 it.1) ∙ it.2),
   )
 ]
 
+-- A transaction that was taken back, or that was committed and changed nothing of what is told.
 pub made_steady : (old new : State) → (HasCleanDisk new → IsTrue old.is_open → old.now ≡ old.committed)
     → (old.in_transaction ≡ false → new.in_transaction ≡ false)
     → (HasCleanDisk new → IsUndone old new
-    ⊎ (IsTrue old.is_open × (told_by new.now.schema new.now.trees
-    ≡ told_by old.now.schema old.now.trees))) → Survives old new (IsMade old) → IsSteady old new
+    ⊎ (IsTrue old.is_open × ((t : KeptTables) → told_by old.now.schema old.now.trees ≡ Some t
+    → told_by new.now.schema new.now.trees ≡ Some t))) → Survives old new (IsMade old) → IsSteady old new
 made_steady old new settled mode went survives = record {
   clean = survives.clean;
   mode = mode;
   was_open = λ clean live. elim (went clean) [ inl undone ↦ undone.was_open live | inr made ↦ made.0 ];
-  told = λ clean live. elim (went clean)
-      [ inl undone ↦ undone_told old new (settled clean) undone live | inr made ↦ made.1 ];
+  told = λ clean live t was. elim (went clean) [
+    | inl undone ↦ undone_told old new (settled clean) undone live ∙ was
+    | inr made ↦ made.1 t was
+  ];
   crash = λ clean left found. made_seen old new left (survives.crash clean) found;
 }
 

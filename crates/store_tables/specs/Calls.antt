@@ -1,44 +1,70 @@
 -- What the calls of a keeper do to a connection.
-use Rattle.std.specs.Prelude.{◌≡◌, ◌≤◌, ◌⊎◌, ◌+◌, ◌-◌, List, ◌∷◌, ◌++◌, [], length, slice_get, pos, false, Option, Some, None, IsTrue}
+use Rattle.std.specs.Prelude.{◌≡◌, ◌≤◌, ◌⊎◌, ◌&&◌, ◌+◌, ◌-◌, ℤ, Bool, List, ◌∷◌, ◌++◌, [], length, map, option_map, slice_get, take, pos, true, false, Option, Some, None, IsTrue}
+use Rattle.std.specs.List.{list_all}
+use Rattle.std.specs.FinMap.{empty}
 use Rattle.sqlite_value.specs.declared.value.Value.TheVariants.{Int}
-use Rattle.sqlite_value.specs.Order.{Row}
+use Rattle.sqlite_value.specs.Order.{Row, column}
 use Rattle.sqlite_trees.specs.Tree.{Trees}
 use Rattle.sqlite_trees.specs.View.{doubt}
 use Rattle.sqlite_schema.specs.declared.schema.Schema.{Schema}
+use Rattle.sqlite_rules.specs.Edit.{id_in}
 use Rattle.sqlite_catalog.specs.Listing.{IsSound}
-use Rattle.sqlite.specs.Effect.{IsDatabase}
+use Rattle.sqlite.specs.Effect.{Database, IsDatabase}
 use Rattle.sqlite.specs.State.{State, HasCleanDisk}
 use Rattle.lei_outside.specs.Keeping.{KeptTables, last_number, put_cell, put_cells, with_batch}
 use Rattle.lei_outside.specs.declared.entry.KeptEntry.{KeptEntry}
 use Rattle.lei_outside.specs.declared.keeper.Batch.{Batch}
 use Rattle.lei_outside.specs.declared.keeper.KeptCell.{KeptCell}
-use Rattle.store_statements.specs.Schemas.{both_schema, entry_schema, no_schema}
+use Rattle.store_statements.specs.Schemas.{both_schema, entry_schema, no_schema, store_schema, whole_schema}
 use Rattle.store_tables.specs.Crash.{IsFound}
-use Rattle.store_tables.specs.Told.{told_by}
+use Rattle.store_tables.specs.Stored.{cell_of, form_1, form_2, is_cell, second_row}
+use Rattle.store_tables.specs.Told.{rise, says_second, told_as, told_by}
 
--- A sound store with both tables, which tells these.
-pub record Tells (schema : Schema) (trees : Trees) (t : KeptTables) : Type 0 where
-  pub both : schema ≡ both_schema
+-- The entries and the cells of form 2 of a sound store with all four tables are these, whatever its form is.
+pub record Holds (schema : Schema) (trees : Trees) (t : KeptTables) : Type 0 where
+  pub whole : schema ≡ whole_schema
   pub sound : IsSound schema trees
-  pub told : told_by schema trees ≡ Some t
+  pub told : told_as form_2 (trees 0) (trees 5) ≡ Some t
 
--- An open connection between transactions has both tables, and all of it is committed.
-pub record IsReady (s : State) : Type 0 where
-  pub both : s.now.schema ≡ both_schema
+-- A sound store of form 2, which tells these.
+pub record Tells (schema : Schema) (trees : Trees) (t : KeptTables) : Type 0 where
+  pub holds : Holds schema trees t
+  pub second : says_second (trees 4) ≡ true
+  pub emptied : trees 1 ≡ []
+
+-- A sound store of form 1 with all four tables, which tells these.
+pub record TellsFirst (schema : Schema) (trees : Trees) (t : KeptTables) : Type 0 where
+  pub whole : schema ≡ whole_schema
+  pub sound : IsSound schema trees
+  pub told : told_as form_1 (trees 0) (trees 1) ≡ Some t
+  pub form : trees 4 ≡ []
+  pub none : trees 5 ≡ []
+
+-- An open connection between transactions has all four tables, and all of it is committed.
+pub record IsWhole (s : State) : Type 0 where
+  pub schema : s.now.schema ≡ whole_schema
   pub settled : IsTrue s.is_open → s.now ≡ s.committed
   pub sound : IsTrue s.is_open → IsDatabase s.now
 
--- What an open connection would tell of the trees that it sees.
-abbrev pub IsSeen : State → Option KeptTables → Type 0
-IsSeen s left = IsTrue s.is_open × (left ≡ told_by s.now.schema s.now.trees)
+-- And its form is form 2.
+pub record IsReady (s : State) : Type 0 where
+  pub whole : IsWhole s
+  pub second : says_second (s.now.trees 4) ≡ true
 
--- Between transactions a call changes nothing of what is told, and adds nothing to what a crash may leave.
+-- What an open connection would tell of the trees that it sees, if these tell anything.
+abbrev pub IsSeen : State → Option KeptTables → Type 0
+IsSeen s left = IsTrue s.is_open
+    × ((t : KeptTables) → told_by s.now.schema s.now.trees ≡ Some t → left ≡ Some t)
+
+-- Between transactions a call changes nothing of what is told, if anything is, and adds nothing to what a
+-- crash may leave.
 pub record IsSteady (old new : State) : Type 0 where
   pub clean : doubt old.is_clean ≤ doubt new.is_clean
   pub mode : old.in_transaction ≡ false → new.in_transaction ≡ false
   pub was_open : HasCleanDisk new → IsTrue new.is_open → IsTrue old.is_open
-  pub told : HasCleanDisk new → IsTrue new.is_open
-      → told_by new.now.schema new.now.trees ≡ told_by old.now.schema old.now.trees
+  pub told : HasCleanDisk new → IsTrue new.is_open → (t : KeptTables)
+      → told_by old.now.schema old.now.trees ≡ Some t
+      → told_by new.now.schema new.now.trees ≡ Some t
   pub crash : HasCleanDisk new → (left : Option KeptTables) → IsFound new left
       → IsFound old left ⊎ IsSeen old left
 
@@ -49,13 +75,17 @@ pub record IsInside (old new : State) : Type 0 where
   pub committed : new.committed ≡ old.committed
   pub mode : IsTrue new.in_transaction
 
--- Inside a transaction the tables that are told become what this makes of them, where a condition holds of
--- them.
+-- The tables of the form and of the cells of form 1 are as they were.
+abbrev pub KeepsForm : Trees → Trees → Type 0
+KeepsForm old new = (new 1 ≡ old 1) × (new 4 ≡ old 4)
+
+-- Inside a transaction the entries and the cells of form 2 become what this makes of them, where a condition
+-- holds of them.
 pub record Turns (change : KeptTables → KeptTables) (Fits : KeptTables → Type 0) (old new : State) : Type 0
   where
     pub inside : IsInside old new
-    pub told : (t : KeptTables) → Fits t → Tells old.now.schema old.now.trees t
-        → Tells new.now.schema new.now.trees (change t)
+    pub holds : (t : KeptTables) → Fits t → Holds old.now.schema old.now.trees t
+        → Holds new.now.schema new.now.trees (change t) × KeepsForm old.now.trees new.now.trees
 
 -- The tables with an entry behind the others.
 abbrev pub with_entry : KeptEntry → KeptTables → KeptTables
@@ -90,9 +120,13 @@ last_rows t = number_row (slice_get t.entries (length t.entries - 1))
 
 -- ---- the making of the tables
 
--- No table was made, or the table of entries alone.
+-- Not all tables were made.
 abbrev pub IsBegun : Schema → Type 0
 IsBegun schema = (schema ≡ no_schema) ⊎ (schema ≡ entry_schema)
+
+-- The tables of form 1 were made, or the table of the form too.
+abbrev pub IsFirst : Schema → Type 0
+IsFirst schema = (schema ≡ both_schema) ⊎ (schema ≡ store_schema)
 
 -- Inside a transaction tables are made, which changes nothing of what is told.
 pub record Makes (after : Schema) (old new : State) : Type 0 where
@@ -100,13 +134,84 @@ pub record Makes (after : Schema) (old new : State) : Type 0 where
   pub schema : new.now.schema ≡ after
   pub told : told_by new.now.schema new.now.trees ≡ told_by old.now.schema old.now.trees
 
--- What a transaction that makes tables commits.
+-- What a transaction commits that changes nothing of what is told, if anything is.
 abbrev pub IsMade : State → Trees → Type 0
 IsMade s trees =
-    IsTrue s.is_open × ((schema : Schema) × IsSound schema trees
-    × (told_by schema trees ≡ told_by s.now.schema s.now.trees))
+    IsTrue s.is_open × ((t : KeptTables) → told_by s.now.schema s.now.trees ≡ Some t
+    → (schema : Schema) × IsSound schema trees × (told_by schema trees ≡ Some t))
 
 -- A transaction was taken back.
 pub record IsUndone (old new : State) : Type 0 where
   pub was_open : IsTrue new.is_open → IsTrue old.is_open
   pub now : IsTrue new.is_open → new.now ≡ old.committed
+
+-- ---- the form
+
+-- A call read what the table of the form has, and changed nothing.
+pub record ReadsForm (old new : State) (rows : List Row) : Type 0 where
+  pub was_open : IsTrue old.is_open
+  pub now : new.now ≡ old.now
+  pub committed : new.committed ≡ old.committed
+  pub none : rows ≡ [] → new.now.trees 4 ≡ []
+  pub second : rows ≡ second_row ∷ [] → says_second (new.now.trees 4) ≡ true
+
+-- Inside a transaction the form is written, where neither a form nor a cell of form 1 is there.
+pub record Forms (old new : State) : Type 0 where
+  pub inside : IsInside old new
+  pub told : (t : KeptTables) → Holds old.now.schema old.now.trees t → old.now.trees 4 ≡ []
+      → old.now.trees 1 ≡ [] → Tells new.now.schema new.now.trees t
+
+-- ---- the move from form 1 to form 2
+
+-- The rows are those of cells of form 1, in the order of their ids.
+abbrev pub AreFirst : List Row → Type 0
+AreFirst rows = (rise rows && list_all (is_cell form_1) rows) ≡ true
+
+-- The id of the last row.
+abbrev pub last_id : List Row → Option ℤ
+last_id rows = option_map (λ r. id_in (column r 0)) (slice_get rows (length rows - 1))
+
+-- Inside a transaction a page of the cells of form 1 is read.
+pub record ReadsPage (old new : State) (rows : List Row) : Type 0 where
+  pub inside : IsInside old new
+  pub now : old.now.schema ≡ whole_schema → new.now ≡ old.now
+  pub page : old.now.schema ≡ whole_schema → AreFirst (old.now.trees 1) → rows ≡ take 100 (old.now.trees 1)
+
+-- Inside a transaction the first cells of form 1 are taken out, up to this id.
+pub record Clears (last : ℤ) (old new : State) : Type 0 where
+  pub inside : IsInside old new
+  pub left : (page rest : List Row) → old.now.schema ≡ whole_schema → AreFirst (page ++ rest)
+      → old.now.trees 1 ≡ page ++ rest → last_id page ≡ Some last
+      → (new.now.trees 1 ≡ rest) × (new.now.trees 4 ≡ old.now.trees 4)
+  pub holds : (t : KeptTables) → Holds old.now.schema old.now.trees t
+      → Holds new.now.schema new.now.trees t
+
+-- Of the cells of form 1 that were there, the first are in form 2, and the others are left.
+pub record Carried (before : Trees) (now : Database) (t : KeptTables) : Type 0 where
+  pub are : AreFirst (before 1)
+  pub front : List Row
+  pub rest : List Row
+  pub rows : before 1 ≡ front ++ rest
+  pub left : now.trees 1 ≡ rest
+  pub form : now.trees 4 ≡ []
+  pub holds : Holds now.schema now.trees
+      (record { entries = t.entries; cells = put_cells empty (map cell_of front) })
+
+-- Inside a transaction a page of cells of form 1 that was read is carried over.
+pub record Copies (page : List Row) (last : ℤ) (old new : State) : Type 0 where
+  pub inside : IsInside old new
+  pub carried : (before : Trees) (t : KeptTables) → Carried before old.now t
+      → page ≡ take 100 (old.now.trees 1) → last_id page ≡ Some last → Carried before new.now t
+
+-- Inside a transaction cells of form 1 are carried over. Where this says that no more are left, none is.
+pub record Carries (old new : State) (more : Bool) : Type 0 where
+  pub inside : IsInside old new
+  pub carried : (before : Trees) (t : KeptTables) → Carried before old.now t → Carried before new.now t
+  pub done : (before : Trees) (t : KeptTables) → Carried before old.now t → more ≡ false
+      → new.now.trees 1 ≡ []
+
+-- Inside a transaction the cells are moved to form 2.
+pub record Moves (old new : State) : Type 0 where
+  pub inside : IsInside old new
+  pub told : (t : KeptTables) → TellsFirst old.now.schema old.now.trees t
+      → Tells new.now.schema new.now.trees t

@@ -1,5 +1,5 @@
--- Entries and cells as rows of the two tables, as they are stored: the row's id, and a value for each column.
-use Rattle.std.specs.Prelude.{ℕ, ℤ, pos, negsuc, ◌&&◌, ◌^◌, nat_le, nat_lt, Bool, List, [], ◌∷◌, Option, None, Some}
+-- Entries and cells as rows of the tables, as they are stored: the row's id, and a value for each column.
+use Rattle.std.specs.Prelude.{ℕ, ℤ, pos, negsuc, ◌&&◌, ◌++◌, ◌^◌, nat_le, nat_lt, Bool, List, [], ◌∷◌, Option, None, Some}
 use Rattle.sqlite_value.specs.declared.value.Value.{Value}
 use Rattle.sqlite_value.specs.declared.value.Value.TheVariants.{Null, Int, Text, Blob}
 use Rattle.sqlite_value.specs.Order.{Row, bytes, column}
@@ -7,6 +7,7 @@ use Rattle.sqlite_rules.specs.Edit.{id_in}
 use Rattle.sqlite.specs.Values.{or_null}
 use Rattle.lei_outside.specs.declared.entry.KeptEntry.{KeptEntry}
 use Rattle.lei_outside.specs.declared.keeper.KeptCell.{KeptCell}
+use Rattle.store_statements.specs.Names.{lei_of, rest_of}
 use Rattle.store_tables.specs.Same.{same_row}
 
 -- The row of an entry. Its number is the row's id, and NULL stands in the number's own column.
@@ -15,9 +16,15 @@ stored_entry e = Int (pos e.seq) ∷ Null ∷ Int (pos e.kind) ∷ Text e.office
     ∷ Int (pos e.rules)
     ∷ Blob e.body ∷ Blob e.answer ∷ []
 
--- The row of a cell, with an id that says nothing.
+-- The row of a cell in form 1, with an id that says nothing.
 abbrev pub stored_cell : ℤ → KeptCell → Row
 stored_cell id c = Int id ∷ Int (pos c.kind) ∷ Text c.name ∷ Int (pos c.touched) ∷ or_null Blob c.row ∷ []
+
+-- The row of a cell in form 2, where the name is in two parts.
+abbrev pub stored_cell2 : ℤ → KeptCell → Row
+stored_cell2 id c = Int id ∷ Int (pos c.kind) ∷ Text (lei_of c.name) ∷ Text (rest_of c.name)
+    ∷ Int (pos c.touched)
+    ∷ or_null Blob c.row ∷ []
 
 -- ---- what a row is read as, where it may be no row of an entry or a cell
 
@@ -45,7 +52,7 @@ entry_of row = record {
   answer = bytes (column row 8);
 }
 
--- The cell that is read of a row.
+-- The cell that is read of a row in form 1.
 abbrev pub cell_of : Row → KeptCell
 cell_of row = record {
   kind = number_at row 1;
@@ -53,6 +60,28 @@ cell_of row = record {
   touched = number_at row 3;
   row = blob_of (column row 4);
 }
+
+-- The cell that is read of a row in form 2. Its name is both parts put together.
+abbrev pub cell2_of : Row → KeptCell
+cell2_of row = record {
+  kind = number_at row 1;
+  name = bytes (column row 2) ++ bytes (column row 3);
+  touched = number_at row 4;
+  row = blob_of (column row 5);
+}
+
+-- How cells stand in a table: the row of a cell, and the cell that is read of a row.
+pub record CellForm : Type 0 where
+  pub stored : ℤ → KeptCell → Row
+  pub read : Row → KeptCell
+
+-- The cells of form 1, with their names whole.
+abbrev pub form_1 : CellForm
+form_1 = record { stored = stored_cell; read = cell_of }
+
+-- The cells of form 2, with their names in two parts.
+abbrev pub form_2 : CellForm
+form_2 = record { stored = stored_cell2; read = cell2_of }
 
 -- ---- which rows are those of entries and cells
 
@@ -73,6 +102,18 @@ cell_fits c = is_entry_number c.touched && nat_lt c.kind (2 ^ 8)
 abbrev pub is_entry : Row → Bool
 is_entry row = same_row row (stored_entry (entry_of row)) && entry_fits (entry_of row)
 
--- The row is the one of the cell that is read of it, and the cell fits.
-abbrev pub is_cell : Row → Bool
-is_cell row = same_row row (stored_cell (id_in (column row 0)) (cell_of row)) && cell_fits (cell_of row)
+-- The row is the one of the cell that is read of it, and the cell fits. So in form 2 no first part is longer
+-- than an LEI, and nothing follows one that is shorter.
+abbrev pub is_cell : CellForm → Row → Bool
+is_cell form row =
+    same_row row (form.stored (id_in (column row 0)) (form.read row)) && cell_fits (form.read row)
+
+-- ---- the form
+
+-- What a row of the table of the form says: the row's id, and the form.
+abbrev pub form_row : Row → Row
+form_row row = column row 0 ∷ column row 2 ∷ []
+
+-- What the one row of a store of form 2 says.
+abbrev pub second_row : Row
+second_row = Int (pos 1) ∷ Int (pos 2) ∷ []

@@ -1,5 +1,5 @@
--- What a store tells of the two tables.
-use Rattle.std.specs.Prelude.{◌&&◌, Bool, true, not, if◌then◌else◌, List, [], ◌∷◌, map, Option, None, Some, option_and_then}
+-- What a store tells of its tables.
+use Rattle.std.specs.Prelude.{◌&&◌, Bool, true, false, not, if◌then◌else◌, List, [], ◌∷◌, map, Option, None, Some, option_and_then}
 use Rattle.std.specs.FinMap.{from_entries}
 use Rattle.std.specs.List.{list_all}
 use Rattle.std.specs.Ordering.{is_lt}
@@ -8,45 +8,79 @@ use Rattle.sqlite_trees.specs.Tree.{Trees, rowid}
 use Rattle.sqlite_schema.specs.declared.schema.Schema.{Schema}
 use Rattle.sqlite.specs.State.{State}
 use Rattle.lei_outside.specs.Keeping.{CellContent, CellPlace, KeptTables, content_of, place_of}
-use Rattle.store_statements.specs.Schemas.{both_schema, entry_schema, no_schema}
-use Rattle.store_tables.specs.Same.{same_schema}
-use Rattle.store_tables.specs.Stored.{cell_of, entry_of, is_cell, is_entry}
+use Rattle.store_statements.specs.Schemas.{both_schema, entry_schema, no_schema, store_schema, whole_schema}
+use Rattle.store_tables.specs.Same.{same_row, same_schema}
+use Rattle.store_tables.specs.Stored.{CellForm, entry_of, form_1, form_2, form_row, is_cell, is_entry, second_row}
 
--- The rows of both tables.
+-- The rows of the four tables: the entries, the cells of form 1, the form, and the cells of form 2.
 pub record StoredRows : Type 0 where
   pub entries : List Row
   pub cells : List Row
+  pub forms : List Row
+  pub cells2 : List Row
 
--- The rows under the schema. A table that isn't made has none. Under any schema but the three there are none
+-- The rows under the schema. A table that isn't made has none. Under any schema but the five there are none
 -- to speak of.
 abbrev pub rows_in : Schema → Trees → Option StoredRows
 rows_in schema trees =
-    if same_schema schema both_schema then Some (record { entries = trees 0; cells = trees 1 })
-    else (if same_schema schema entry_schema then Some (record { entries = trees 0; cells = [] })
-    else (if same_schema schema no_schema then Some (record { entries = []; cells = [] }) else None))
+    if same_schema schema whole_schema
+    then Some (record { entries = trees 0; cells = trees 1; forms = trees 4; cells2 = trees 5 })
+    else (if same_schema schema store_schema
+    then Some (record { entries = trees 0; cells = trees 1; forms = trees 4; cells2 = [] })
+    else (if same_schema schema both_schema
+    then Some (record { entries = trees 0; cells = trees 1; forms = []; cells2 = [] })
+    else (if same_schema schema entry_schema
+    then Some (record { entries = trees 0; cells = []; forms = []; cells2 = [] })
+    else (if same_schema schema no_schema
+    then Some (record { entries = []; cells = []; forms = []; cells2 = [] }) else None))))
 
 -- The ids of the rows rise.
 abbrev pub rise : List Row → Bool
 rise [] = true
 rise (row ∷ rows) = list_all (λ later. is_lt (value_cmp (rowid row) (rowid later))) rows && rise rows
 
--- All rows are those of entries and cells, in the order of their ids.
-abbrev pub are_told : StoredRows → Bool
-are_told rows = (rise rows.entries && list_all is_entry rows.entries) &&
-    (rise rows.cells && list_all is_cell rows.cells)
+-- All rows are those of entries and of cells in a form, in the order of their ids.
+abbrev pub are_told : CellForm → List Row → List Row → Bool
+are_told form entries cells = (rise entries && list_all is_entry entries) &&
+    (rise cells && list_all (is_cell form) cells)
 
 -- What is kept in a place.
-abbrev pub placed : Row → CellPlace × CellContent
-placed row = (place_of (cell_of row), content_of (cell_of row))
+abbrev pub placed : CellForm → Row → CellPlace × CellContent
+placed form row = (place_of (form.read row), content_of (form.read row))
 
 -- The entries and the cells that the rows have.
-abbrev pub tables_of : StoredRows → KeptTables
-tables_of rows = record { entries = map entry_of rows.entries; cells = from_entries (map placed rows.cells) }
+abbrev pub tables_of : CellForm → List Row → List Row → KeptTables
+tables_of form entries cells =
+    record { entries = map entry_of entries; cells = from_entries (map (placed form) cells) }
 
--- The tables that the rows tell: field by field what they have, and none where some row has no entry or no
--- cell.
+-- The tables that rows tell by a form: field by field what they have, and none where some row has no entry or
+-- no cell.
+abbrev pub told_as : CellForm → List Row → List Row → Option KeptTables
+told_as form entries cells = if are_told form entries cells then Some (tables_of form entries cells) else None
+
+-- There is no row.
+abbrev pub is_none : List Row → Bool
+is_none [] = true
+is_none (row ∷ rows) = false
+
+-- The table of the form has one row, which says form 2.
+abbrev pub says_second : List Row → Bool
+says_second (row ∷ []) = same_row (form_row row) second_row
+says_second _ = false
+
+-- A store of form 1: neither the form nor a cell of form 2 was written.
+abbrev pub is_first : StoredRows → Bool
+is_first rows = is_none rows.forms && is_none rows.cells2
+
+-- A store of form 2: it says so, and no cell of form 1 is left.
+abbrev pub is_second : StoredRows → Bool
+is_second rows = says_second rows.forms && is_none rows.cells
+
+-- The tables that the rows tell, by the form of the store. A store of neither form tells none.
 abbrev pub told_of : StoredRows → Option KeptTables
-told_of rows = if are_told rows then Some (tables_of rows) else None
+told_of rows =
+    if is_first rows then told_as form_1 rows.entries rows.cells
+    else (if is_second rows then told_as form_2 rows.entries rows.cells2 else None)
 
 -- What trees under a schema tell.
 abbrev pub told_by : Schema → Trees → Option KeptTables

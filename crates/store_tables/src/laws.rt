@@ -1,12 +1,41 @@
 //! Laws on what a store tells.
-ghost use Rattle.std.specs.Prelude.{◌≡◌, Some};
+ghost use Rattle.std.specs.Prelude.{◌≡◌, ◌++◌, ℕ, ℤ, List, ◌∷◌, Some};
+ghost use Rattle.std.specs.Cmp.Lexicographic.{slice_cmp};
+ghost use Rattle.std.specs.Ordering.{nat_cmp, ordering_then};
+ghost use Rattle.sqlite_value.specs.Order.{Row};
 ghost use Rattle.sqlite_trees.specs.Tree.{Trees};
 ghost use Rattle.sqlite_schema.specs.declared.schema.Schema.{Schema};
 ghost use Rattle.lei_outside.specs.Keeping.{AreKept, KeptTables};
-ghost use Rattle.store_tables.specs.Told.{told_by};
+ghost use Rattle.lei_outside.specs.declared.keeper.KeptCell.{KeptCell};
+ghost use Rattle.store_statements.specs.Names.{AreParts, lei_of, rest_of};
+ghost use Rattle.store_tables.specs.Forms.{first_store, second_store};
+ghost use Rattle.store_tables.specs.Told.{told_by, told_of};
 
 /// Tables that a store tells are kept ones: the numbers of the entries are at least 1 and rise, and each cell
 /// has the number of an entry.
 pub fn told_tables_are_kept()
     ensures { (schema : Schema) (trees : Trees) (t : KeptTables) → told_by schema trees ≡ Some t → AreKept t }
+{}
+
+/// A name is its two parts put together, and no other two texts that fit make it.
+pub fn names_are_split_once()
+    ensures parts { (name : List ℕ) → AreParts (lei_of name) (rest_of name)
+        × (lei_of name ++ rest_of name ≡ name) }
+    ensures once { (name lei rest : List ℕ) → AreParts lei rest → lei ++ rest ≡ name
+        → (lei ≡ lei_of name) × (rest ≡ rest_of name) }
+{}
+
+/// The order by kind and the two parts of the name is that by kind and name.
+pub fn parts_are_in_the_order_of_names()
+    ensures { (kind other : ℕ) (name named : List ℕ)
+        → ordering_then (nat_cmp kind other)
+        (ordering_then (slice_cmp nat_cmp (lei_of name) (lei_of named))
+        (slice_cmp nat_cmp (rest_of name) (rest_of named)))
+        ≡ slice_cmp nat_cmp (kind ∷ name) (other ∷ named) }
+{}
+
+/// Stores with the same entries and cells tell the same tables in both forms, or none.
+pub fn both_forms_tell_the_same()
+    ensures { (entries : List Row) (cells : List (ℤ × KeptCell))
+        → told_of (first_store entries cells) ≡ told_of (second_store entries cells) }
 {}

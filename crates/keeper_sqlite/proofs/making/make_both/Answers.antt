@@ -29,11 +29,9 @@ returns-clause-makes g c clean inside has =
     let early : HasCleanDisk (state g.S.Store c.make_entries.new.tx.conn.now) = omega
     (arith, c.make_cells.ensures.survives.clean, clean) in
     let first = c.in_ok-make_entries.ensures.makes early inside has in
-    let second = c.in_ok-make_cells.ensures.makes clean first.inside.mode first.schema in (
-      makes_then _ _ (state g.S.Store c.args.tx.now.conn.now) (state g.S.Store c.make_entries.new.tx.conn.now)
-          (state g.S.Store c.make_cells.new.tx.conn.now) first second.0,
-      second.1,
-    )
+    let second = c.in_ok-make_cells.ensures.makes clean first.inside.mode first.schema in
+    makes_then _ _ (state g.S.Store c.args.tx.now.conn.now) (state g.S.Store c.make_entries.new.tx.conn.now)
+    (state g.S.Store c.make_cells.new.tx.conn.now) first second
 
 pub returns-clause-inside : goal.returns-clause-inside
 returns-clause-inside g c clean inside =
