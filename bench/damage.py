@@ -34,16 +34,21 @@ PRAGMA writable_schema = RESET"""
 
 # Each change, the statements that make it, and the status with which the store is refused.
 CHANGES = [
-    ("another table of the name", "DROP TABLE cell; CREATE TABLE cell (kind TEXT)", 5),
+    ("another table of the name", "DROP TABLE cell2; CREATE TABLE cell2 (kind TEXT)", 5),
     ("a table without its second key",
      f"ALTER TABLE cell RENAME TO old; {ONE_KEY}; INSERT INTO cell SELECT * FROM old; DROP TABLE old", 5),
     ("a further table", "CREATE TABLE notes (note TEXT)", 5),
-    ("a further index", "CREATE INDEX by_row ON cell (row)", 5),
+    ("a further index", "CREATE INDEX by_row ON cell2 (row)", 5),
     ("a text where a blob belongs", TEXT_FOR_BLOB, 5),
     ("a negative number", "UPDATE entry SET number = -1 WHERE seq = 2", 5),
     ("an entry that is missing", "DELETE FROM entry WHERE seq = 2", 7),
     ("another answer", "UPDATE entry SET answer = x'78' WHERE seq = 2", 7),
-    ("another row of a cell", "UPDATE cell SET row = x'78'", 7),
+    ("another row of a cell", "UPDATE cell2 SET row = x'78'", 7),
+    ("a second row of the form", "INSERT INTO store (one, form) VALUES (2, 2)", 5),
+    ("another form", "UPDATE store SET form = 3", 5),
+    ("cells of form 2 without the form", "DELETE FROM store", 5),
+    ("a first part of 21 characters", "UPDATE cell2 SET lei = lei || 'A'", 5),
+    ("a rest beside a short first part", "UPDATE cell2 SET lei = kind || touched, rest = lei", 5),
 ]
 
 
