@@ -14,7 +14,7 @@ pub enum Cause {
     Unopened,
     /// The database has other tables than those of a keeper.
     Tables,
-    /// A row isn't that of an entry or a cell.
+    /// A row isn't that of an entry or a cell, or the store is of neither form.
     Row,
     /// The connection is inside a transaction that isn't the keeper's.
     Transaction,

@@ -11,13 +11,14 @@ use sqlite::{Alter, Connection, File, FileStore};
 use std::alloc::Global;
 use std::marker::Model;
 
-/// A keeper over a database of SQLite, by its two tables `entry` and `cell`. It tells the rows of both, field
-/// by field, between its calls, while the database is open and its disk is clean, if the connection told them
-/// when the keeper adopted it: it had no table yet, or the tables of this keeper and nothing else, with rows
-/// of entries and cells alone. A call fails where the database couldn't be opened, where it has any other
-/// schema, where it fails or refuses a statement, and where a value is stored that doesn't fit its field, as
-/// a kind above 255 or a negative number. Contracts see the connection, what it was when it was adopted, and
-/// the number of calls that have failed.
+/// A keeper over a database of SQLite, by its tables `entry` and `cell2`. A store of form 1, whose cells stand
+/// in the table `cell`, is moved to form 2 by the first call. The keeper tells its entries and cells, field by
+/// field, between its calls, while the database is open and its disk is clean, if the connection told them
+/// when the keeper adopted it: it had no table yet, or tables of this keeper and nothing else, with rows of
+/// entries and of cells of one form alone. A call fails where the database couldn't be opened, where it has
+/// any other schema or neither form, where it fails or refuses a statement, and where a value is stored that
+/// doesn't fit its field, as a kind above 255 or a negative number. Contracts see the connection, what it was
+/// when it was adopted, and the number of calls that have failed.
 #[derive(Drop)]
 pub struct SqliteKeeper<S: Alter> {
     // None where the file couldn't be opened.
