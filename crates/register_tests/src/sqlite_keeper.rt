@@ -238,8 +238,9 @@ fn a_crash_in_the_last_of_four_calls_of_the_log_loses_nothing(rt: HostRuntime) -
 
 // What is done to a store that has the session, and the status with which the program refuses it then:
 // another table of the name, a table without its second key, a further table, a further index, numbers that
-// fit no field, and rows that lack.
-const DAMAGE: [(&str, ExitStatus); 8] = [
+// fit no field, a form that the store can't have, a name whose first part is too long or too short, and rows
+// that lack.
+const DAMAGE: [(&str, ExitStatus); 13] = [
     (
         "DROP TABLE cell; CREATE TABLE cell (kind INTEGER, name TEXT, touched INTEGER, row TEXT)",
         ExitStatus::KeeperFault,
@@ -266,6 +267,17 @@ const DAMAGE: [(&str, ExitStatus); 8] = [
         ExitStatus::KeeperFault,
     ),
     ("DELETE FROM entry WHERE seq = 5", ExitStatus::StoreDamaged),
+    (
+        "INSERT INTO store (one, form) VALUES (2, 2)",
+        ExitStatus::KeeperFault,
+    ),
+    ("UPDATE store SET form = 3", ExitStatus::KeeperFault),
+    ("DELETE FROM store", ExitStatus::KeeperFault),
+    ("UPDATE cell2 SET lei = lei || 'A'", ExitStatus::KeeperFault),
+    (
+        "UPDATE cell2 SET lei = 'A', rest = 'B'",
+        ExitStatus::KeeperFault,
+    ),
     ("DELETE FROM cell2", ExitStatus::StoreDamaged),
 ];
 
