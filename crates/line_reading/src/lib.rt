@@ -10,4 +10,6 @@ mod writing;
 
 pub use framing::{LineFraming, NoEnd};
 pub use laws::lines_end_at_line_feeds;
-pub use write_buffer::BLOCK;
+pub use lines::{line_of, next_end};
+pub use write_buffer::{BLOCK, WriteBuffer};
+pub use writing::put_all;

@@ -44,8 +44,8 @@ fn first_space(bytes: &[u8]) -> Option<usize>
     bytes.iter().position(|byte| *byte == b' ')
 }
 
-// The bytes before the first space and those behind it.
-fn cut(bytes: &[u8]) -> Option<(&[u8], &[u8])>
+/// The bytes before the first space and those behind it, if there is one.
+pub fn cut(bytes: &[u8]) -> Option<(&[u8], &[u8])>
     ensures { option_map (λ parts. (parts.0.now, parts.1.now)) result ≡ cut bytes.now }
 {
     match first_space(bytes) {

@@ -42,14 +42,14 @@ impl WriteBuffer {
     }
 
     /// The room that is left.
-    pub fn room(&self) -> usize
+    pub(crate) fn room(&self) -> usize
         ensures { result + length self.now ≡ BLOCK }
     {
         BLOCK - self.held.len()
     }
 
     /// Puts a piece after what waits, where it has room.
-    pub fn append(&mut self, piece: &[u8])
+    pub(crate) fn append(&mut self, piece: &[u8])
         requires { length self.old + length piece.now ≤ BLOCK }
         ensures { self.new ≡ self.old ++ piece.now }
     {
@@ -57,7 +57,7 @@ impl WriteBuffer {
     }
 
     /// Puts a piece after what waits, and sends what has no room. A piece of more than a block isn't copied.
-    pub fn put<L: Wire>(&mut self, link: &mut L, piece: &[u8]) -> Result<(), SinkFault>
+    pub(crate) fn put<L: Wire>(&mut self, link: &mut L, piece: &[u8]) -> Result<(), SinkFault>
         ensures ok { OnOk result (Sends (L.written link.old) (L.written link.new)
             (self.old ++ piece.now) self.new) }
         ensures err { OnErr result

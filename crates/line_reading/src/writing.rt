@@ -107,7 +107,8 @@ fn put_reply<L: Wire>(
     }
 }
 
-fn put_all<L: Wire>(
+/// Puts pieces after what waits, one after the other, and sends what has no room.
+pub fn put_all<L: Wire>(
     buffer: &mut WriteBuffer,
     link: &mut L,
     pieces: &[&[u8]],

@@ -1,0 +1,4 @@
+pub mod Inputs
+pub mod Likeness
+pub mod OneWay
+pub mod QueryFronts

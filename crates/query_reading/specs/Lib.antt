@@ -1,0 +1,5 @@
+pub mod Refusals
+pub mod Replies
+pub mod Meanings
+pub mod QueryFrames
+pub mod Inputs

@@ -1,0 +1,121 @@
+-- Lines of queries, with the packets that come after them, as the frames of an input. This project's profile.
+use Rattle.std.proofs.Common.{append_assoc, ap, ◌∙◌}
+use Rattle.std.specs.Prelude.{◌≡◌, ◌⊎◌, ◌<◌, ◌≤◌, ◌+◌, ℕ, List, [], ◌∷◌, ◌++◌, length, take, Option, None, Some, option_map}
+use Rattle.request_loop.specs.Frames.{Rules}
+use Rattle.request_loop.specs.declared.frames.Want.{Want}
+use Rattle.line_reading.specs.Lines.{Ends, HasNoEnd, Line, line_of}
+use Rattle.line_reading.specs.declared.framing.NoEnd.{NoEnd}
+use Rattle.query_reading.specs.Meanings.{asked_at_end, asked_with, packet_size, query_limit, said}
+use Rattle.query_reading.specs.Replies.{query_bytes}
+use Rattle.query_reading.specs.declared.asked.QueryAsked.{QueryAsked}
+use Rattle.query_reading.specs.declared.grammar.LineMeaning.{LineMeaning}
+use Rattle.query_reading.specs.declared.refusal.QueryRefusal.TheVariants.{NoMemory}
+use Rattle.query_reading.specs.declared.reply.QueryReply.{QueryReply}
+use Rattle.query_reading.specs.declared.stage.FrameStage.{FrameStage}
+
+-- What is asked, where the session goes on after the reply.
+abbrev pub wanted : {Q H : Type 0} → QueryAsked Q H → Want (QueryAsked Q H) NoEnd
+wanted what = record { asked = what; ends = None }
+
+-- ---- frames
+
+-- The bytes begin with a line, its end and its packet, which want this or nothing, and go on with the rest.
+pub record IsQueryFrame {Q H : Type 0} (says : Line → LineMeaning Q H) (bytes : List ℕ)
+    (frame : Option (Want (QueryAsked Q H) NoEnd)) (rest : List ℕ) : Type 0 where
+  pub part : List ℕ
+  pub packet : List ℕ
+  pub ends : Ends bytes part (packet ++ rest)
+  pub size : length packet ≡ packet_size (said says (line_of part))
+  pub frame_is : frame ≡ option_map wanted (asked_with (said says (line_of part)) packet)
+
+-- The bytes begin with a line and its end, and fewer bytes follow than are its packet.
+pub record LacksPacket {Q H : Type 0} (says : Line → LineMeaning Q H) (bytes : List ℕ) : Type 0 where
+  pub part : List ℕ
+  pub after : List ℕ
+  pub ends : Ends bytes part after
+  pub short : length after < packet_size (said says (line_of part))
+
+-- The bytes begin a line that has no end yet, or a packet isn't whole yet.
+abbrev pub IsBegun : {Q H : Type 0} → (Line → LineMeaning Q H) → List ℕ → Type 0
+IsBegun says bytes = HasNoEnd bytes ⊎ LacksPacket says bytes
+
+-- The first line of the bytes, which may lack its end.
+abbrev pub IsFirstLine : List ℕ → Line → Type 0
+IsFirstLine bytes line =
+    (HasNoEnd bytes × (line ≡ bytes))
+    ⊎ ((part : List ℕ) × (after : List ℕ) × Ends bytes part after × (line ≡ line_of part))
+
+-- ---- want of memory
+
+-- It takes memory to read: each query and each packet may.
+abbrev pub TakesMemory : {Q H : Type 0} → QueryAsked Q H → Type 0
+TakesMemory (QueryAsked.Refuse refusal) = ⊥
+TakesMemory (QueryAsked.Query query) = Unit {0}
+TakesMemory (QueryAsked.Packet head packet) = Unit {0}
+
+-- Where there is no memory to read what the first asks, the refusal for that is read in its place.
+abbrev pub ReadsAs : {Q H : Type 0} → QueryAsked Q H → QueryAsked Q H → Type 0
+ReadsAs meant read = TakesMemory meant × (read ≡ QueryAsked.Refuse NoMemory)
+
+-- What is asked was read so, if anything is.
+abbrev pub IsReadAs : {Q H : Type 0} → Option (QueryAsked Q H) → Option (QueryAsked Q H) → Type 0
+IsReadAs {Q} {H} meant read =
+    (read ≡ meant)
+    ⊎ ((asked : QueryAsked Q H) × (meant ≡ Some asked) × TakesMemory asked
+    × (read ≡ Some (QueryAsked.Refuse NoMemory)))
+
+-- Where the input ends with these bytes, of which no frame is whole, their one line asks this.
+abbrev pub EndsAsked : {Q H : Type 0} → (Line → LineMeaning Q H) → List ℕ → Option (QueryAsked Q H) → Type 0
+EndsAsked says bytes read = (line : Line) × IsFirstLine bytes line × IsReadAs (asked_at_end (said says line)) read
+
+-- And it wants that.
+abbrev pub EndsInput : {Q H : Type 0} → (Line → LineMeaning Q H) → List ℕ
+    → Option (Want (QueryAsked Q H) NoEnd) → Type 0
+EndsInput {Q} {H} says bytes frame =
+    (read : Option (QueryAsked Q H)) × EndsAsked says bytes read × (frame ≡ option_map wanted read)
+
+-- ---- the rules
+
+-- How an input is cut into queries by a grammar, and what is written for the replies.
+abbrev pub query_rules : {Q H : Type 0} → (Line → LineMeaning Q H) → Rules (QueryAsked Q H) QueryReply NoEnd
+query_rules says = record {
+  whole = IsQueryFrame says;
+  begun = IsBegun says;
+  ends = EndsInput says;
+  reads_as = ReadsAs;
+  refuses = λ asked reply. ⊥;
+  text = λ want reply. query_bytes reply;
+}
+
+-- A whole frame stays one where more bytes come after it.
+pub query_whole_on : {Q H : Type 0} (says : Line → LineMeaning Q H) (bytes rest more : List ℕ)
+    (frame : Option (Want (QueryAsked Q H) NoEnd)) → IsQueryFrame says bytes frame rest
+    → IsQueryFrame says (bytes ++ more) frame (rest ++ more)
+query_whole_on says bytes rest more frame is = record {
+  part = is.part;
+  packet = is.packet;
+  ends = record {
+    parts = ap (λ xs. xs ++ more) is.ends.parts
+        ∙ (append_assoc (is.part ++ 10 ∷ []) (is.packet ++ rest) more
+        ∙ ap (λ xs. (is.part ++ 10 ∷ []) ++ xs) (append_assoc is.packet rest more));
+    none = is.ends.none;
+  };
+  size = is.size;
+  frame_is = is.frame_is;
+}
+
+-- ---- what is held of a frame that isn't whole
+
+-- The bytes since the last frame are held up to here, by how far the frame was read: all of them; of a line that is too
+-- long those after a front that was dropped; of a packet all; of one that is skipped those after a front.
+abbrev pub HoldsQuery : {Q H : Type 0} → (Line → LineMeaning Q H) → FrameStage H → List ℕ → List ℕ → Type 0
+HoldsQuery says (FrameStage.Line seen) held bytes =
+    (held ≡ bytes) × (seen ≤ length held) × HasNoEnd (take seen held)
+HoldsQuery says FrameStage.LongLine held bytes =
+    (dropped : List ℕ) × (bytes ≡ dropped ++ held) × HasNoEnd dropped × (query_limit + 1 < length dropped)
+HoldsQuery says (FrameStage.Packet head size) held bytes =
+    (part : List ℕ) × Ends bytes part held × (said says (line_of part) ≡ Some (LineMeaning.Packet head size))
+    × (0 < size)
+HoldsQuery says (FrameStage.Skipped refusal left) held bytes =
+    (part : List ℕ) × (dropped : List ℕ) × Ends bytes part (dropped ++ held)
+    × (said says (line_of part) ≡ Some (LineMeaning.Skipped refusal (length dropped + left))) × (0 < left)

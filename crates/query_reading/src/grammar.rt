@@ -1,0 +1,44 @@
+//! What lines say.
+ghost use Rattle.std.specs.Prelude.{◌≡◌, ℕ, List, IfOk, OnErr};
+ghost use Rattle.query_reading.specs.Meanings.{IsWhole};
+ghost use Rattle.query_reading.specs.declared.grammar.LineMeaning.{LineMeaning as Meaning};
+
+use crate::refusal::QueryRefusal;
+use lei_outside::NoMemory;
+use std::alloc::Global;
+
+/// The greatest length of a line, without its end, in bytes. This project's profile.
+pub const MAX_QUERY: usize = 4_096;
+
+/// What a line says, of queries of type `Q` and of packets that the line says `H` of.
+#[derive(Drop)]
+pub enum LineMeaning<Q, H> {
+    /// It is refused.
+    Refused(QueryRefusal),
+    /// A query that is whole by itself.
+    Query(Q),
+    /// So many bytes follow the line's end.
+    Packet(H, usize),
+    /// It is refused, and so many bytes that follow the line's end are skipped.
+    Skipped(QueryRefusal, usize),
+}
+
+/// A grammar: what a line says that isn't empty and not too long.
+pub trait Grammar: Drop {
+    type Query: Drop;
+
+    /// What a line says of the packet that it announces, but for its size.
+    type Head: Copy;
+
+    /// What a line says.
+    ghost says: { List ℕ → Meaning Self.Query Self.Head };
+
+    /// Reads a line, without its end. Its one error is want of memory for a query that is whole by itself.
+    fn read(
+        &self,
+        alloc: Global,
+        line: &[u8],
+    ) -> Result<LineMeaning<Self::Query, Self::Head>, NoMemory>
+        ensures ok { IfOk result (λ meaning. meaning ≡ says line.now) }
+        ensures err { OnErr result (IsWhole (says line.now)) };
+}
