@@ -1,0 +1,6 @@
+pub mod Finding
+pub mod NameValues
+pub mod OneReply
+pub mod ReadFiles
+pub mod Fitting
+pub mod Taking

@@ -1,0 +1,5 @@
+pub mod Grammar
+pub mod Answers
+pub mod Searches
+pub mod Searchers
+pub mod Serving
