@@ -8,12 +8,12 @@ use Rattle.std.proofs.lemmas.List.{length-map}
 use Rattle.std.proofs.lemmas.Map.Made.{is_member-Decides, length-le_from_is_member}
 use Rattle.std.proofs.lemmas.Slice.Eq.{bytes_eq-Decides}
 use Rattle.lei_code.specs.Texts.{Lei}
-use Rattle.group_reports.specs.declared.links.Link.{Link}
+use Rattle.group_reports.specs.Links.{Link}
 use Rattle.group_reports.specs.Groups.{Leads, depth, is_depth, is_member_at, is_this, members, members_at, starts, up}
 use Rattle.group_reports.specs.Links.{direct, is_direct}
 use Rattle.group_reports.proofs.ListLemmas.{all-distinct, all_apart, filter-distinct, filter-has, finds, found, has, has-filter, in_all, in_one, in_order-distinct, in_order-has, lei_laws, own_lei, same_lei}
 
-abbrev lei_or : Lei → Option Lei → Lei
+abbrev pub lei_or : Lei → Option Lei → Lei
 lei_or lei None = lei
 lei_or lei (Some other) = other
 
@@ -168,7 +168,7 @@ module _ (links : List Link) where
     abbrev pub leads : Lei → ℕ → Bool
     leads lei k = is_this root (up links lei k)
 
-    some_least : (lei : Lei) (k : ℕ) → up links lei k ≡ Some root → Least lei
+    pub some_least : (lei : Lei) (k : ℕ) → up links lei k ≡ Some root → Least lei
     some_least lei k e =
         let at = finds (leads lei) 0 (suc k) k (omega arith) (omega arith) (is-this root (up links lei k) e) in
         let least = found (leads lei) 0 (suc k) at.number at.is in

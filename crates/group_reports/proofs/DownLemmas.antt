@@ -3,10 +3,10 @@ use Rattle.std.specs.Prelude.{◌≡◌, ℕ, suc, ◌+◌, ◌-◌, ◌<◌, �
 use Rattle.std.specs.List.{range_with_len}
 use Rattle.std.proofs.Common.{refl, sym, ap, ◌∙◌, append-nil, arith}
 use Rattle.lei_code.specs.Texts.{Lei}
-use Rattle.group_reports.specs.declared.links.Link.{Link}
-use Rattle.group_reports.specs.declared.listing.Member.{Member}
+use Rattle.group_reports.specs.Links.{Link}
+use Rattle.group_reports.specs.Listings.{Member}
 use Rattle.group_reports.specs.Groups.{members_at, starts}
-use Rattle.group_reports.specs.Levels.{is_next}
+use Rattle.group_reports.proofs.Levels.{is_next}
 use Rattle.group_reports.specs.Listings.{all_members, at_depth, member_of}
 use Rattle.group_reports.proofs.LevelLemmas.{depths, level_at, next_members, none_after}
 use Rattle.group_reports.proofs.ListLemmas.{has}

@@ -5,28 +5,24 @@ use Rattle.std.specs.Str.{bytes_eq}
 use Rattle.std.proofs.Common.{refl, sym, ap, ◌∙◌, ◌⊎◌, inl, inr, ltb, arith}
 use Rattle.std.proofs.lemmas.Bool.{and_parts, cases_Bool, false≢true, ltb-false, ltb-true, or_cases, or_left}
 use Rattle.lei_code.specs.Texts.{Lei}
-use Rattle.group_reports.specs.declared.links.Link.{Link}
+use Rattle.group_reports.specs.Links.{Link}
 use Rattle.group_reports.specs.Groups.{depth, is_depth, is_member_at, members_at, starts, up}
-use Rattle.group_reports.specs.Levels.{is_in, is_next}
+use Rattle.group_reports.proofs.Levels.{is_in, is_next}
 use Rattle.group_reports.specs.Links.{direct}
 use Rattle.group_reports.specs.Listings.{at_depth, member_of}
-use Rattle.group_reports.proofs.ChainLemmas.{IsLeast, depth-is, direct-start, is-depth, is-this, leads, least-few, least-next, starts-has, starts_with, this-is, up-first}
+use Rattle.group_reports.proofs.ChainLemmas.{IsLeast, depth-is, direct-start, is-depth, is-this, leads, least-few, least-next, lei_or, starts-has, starts_with, this-is, up-first}
 use Rattle.group_reports.proofs.ListLemmas.{FoundAt, filter-has, finds, found, has, has-filter, own_lei, same_lei}
 
-abbrev lei_or : Lei → Option Lei → Lei
-lei_or lei None = lei
-lei_or lei (Some other) = other
-
-both_ways : (a b : Bool) → (a ≡ true → b ≡ true) → (b ≡ true → a ≡ true) → a ≡ b
+pub both_ways : (a b : Bool) → (a ≡ true → b ≡ true) → (b ≡ true → a ≡ true) → a ≡ b
 both_ways true b there back = sym (there refl)
 both_ways false true there back = back refl
 both_ways false false there back = refl
 
-not_true : (b : Bool) → not b ≡ true → b ≡ false
+pub not_true : (b : Bool) → not b ≡ true → b ≡ false
 not_true true is = absurd (false≢true is)
 not_true false is = refl
 
-both : (a b : Bool) → a ≡ false → b ≡ true → (not a && b) ≡ true
+pub both : (a b : Bool) → a ≡ false → b ≡ true → (not a && b) ≡ true
 both true b p q = absurd (false≢true (sym p))
 both false b p q = q
 
@@ -35,7 +31,7 @@ filter-same p q same [] = refl
 filter-same p q same (x ∷ xs) =
     ap (λ b. cond b (x ∷ filter p xs) (filter p xs)) (same x) ∙ ap (λ l. cond (q x) (x ∷ l) l) (filter-same p q same xs)
 
-filter-none : (p : Lei → Bool) → ((x : Lei) → p x ≡ false) → (xs : List Lei) → filter p xs ≡ []
+pub filter-none : (p : Lei → Bool) → ((x : Lei) → p x ≡ false) → (xs : List Lei) → filter p xs ≡ []
 filter-none p none [] = refl
 filter-none p none (x ∷ xs) = ap (λ b. cond b (x ∷ filter p xs) (filter p xs)) (none x) ∙ filter-none p none xs
 

@@ -1,7 +1,16 @@
+pub mod InsertLemmas
 pub mod ListLemmas
 pub mod ChainLemmas
 pub mod WalkLemmas
 pub mod ReportLemmas
-pub mod FirstLemmas
+pub mod Levels
 pub mod LevelLemmas
 pub mod DownLemmas
+pub mod PlaceLemmas
+pub mod ChildLemmas
+pub mod FarLemmas
+pub mod ArcLemmas
+pub mod IndexLemmas
+pub mod LevelPlaces
+pub mod NameLemmas
+pub mod GroupLemmas

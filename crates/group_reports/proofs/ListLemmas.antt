@@ -1,5 +1,5 @@
 -- Lists of LEIs: which are among them, and that none is twice.
-use Rattle.std.specs.Prelude.{◌≡◌, ℕ, zero, suc, ◌+◌, ◌<◌, ◌≤◌, Bool, true, false, cond, ◌||◌, List, [], ◌∷◌, ◌++◌, Option, None, Some, filter, find, flat_map, fold}
+use Rattle.std.specs.Prelude.{◌≡◌, ℕ, zero, suc, ◌+◌, ◌<◌, ◌≤◌, Bool, true, false, cond, ◌||◌, List, [], ◌∷◌, ◌++◌, Option, None, Some, filter, find, flat_map, fold, get_or, length, map}
 use Rattle.std.specs.BTreeSet.{insert_key}
 use Rattle.std.specs.Cmp.{IsEquivalence}
 use Rattle.std.specs.Cmp.Lexicographic.{slice_cmp}
@@ -14,10 +14,12 @@ use Rattle.std.proofs.Common.{refl, sym, ap, subst, ◌∙◌, ◌⊎◌, inl, i
 use Rattle.std.proofs.lemmas.Bool.{cases_Bool, false≢true, ltb-false, ltb-true, or_cases, or_left, or_parts, or_right}
 use Rattle.std.proofs.lemmas.Cmp.{nat_list_cmp_total}
 use Rattle.std.proofs.lemmas.List.Folds.{list_any-append}
+use Rattle.std.proofs.lemmas.Map.Keys.{sorted_head, sorted_tail}
 use Rattle.std.proofs.lemmas.Map.Text.{is_eq-slice_cmp}
 use Rattle.std.proofs.lemmas.Slice.Eq.{bytes_eq-Decides}
 use Rattle.lei_code.specs.Texts.{Lei}
 use Rattle.group_reports.specs.Groups.{in_order}
+use Rattle.group_reports.proofs.InsertLemmas.{insert-has}
 
 pub same_lei : (x y : Lei) → bytes_eq x y ≡ true → x ≡ y
 same_lei x y is = (bytes_eq-Decides x y).0 is
@@ -50,28 +52,11 @@ put leis lei = insert_key (slice_cmp nat_cmp) leis lei
 
 -- ---- in order: the same ones
 
+tied_leis : (k x : Lei) → slice_cmp nat_cmp k x ≡ Equal → k ≡ x
+tied_leis k x is = same_lei k x (sym (is_eq-slice_cmp k x) ∙ ap is_eq is)
+
 put-has : (xs : List Lei) (k y : Lei) → has (put xs k) y ≡ (bytes_eq y k || has xs y)
-put-has [] k y = refl
-put-has (x ∷ xs) k y = by (put-has xs k y) (slice_cmp nat_cmp k x) refl
-  where
-    twice : (e f h : Bool) → f ≡ e → (e || h) ≡ (f || (e || h))
-    twice true true h is = refl
-    twice true false h is = refl
-    twice false true h is = absurd cc
-    twice false false h is = refl
-
-    swap : (e f h : Bool) → (e || (f || h)) ≡ (f || (e || h))
-    swap true true h = refl
-    swap true false h = refl
-    swap false f h = refl
-
-    by : has (put xs k) y ≡ (bytes_eq y k || has xs y) → (o : Ordering) → slice_cmp nat_cmp k x ≡ o
-        → has (match_ordering o (k ∷ x ∷ xs) (x ∷ xs) (x ∷ put xs k)) y ≡ (bytes_eq y k || (bytes_eq y x || has xs y))
-    by rest Less is = refl
-    by rest Equal is =
-        let same : k ≡ x = same_lei k x (sym (is_eq-slice_cmp k x) ∙ ap is_eq is) in
-        twice (bytes_eq y x) (bytes_eq y k) (has xs y) (ap (bytes_eq y) same)
-    by rest Greater is = ap (λ b. bytes_eq y x || b) rest ∙ swap (bytes_eq y x) (bytes_eq y k) (has xs y)
+put-has xs k y = insert-has (slice_cmp nat_cmp) bytes_eq tied_leis xs k y
 
 fold-has : (made leis : List Lei) (y : Lei) → has (fold put made leis) y ≡ (has made y || has leis y)
 fold-has made [] y = alone (has made y)
@@ -125,14 +110,14 @@ fold-sorted : (made leis : List Lei) → IsStrictlySortedBy (slice_cmp nat_cmp) 
 fold-sorted made [] sorted = sorted
 fold-sorted made (x ∷ xs) sorted = fold-sorted (put made x) xs (put-sorted made x sorted)
 
+less-apart : (x : Lei) (ys : List Lei) → AllByRecursion (λ y. slice_cmp nat_cmp x y ≡ Less) ys → AllByRecursion (λ y. bytes_eq x y ≡ false) ys
+less-apart x [] all = tt
+less-apart x (y ∷ ys) all = (sym (is_eq-slice_cmp x y) ∙ ap is_eq all.0, less-apart x ys all.1)
+
 sorted-distinct : (xs : List Lei) → IsStrictlySortedBy (slice_cmp nat_cmp) xs → IsDistinct bytes_eq xs
 unfolding IsStrictlySortedBy IsDistinct
 sorted-distinct [] sorted = tt
-sorted-distinct (x ∷ xs) sorted = (apart xs sorted.0, sorted-distinct xs sorted.1)
-  where
-    apart : (ys : List Lei) → AllByRecursion (λ y. slice_cmp nat_cmp x y ≡ Less) ys → AllByRecursion (λ y. bytes_eq x y ≡ false) ys
-    apart [] all = tt
-    apart (y ∷ ys) all = (sym (is_eq-slice_cmp x y) ∙ ap is_eq all.0, apart ys all.1)
+sorted-distinct (x ∷ xs) sorted = (less-apart x xs sorted.0, sorted-distinct xs sorted.1)
 
 none_sorted : IsStrictlySortedBy (slice_cmp nat_cmp) []
 unfolding IsStrictlySortedBy
@@ -155,6 +140,47 @@ all_apart x (y ∷ ys) isnt =
 pub not_among : (x : Lei) (ys : List Lei) → AllByRecursion (λ y. bytes_eq x y ≡ false) ys → has ys x ≡ false
 not_among x [] all = refl
 not_among x (y ∷ ys) all = ap (λ b. b || has ys x) all.0 ∙ not_among x ys all.1
+
+-- ---- the same ones in order
+
+absent : (x : Lei) (ys : List Lei) → AllByRecursion (λ y. slice_cmp nat_cmp x y ≡ Less) ys → has ys x ≡ false
+absent x ys all = not_among x ys (less-apart x ys all)
+
+absent_before : (x y : Lei) (ys : List Lei) → slice_cmp nat_cmp x y ≡ Less → AllByRecursion (λ z. slice_cmp nat_cmp y z ≡ Less) ys
+    → has (y ∷ ys) x ≡ false
+absent_before x y ys is all = absent x (y ∷ ys) (is, all_below x y ys is all)
+
+-- of lists in order one is determined by what is in it
+pub same_in_order : (xs ys : List Lei) → IsStrictlySortedBy (slice_cmp nat_cmp) xs → IsStrictlySortedBy (slice_cmp nat_cmp) ys
+    → ((z : Lei) → has xs z ≡ has ys z) → xs ≡ ys
+same_in_order [] [] first second same = refl
+same_in_order [] (y ∷ ys) first second same = absurd (false≢true (same y ∙ or_left (bytes_eq y y) (has ys y) (own_lei y)))
+same_in_order (x ∷ xs) [] first second same = absurd (false≢true (sym (same x) ∙ or_left (bytes_eq x x) (has xs x) (own_lei x)))
+same_in_order (x ∷ xs) (y ∷ ys) first second same = by (λ alike. same_in_order xs ys (sorted_tail (slice_cmp nat_cmp) x xs first) (sorted_tail (slice_cmp nat_cmp) y ys second) alike) (slice_cmp nat_cmp x y) refl
+  where
+    above_x : AllByRecursion (λ z. slice_cmp nat_cmp x z ≡ Less) xs
+    above_x = sorted_head (slice_cmp nat_cmp) x xs first
+
+    above_y : AllByRecursion (λ z. slice_cmp nat_cmp y z ≡ Less) ys
+    above_y = sorted_head (slice_cmp nat_cmp) y ys second
+
+    tails : x ≡ y → (z : Lei) → (bytes_eq z x ≡ true) ⊎ (bytes_eq z x ≡ false) → has xs z ≡ has ys z
+    tails one z (inl is) =
+        ap (has xs) (same_lei z x is) ∙ absent x xs above_x
+        ∙ sym (ap (has ys) (same_lei z x is ∙ one) ∙ absent y ys above_y)
+    tails one z (inr isnt) =
+        ap (λ b. b || has xs z) (sym isnt) ∙ (same z ∙ ap (λ b. b || has ys z) (ap (bytes_eq z) (sym one) ∙ isnt))
+
+    by : (((z : Lei) → has xs z ≡ has ys z) → xs ≡ ys) → (o : Ordering) → slice_cmp nat_cmp x y ≡ o → x ∷ xs ≡ y ∷ ys
+    by rest Less is =
+        absurd (false≢true (sym (absent_before x y ys is above_y) ∙ (sym (same x) ∙ or_left (bytes_eq x x) (has xs x) (own_lei x))))
+    by rest Greater is =
+        let turned_is : slice_cmp nat_cmp y x ≡ Less = nat_list_cmp_total.antisymm y x ∙ ap ordering_reverse is in
+        absurd (false≢true (sym (absent_before y x xs turned_is above_x) ∙ (same y ∙ or_left (bytes_eq y y) (has ys y) (own_lei y))))
+    by rest Equal is =
+        let one : x ≡ y = tied_leis x y is in
+        ap (λ z. z ∷ xs) one
+        ∙ ap (λ l. y ∷ l) (rest (λ z. tails one z (cases_Bool (bytes_eq z x))))
 
 pub filter-has : (test : Lei → Bool) (xs : List Lei) (y : Lei) → has (filter test xs) y ≡ true → (has xs y ≡ true) × (test y ≡ true)
 filter-has test [] y is = absurd (false≢true is)
@@ -340,3 +366,10 @@ finds p from (suc n) k low high is =
       number = (others more).number;
       is = ap (λ b. cond b (Some from) (find p (range_with_len (from + 1) n))) isnt ∙ (others more).is;
     }
+
+-- ---- a list of what each stands for
+
+pub get_or-map : {X Y : Type 0} (f : X → Y) (xs : List X) (i : ℕ) (d : Y) (e : X) → i < length xs → get_or (map f xs) i d ≡ f (get_or xs i e)
+get_or-map f [] i d e within = absurd (omega (arith, within))
+get_or-map f (x ∷ xs) zero d e within = refl
+get_or-map f (x ∷ xs) (suc i) d e within = get_or-map f xs i d e (omega (arith, within))

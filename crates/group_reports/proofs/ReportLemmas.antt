@@ -1,15 +1,18 @@
 -- The texts of reports, part by part.
-use Rattle.std.specs.Prelude.{◌≡◌, ℕ, suc, ◌+◌, ◌-◌, ◌<◌, Bool, true, cond, drop, get_or, List, [], ◌∷◌, ◌++◌, codes, decimal, filter, flat_map, length, map}
+use Rattle.std.specs.Prelude.{◌≡◌, ℕ, suc, ◌+◌, ◌-◌, ◌<◌, get_or, List, [], ◌∷◌, ◌++◌, codes, decimal, filter, flat_map, length, map}
 use Rattle.std.specs.List.{range_with_len}
-use Rattle.std.proofs.Common.{refl, sym, ap, ◌∙◌, append_assoc, drop-cons, arith}
+use Rattle.std.proofs.Common.{refl, sym, ap, subst, ◌∙◌, append_assoc, arith}
 use Rattle.std.proofs.lemmas.List.{length-map, map-append}
 use Rattle.lei_code.specs.Texts.{Lei, Text}
-use Rattle.group_reports.specs.declared.links.Link.{Link}
-use Rattle.group_reports.specs.declared.listing.Member.{Member}
+use Rattle.group_reports.specs.Links.{Link}
+use Rattle.group_reports.specs.Listings.{Member}
+use Rattle.group_reports.specs.declared.listing.Placed.{Placed}
 use Rattle.group_reports.specs.Groups.{disagrees, group, in_order, members}
 use Rattle.group_reports.specs.Links.{GroupTable}
 use Rattle.group_reports.specs.Listings.{all_members, member_of}
+use Rattle.group_reports.specs.Places.{AreBelow}
 use Rattle.group_reports.specs.Reports.{disagreement_line, disagreement_lines, group_report, line, member_line, members_line, root_line}
+use Rattle.group_reports.proofs.ListLemmas.{get_or-map}
 
 -- the members at one more depth were added
 pub next_level : (f : Lei → Member) (g : ℕ → List Lei) (made after all : List Member) (steps n : ℕ) → steps < n
@@ -23,23 +26,12 @@ next_level f g made after all steps n within so_far added =
     ∙ (ap (λ l. made ++ l) (sym (map-append f (g (steps + 1)) rest))
     ∙ (ap (λ m. made ++ map f (flat_map g (range_with_len (steps + 1) m))) (sym left) ∙ so_far)))
 
--- one more entity that passes
-pub passes_next : (test : Lei → Bool) (leis : List Lei) (i : ℕ) (lei : Lei) → i < length leis → lei ≡ get_or leis i lei → test lei ≡ true
-    → filter test (drop i leis) ≡ lei ∷ filter test (drop (i + 1) leis)
-passes_next test leis i lei within here passes =
-    let next : suc i ≡ i + 1 = omega arith in
-    ap (filter test) (drop-cons leis i lei within ∙ (ap (λ x. x ∷ drop (suc i) leis) (sym here) ∙ ap (λ k. lei ∷ drop k leis) next))
-    ∙ ap (λ b. cond b (lei ∷ filter test (drop (i + 1) leis)) (filter test (drop (i + 1) leis))) passes
-
--- the line of one more that disagrees
-pub lines_next : (f : Lei → Text) (out after all : Text) (lei : Lei) (others rest : List Lei) → others ≡ lei ∷ rest
-    → out ++ flat_map f others ≡ all → after ≡ out ++ f lei → after ++ flat_map f rest ≡ all
-lines_next f out after all lei others rest are so_far put =
-    ap (λ l. l ++ flat_map f rest) put ∙ (append_assoc out (f lei) (flat_map f rest) ∙ (ap (λ l. out ++ flat_map f l) (sym are) ∙ so_far))
-
-pub count_next : (count all : ℕ) (lei : Lei) (others rest : List Lei) → others ≡ lei ∷ rest → count + length others ≡ all → count + 1 + length rest ≡ all
-count_next count all lei others rest are so_far =
-    let more : length others ≡ suc (length rest) = ap length are in omega (arith, more, so_far)
+-- the place of a member is below a count
+pub member_below : (count : ℕ) (members : List Placed) (i : ℕ) (d : Placed) → AreBelow count (map (λ m. m.place) members) → i < length members
+    → (get_or members i d).place < count
+member_below count members i d below within =
+    subst (λ place. place < count) (get_or-map (λ m. m.place) members i 0 d within)
+    (below i 0 (subst (λ n. i < n) (sym (length-map members (λ m. m.place))) within))
 
 -- the lines of disagreements, and the line that counts them
 pub counted_lines : (links : List Link) (leis : List Lei) (old lines out number : Text) (count : ℕ)

@@ -1,89 +1,124 @@
--- Walks up, step by step.
-use Rattle.std.specs.Prelude.{◌≡◌, ℕ, zero, suc, ◌+◌, ◌-◌, ◌<◌, ◌≤◌, Bool, false, cond, ◌&&◌, List, length, Option, None, Some, find, is_some, is_none, option_and_then}
+-- Walks up along direct parents, and where they end.
+use Rattle.std.specs.Prelude.{◌≡◌, ℕ, zero, suc, ◌+◌, ◌-◌, ◌<◌, ◌≤◌, Bool, true, false, cond, ◌&&◌, List, length, Option, None, Some, find, is_some, is_none, option_and_then}
 use Rattle.std.specs.List.{range_with_len}
-use Rattle.std.proofs.Common.{refl, sym, ap, ◌∙◌, arith}
+use Rattle.std.proofs.Common.{refl, sym, ap, ◌∙◌, ◌⊎◌, inl, inr, arith}
+use Rattle.std.proofs.lemmas.Bool.{and_parts, cases_lt, false≢true}
 use Rattle.lei_code.specs.Texts.{Lei}
-use Rattle.group_reports.specs.declared.links.Link.{Link}
 use Rattle.group_reports.specs.Groups.{ends_after, top, up}
-use Rattle.group_reports.specs.Links.{direct}
+use Rattle.group_reports.specs.Links.{Link, direct}
+use Rattle.group_reports.proofs.ChainLemmas.{Least, least-few, lei_or, some_least}
+use Rattle.group_reports.proofs.ListLemmas.{FoundAt, finds, found}
 
--- the first of the numbers from one on, of which there is one
-next_number : (p : ℕ → Bool) (from n m : ℕ) → n ≡ suc m
-    → find p (range_with_len from n) ≡ cond (p from) (Some from) (find p (range_with_len (from + 1) m))
-next_number p from n m e = ap (λ n. find p (range_with_len from n)) e
+-- no number is found if none passes
+none_found : (p : ℕ → Bool) (from n : ℕ) → ((k : ℕ) → from ≤ k → k < from + n → p k ≡ false) → find p (range_with_len from n) ≡ None
+none_found p from zero fails = refl
+none_found p from (suc n) fails =
+    ap (λ b. cond b (Some from) (find p (range_with_len (from + 1) n))) (fails from (omega arith) (omega arith))
+    ∙ none_found p (from + 1) n (λ k low high. fails k (omega (arith, low)) (omega (arith, high)))
 
-no_number : (p : ℕ → Bool) (from n : ℕ) → n ≡ 0 → find p (range_with_len from n) ≡ None
-no_number p from n e = ap (λ n. find p (range_with_len from n)) e
+some-is : (o : Option Lei) → is_none o ≡ true → o ≡ None
+some-is None is = refl
+some-is (Some lei) is = absurd (false≢true is)
 
-plus : (k : ℕ) → k + 1 ≡ suc k
-plus k = omega arith
+module _ (links : List Link) where
+  -- a walk that ended stays so
+  gone_on : (lei : Lei) (k n : ℕ) → up links lei k ≡ None → up links lei (n + k) ≡ None
+  gone_on lei k zero gone = ap (up links lei) (let same : zero + k ≡ k = omega arith in same) ∙ gone
+  gone_on lei k (suc n) gone =
+      ap (up links lei) (let more : suc n + k ≡ suc (n + k) = omega arith in more)
+      ∙ ap (option_and_then (direct links)) (gone_on lei k n gone)
 
-all : (n : ℕ) → n - 0 ≡ n
-all n = omega arith
+  gone_at : (lei : Lei) (k j : ℕ) → k ≤ j → up links lei k ≡ None → up links lei j ≡ None
+  gone_at lei k j after gone =
+      ap (up links lei) (let same : j ≡ (j - k) + k = omega (arith, after) in same)
+      ∙ gone_on lei k (j - k) gone
 
-module _ (links : List Link) (lei : Lei) where
-  up-next : (k : ℕ) (current : Lei) (o : Option Lei) → up links lei k ≡ Some current → direct links current ≡ o → up links lei (k + 1) ≡ o
-  up-next k current o at is = ap (up links lei) (plus k) ∙ ap (option_and_then (direct links)) at ∙ is
+  -- the walk ended before so many steps
+  pub record Ended (lei : Lei) (m : ℕ) (end : Lei) : Type 0 where
+    pub steps : ℕ
+    pub before : steps < m
+    pub leads : up links lei steps ≡ Some end
+    pub over : direct links end ≡ None
 
-  -- after its end a walk has no numbers of steps
-  gone : (p : ℕ → Bool) → ((k : ℕ) → up links lei k ≡ None → p k ≡ false) → (from n : ℕ) → up links lei from ≡ None
-      → find p (range_with_len from n) ≡ None
-  gone p fails from zero end = refl
-  gone p fails from (suc n) end =
-      ap (λ b. cond b (Some from) (find p (range_with_len (from + 1) n))) (fails from end)
-      ∙ gone p fails (from + 1) n (ap (up links lei) (plus from) ∙ ap (option_and_then (direct links)) end)
+  -- where so many steps lead, which stay at the end of the walk
+  abbrev pub Far : Lei → ℕ → Lei → Type 0
+  Far lei m end = (up links lei m ≡ Some end) ⊎ Ended lei m end
 
-  -- ---- the end of a walk
+  pub far_step : (lei : Lei) (m : ℕ) (end : Lei) (o : Option Lei) → direct links end ≡ o → Far lei m end → Far lei (suc m) (lei_or end o)
+  far_step lei m end None none (inl at) = inr (record { steps = m; before = omega arith; leads = at; over = none })
+  far_step lei m end None none (inr ended) =
+      let before : ended.steps < m = ended.before in
+      inr (record { steps = ended.steps; before = omega (arith, before); leads = ended.leads; over = none })
+  far_step lei m end (Some next) step (inl at) = inl (ap (option_and_then (direct links)) at ∙ step)
+  far_step lei m end (Some next) step (inr ended) =
+      let never : None ≡ Some next = sym ended.over ∙ step in absurd cc
 
-  abbrev ends : ℕ → Bool
-  ends k = ends_after links lei k
+  -- ---- the ultimate parent as it is computed
 
-  ends_not : (k : ℕ) → up links lei k ≡ None → ends k ≡ false
-  ends_not k end = ap (λ o. is_some o && is_none (up links lei (suc k))) end
+  module _ (lei : Lei) where
+    -- without a direct parent there is none
+    pub top_alone : direct links lei ≡ None → top links lei ≡ None
+    top_alone none =
+        ap (option_and_then (up links lei))
+        (none_found (λ k. ends_after links lei k) 1 (length links)
+        (λ k low high. ap (λ o. is_some o && is_none (up links lei (suc k))) (gone_at lei 1 k low none)))
 
-  -- after some steps and one more the walk stands at an entity, and its end is found among the numbers that are left
-  pub record Climbs (steps : ℕ) (current : Lei) : Type 0 where
-    pub at : up links lei (steps + 1) ≡ Some current
-    pub left : find ends (range_with_len (steps + 1) (length links - steps)) ≡ find ends (range_with_len 1 (length links))
+    -- nor if the walk goes on after as many steps as there are links
+    pub top_around : (end next : Lei) (m : ℕ) → length links ≤ m → Far lei m end → direct links end ≡ Some next → top links lei ≡ None
+    top_around end next m enough (inr ended) step = let never : None ≡ Some next = sym ended.over ∙ step in absurd cc
+    top_around end next m enough (inl at) step =
+        ap (option_and_then (up links lei)) (none_found (λ k. ends_after links lei k) 1 (length links) (λ k low high. goes_on k high (up links lei (suc k)) refl))
+      where
+        further : up links lei (suc m) ≡ Some next
+        further = ap (option_and_then (direct links)) at ∙ step
 
-  pub climbs_not : direct links lei ≡ None → top links lei ≡ None
-  climbs_not none =
-      ap (option_and_then (up links lei)) (gone ends ends_not 1 (length links) (up-next 0 lei None refl none))
+        drop_end : (a : Bool) → (a && false) ≡ false
+        drop_end true = refl
+        drop_end false = refl
 
-  pub climbs_first : (next : Lei) → direct links lei ≡ Some next → Climbs 0 next
-  climbs_first next step = record {
-    at = up-next 0 lei (Some next) refl step;
-    left = ap (λ n. find ends (range_with_len 1 n)) (all (length links));
-  }
+        goes_on : (k : ℕ) → k < 1 + length links → (o : Option Lei) → up links lei (suc k) ≡ o → ends_after links lei k ≡ false
+        goes_on k high (Some other) is =
+            ap (λ o. is_some (up links lei k) && is_none o) is ∙ drop_end (is_some (up links lei k))
+        goes_on k high None is =
+            let never : None ≡ Some next = sym (gone_at lei (suc k) (suc m) (omega (arith, high, enough)) is) ∙ further in
+            absurd cc
 
-  pub climbs_over : (steps : ℕ) (current : Lei) → Climbs steps current → length links ≤ steps → top links lei ≡ None
-  climbs_over steps current climbs over =
-      ap (option_and_then (up links lei))
-      (sym climbs.left ∙ no_number ends (steps + 1) (length links - steps) (omega (arith, over)))
+    -- or else it is where the walk ends
+    pub top_end : (end next : Lei) (m : ℕ) → Far lei m end → direct links lei ≡ Some next → direct links end ≡ None → top links lei ≡ Some end
+    top_end end next m far step over = by (least far)
+      where
+        least : Far lei m end → Least links end lei
+        least (inl at) = some_least links end lei m at
+        least (inr ended) = some_least links end lei ended.steps ended.leads
 
-  ends_at : (steps : ℕ) (current : Lei) (o : Option Lei) → Climbs steps current → direct links current ≡ o → ends (steps + 1) ≡ is_none o
-  ends_at steps current o climbs is =
-      ap (λ k. is_some (up links lei (steps + 1)) && is_none (up links lei k)) (sym (plus (steps + 1)))
-      ∙ (ap (λ x. is_some x && is_none (up links lei (steps + 1 + 1))) climbs.at
-      ∙ ap is_none (up-next (steps + 1) current o climbs.at is))
+        some : (k : ℕ) → up links lei k ≡ Some end → 1 ≤ k
+        some zero is =
+            let same : lei ≡ end = ap (lei_or lei) is in
+            let never : None ≡ Some next = sym over ∙ (ap (direct links) (sym same) ∙ step) in
+            absurd cc
+        some (suc k) is = omega arith
 
-  pub climbs_end : (steps : ℕ) (current : Lei) → Climbs steps current → steps < length links → direct links current ≡ None
-      → top links lei ≡ Some current
-  climbs_end steps current climbs within none =
-      ap (option_and_then (up links lei))
-      (sym climbs.left
-      ∙ next_number ends (steps + 1) (length links - steps) (length links - (steps + 1)) (omega (arith, within))
-      ∙ ap (λ b. cond b (Some (steps + 1)) (find ends (range_with_len (steps + 1 + 1) (length links - (steps + 1)))))
-      (ends_at steps current None climbs none))
-      ∙ climbs.at
+        at_end : (k : ℕ) → up links lei k ≡ Some end → ends_after links lei k ≡ true
+        at_end k is =
+            ap (λ o. is_some o && is_none (up links lei (suc k))) is
+            ∙ ap is_none (ap (option_and_then (direct links)) is ∙ over)
 
-  pub climbs_on : (steps : ℕ) (current next : Lei) → Climbs steps current → steps < length links → direct links current ≡ Some next
-      → Climbs (steps + 1) next
-  climbs_on steps current next climbs within step = record {
-    at = up-next (steps + 1) current (Some next) climbs.at step;
-    left =
-        sym (ap (λ b. cond b (Some (steps + 1)) (find ends (range_with_len (steps + 1 + 1) (length links - (steps + 1)))))
-        (ends_at steps current (Some next) climbs step))
-        ∙ sym (next_number ends (steps + 1) (length links - steps) (length links - (steps + 1)) (omega (arith, within)))
-        ∙ climbs.left;
-  }
+        same_end : (k j : ℕ) → up links lei k ≡ Some end → FoundAt (λ k. ends_after links lei k) 1 (length links) j → j ≡ k
+        same_end k j is at = order (cases_lt j k) (cases_lt k j)
+          where
+            order : (j < k) ⊎ (k ≤ j) → (k < j) ⊎ (j ≤ k) → j ≡ k
+            order (inl less) other =
+                let parts = and_parts (is_some (up links lei j)) (is_none (up links lei (suc j))) at.passes in
+                let never : None ≡ Some end = sym (gone_at lei (suc j) k (omega (arith, less)) (some-is (up links lei (suc j)) parts.1)) ∙ is in
+                absurd cc
+            order (inr up_to) (inl more) = absurd (false≢true (sym (at.first k (some k is) more) ∙ at_end k is))
+            order (inr up_to) (inr down_to) = omega (arith, up_to, down_to)
+
+        by : Least links end lei → top links lei ≡ Some end
+        by first =
+            let k = first.steps in
+            let is : up links lei k ≡ Some end = first.is.leads in
+            let few : k ≤ length links = least-few links end k lei first.is in
+            let one = finds (λ k. ends_after links lei k) 1 (length links) k (some k is) (omega (arith, few)) (at_end k is) in
+            ap (option_and_then (up links lei)) one.is
+            ∙ (ap (up links lei) (same_end k one.number is (found (λ k. ends_after links lei k) 1 (length links) one.number one.is)) ∙ is)

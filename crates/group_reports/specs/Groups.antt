@@ -7,8 +7,7 @@ use Rattle.std.specs.List.{range_with_len}
 use Rattle.std.specs.Ordering.{nat_cmp}
 use Rattle.std.specs.Str.{bytes_eq}
 use Rattle.lei_code.specs.Texts.{Lei}
-use Rattle.group_reports.specs.declared.links.Link.{Link}
-use Rattle.group_reports.specs.Links.{direct, reported}
+use Rattle.group_reports.specs.Links.{Link, direct, reported}
 
 -- The different ones of the LEIs, in byte order.
 abbrev pub in_order : List Lei → List Lei

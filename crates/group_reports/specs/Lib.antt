@@ -1,6 +1,8 @@
 pub mod Links
-pub mod FirstTexts
 pub mod Groups
+pub mod Places
+pub mod Arcs
+pub mod Indexed
+pub mod Named
 pub mod Listings
-pub mod Levels
 pub mod Reports

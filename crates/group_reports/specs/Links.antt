@@ -7,10 +7,15 @@ use Rattle.copy_csv.specs.declared.heads.Head.{Head}
 use Rattle.copy_csv.specs.Sheets.{SheetRow}
 use Rattle.group_reports.specs.declared.faults.GroupFault.{GroupFault}
 use Rattle.group_reports.specs.declared.faults.GroupFault.TheVariants as faults
-use Rattle.group_reports.specs.declared.links.Link.{Link}
-use Rattle.group_reports.specs.declared.links.LinkKind.{LinkKind}
+use Rattle.group_reports.specs.declared.kinds.LinkKind.{LinkKind}
 
 -- ---- links
+
+-- A row of `rr`: its start, what it says of it, and its end.
+pub record Link : Type 0 where
+  pub start : Lei
+  pub kind : LinkKind
+  pub end : Lei
 
 -- What a relationship of a type says of its start, if it is ACTIVE.
 abbrev pub kind_of_type : Text → LinkKind

@@ -2,11 +2,9 @@
 use Rattle.std.specs.Prelude.{ℕ, List, [], ◌∷◌, ◌++◌, Option, codes, decimal, filter, flat_map, length, option_and_then, unwrap_or}
 use Rattle.lei_code.specs.Texts.{Lei, Text}
 use Rattle.lei_records.specs.Spelled.{present}
-use Rattle.group_reports.specs.declared.links.Link.{Link}
-use Rattle.group_reports.specs.declared.listing.Member.{Member}
 use Rattle.group_reports.specs.Groups.{disagrees, group, members, starts, top, up}
-use Rattle.group_reports.specs.Links.{GroupTable, Name, name_at, reported}
-use Rattle.group_reports.specs.Listings.{all_members}
+use Rattle.group_reports.specs.Links.{GroupTable, Link, Name, name_at, reported}
+use Rattle.group_reports.specs.Listings.{Member, all_members}
 
 -- A word with the space before it.
 abbrev pub after_space : Text → Text

@@ -93,14 +93,3 @@ pub fn add(alloc: Global, entities: &mut BTreeSet<Entity>, lei: &str) -> Result<
         Err(_) => Err(NoMemory),
     }
 }
-
-/// Entities in byte order as a vector.
-pub fn listed(alloc: Global, entities: BTreeSet<Entity>) -> Result<Vec<Entity>, NoMemory>
-    ensures { IfOk result (λ made. made.items ≡ entities.keys) }
-{
-    let mut made = Vec::new(alloc);
-    for entity in entities {
-        made.push(entity)?;
-    }
-    Ok(made)
-}

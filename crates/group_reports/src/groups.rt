@@ -6,13 +6,12 @@ ghost use Rattle.group_reports.specs.declared.faults.ReportFault.{ReportFault as
 ghost use Rattle.group_reports.specs.Links.{IsRefusal, IsTableOf, name_at, publication_in};
 ghost use Rattle.group_reports.specs.Reports as spec;
 
-use crate::entity::Entity;
 use crate::faults::{GroupFault, ReportFault};
 use crate::links::Links;
-use crate::listing::{group_of, members};
 use crate::names::Names;
-use crate::opening::{check, starts_of};
-use crate::reports::{put_disagreements, put_members, put_members_line, put_root};
+use crate::opening::check;
+use crate::reports::put_disagreements;
+use crate::texts::{group_text, lone_text};
 use copy_csv::CopyRead;
 use lei_outside::{Bytes, NoMemory};
 use std::alloc::Global;
@@ -25,8 +24,6 @@ pub struct Groups {
     alloc: Global,
     names: Names,
     links: Links,
-    // The starts of the links, each once and in byte order.
-    starts: Vec<Entity>,
 }
 
 impl Model for Groups {
@@ -34,12 +31,7 @@ impl Model for Groups {
 
     ghost Value = { GroupTable };
 
-    ghost view = { λ groups. record { names = groups.names; links = groups.links } };
-
-    ghost use Rattle.std.specs.Prelude.{◌≡◌};
-    ghost use Rattle.group_reports.specs.Groups as of_links;
-
-    ghost invariant = { λ groups. groups.starts.items ≡ of_links.starts groups.links };
+    ghost view = { λ groups. record { names = groups.names; links = groups.links.links } };
 }
 
 impl Groups {
@@ -54,13 +46,11 @@ impl Groups {
     {
         check(&lei.head, &rr.head)?;
         let names = Names::of(alloc, lei.rows.as_slice())?;
-        let links = Links::of(alloc, rr.rows.as_slice())?;
-        let starts = starts_of(alloc, links.items())?;
+        let links = Links::of(alloc, &rr.rows)?;
         Ok(Groups {
             alloc,
             names,
             links,
-            starts,
         })
     }
 
@@ -74,23 +64,11 @@ impl Groups {
         if self.names.name_at(who).is_none() {
             return Err(ReportFault::LeiUnknown);
         }
-        let bytes = self.group_text(who)?;
+        let bytes = match self.links.find(who) {
+            Some(root) => group_text(self.alloc, &self.names, &self.links, root)?,
+            None => lone_text(self.alloc, &self.names, &self.links, who)?,
+        };
         Ok(bytes)
-    }
-
-    // The text of a report on a group.
-    #[tactic(auto, unfolding(crate::specs::Reports::group_report))]
-    fn group_text(&self, who: &str) -> Result<Bytes, NoMemory>
-        ensures { IfOk result (λ bytes. bytes ≡ spec.group_report self.now who.now) }
-    {
-        let members = members(self.alloc, &self.links, self.starts.as_slice(), who)?;
-        let group = group_of(self.alloc, who, members.as_slice())?;
-        let mut out = Vec::new(self.alloc);
-        put_root(&mut out, &self.names, who)?;
-        put_members(&mut out, &self.names, &self.links, members.as_slice())?;
-        put_members_line(&mut out, members.len())?;
-        put_disagreements(&mut out, &self.links, group.as_slice())?;
-        Ok(Bytes::from(out))
     }
 
     /// The disagreements of all entities at which a relationship starts.
@@ -99,7 +77,7 @@ impl Groups {
         ensures { IfOk result (λ bytes. bytes ≡ spec.disagreement_report self.now) }
     {
         let mut out = Vec::new(self.alloc);
-        put_disagreements(&mut out, &self.links, self.starts.as_slice())?;
+        put_disagreements(&mut out, &self.links, self.links.starts())?;
         Ok(Bytes::from(out))
     }
 }

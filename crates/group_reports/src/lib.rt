@@ -1,18 +1,23 @@
 //! Reports on groups: who belongs to an entity by direct parents, and where reported ultimate parents differ.
 #![tactic(auto)]
 
+mod arcs;
 mod entity;
 mod faults;
-mod first_texts;
+mod finding;
 mod groups;
+mod kinds;
 mod laws;
 mod lines;
 mod links;
 mod listing;
 mod names;
 mod opening;
+mod places;
 mod reports;
-mod walks;
+mod texts;
+mod tops;
+mod tree;
 
 pub use faults::{GroupFault, ReportFault};
 pub use groups::Groups;

@@ -1,168 +1,180 @@
 //! Rows of a golden copy of `rr` as links between entities.
-ghost use Rattle.std.specs.Prelude.{◌≡◌, length, map, option_map, IfOk};
+ghost use Rattle.std.specs.Prelude.{◌≡◌, ◌<◌, length, map, option_map, IfOk};
 ghost use Rattle.std.specs.List.{All};
-ghost use Rattle.lei_code.specs.Texts.{Lei};
 ghost use Rattle.copy_csv.specs.Rows.{IsRowOf};
-ghost use Rattle.group_reports.specs.FirstTexts.{text_under};
 ghost use Rattle.register_words.specs.declared.sheets.Sheet.{Sheet as DeclaredSheet};
+ghost use Rattle.group_reports.specs.Groups as groups;
 ghost use Rattle.group_reports.specs.Links as spec;
+ghost use Rattle.group_reports.specs.Places.{AreBelow, Finds, IsBelow, IsPlaceOf, are_same, at, at_some, leis_of, places_in_order};
 
-use crate::first_texts::FirstTexts;
-use copy_csv::{Row, Sheet};
-use lei_outside::{NoMemory, Text};
+use crate::arcs::{Arc, arcs_of, first_ends};
+use crate::kinds::LinkKind;
+use crate::places::Places;
+use crate::tops::tops_of;
+use crate::tree::{Tree, add_place, listed};
+use copy_csv::Row;
+use lei_outside::{List, NoMemory};
 use std::alloc::Global;
+use std::collections::BTreeSet;
 use std::marker::Model;
+use std::snapshot::Snapshot;
 
-/// What a row says of the entity at its start.
-#[derive(Clone, Copy, Debug, PartialEq, Eq)]
-pub enum LinkKind {
-    /// The end is its direct parent.
-    Direct,
-    /// The end is its ultimate parent.
-    Ultimate,
-    /// The relationship isn't ACTIVE, or it is of another type.
-    Other,
-}
-
-/// A row: its start, what it says of it, and its end.
-#[derive(Debug, Drop)]
-pub struct Link {
-    pub start: Text,
-    pub kind: LinkKind,
-    pub end: Text,
-}
-
-impl Link {
-    /// The link of a row.
-    pub fn of(alloc: Global, row: &Row) -> Result<Self, NoMemory>
-        requires { row.now.sheet ≡ DeclaredSheet.Rr }
-        ensures { IfOk result (λ link. link ≡ spec.link_of row.now) }
-    {
-        let is_relation = row.sheet() == Sheet::Rr;
-        prove!(is_relation);
-        let start = Text::copy_of(alloc, row.text(1))?;
-        let end = Text::copy_of(alloc, row.text(3))?;
-        let kind = kind_of(row.text(2), row.text(4));
-        Ok(Link { start, kind, end })
-    }
-}
-
-// What a relationship of a type and with a status says of its start.
-fn kind_of(text: &str, status: &str) -> LinkKind
-    ensures { result ≡ spec.kind_by text.now status.now }
-{
-    if status != "ACTIVE" {
-        LinkKind::Other
-    } else if text == "IS_DIRECTLY_CONSOLIDATED_BY" {
-        LinkKind::Direct
-    } else if text == "IS_ULTIMATELY_CONSOLIDATED_BY" {
-        LinkKind::Ultimate
-    } else {
-        LinkKind::Other
-    }
-}
-
-/// All links in the order of the keys of their rows. Contracts see the list of them.
+/// What reports need of links. Each LEI is known by its place. Contracts see the list of the links, in the order of the
+/// keys of their rows, and the list of the LEIs.
 #[derive(Drop)]
 pub struct Links {
-    items: Vec<Link>,
-    parents: FirstTexts,
-    ultimates: FirstTexts,
+    // The rows that they were read from. It takes no bytes.
+    rows: Snapshot<List<Row>>,
+    count: usize,
+    places: Places,
+    // Where links start.
+    starts: Vec<usize>,
+    tree: Tree,
+    // The ultimate parents that are reported, and those that are computed.
+    ultimates: Vec<Option<usize>>,
+    tops: Vec<Option<usize>>,
 }
 
 impl Model for Links {
-    ghost use Rattle.std.specs.Prelude.{List};
-    ghost use Rattle.group_reports.specs.declared.links.Link.{Link as Declared};
-    ghost use Rattle.group_reports.specs.FirstTexts.{FindsParents};
+    ghost use Rattle.std.specs.Prelude.{map};
+    ghost use Rattle.group_reports.specs.Links.{link_of};
+    ghost use Rattle.group_reports.specs.Indexed.{IsIndexed, LinkTable};
 
-    ghost Value = { List Declared };
+    ghost Value = { LinkTable };
 
-    ghost view = { λ links. links.items.items };
+    ghost view = { λ links. record { links = map link_of links.rows.value; leis = links.places } };
 
-    ghost invariant = { λ links. FindsParents links.items.items links.parents links.ultimates };
+    ghost invariant = { λ links. IsIndexed (map link_of links.rows.value) links.count links.places links.starts.items
+        links.tree links.ultimates.items links.tops.items };
 }
 
 impl Links {
     /// The links of rows of `rr`.
-    pub fn of(alloc: Global, rows: &[Row]) -> Result<Self, NoMemory>
+    pub fn of(alloc: Global, rows: &List<Row>) -> Result<Self, NoMemory>
         requires { All (IsRowOf DeclaredSheet.Rr) rows.now }
-        ensures { IfOk result (λ links. links ≡ map spec.link_of rows.now) }
+        ensures { IfOk result (λ links. links.links ≡ map spec.link_of rows.now) }
     {
-        let items = links_of(alloc, rows)?;
-        let parents = parents_of(alloc, items.as_slice())?;
-        let ultimates = ultimates_of(alloc, items.as_slice())?;
+        let count = rows.len();
+        let places = Places::of(alloc, rows.as_slice())?;
+        let arcs = arcs_of(alloc, &places, rows.as_slice())?;
+        let starts = starts_of(alloc, arcs.as_slice())?;
+        let parents = first_ends(alloc, places.len(), arcs.as_slice(), LinkKind::Direct)?;
+        let ultimates = first_ends(alloc, places.len(), arcs.as_slice(), LinkKind::Ultimate)?;
+        let tops = tops_of(alloc, parents.as_slice(), count)?;
+        let tree = Tree::of(alloc, parents)?;
         Ok(Links {
-            items,
-            parents,
+            rows: Snapshot::of(rows),
+            count,
+            places,
+            starts,
+            tree,
             ultimates,
+            tops,
         })
     }
 
     /// How many they are.
     pub fn len(&self) -> usize
-        ensures { result ≡ length self.now }
+        ensures { result ≡ length self.now.links }
     {
-        self.items.len()
+        self.count
     }
 
-    /// The links, lent.
-    pub fn items(&self) -> &[Link]
-        ensures { result.now ≡ self.now }
+    /// The place of an LEI, if a link starts or ends there.
+    pub fn find(&self, lei: &str) -> Option<usize>
+        ensures place { IsPlaceOf self.now.leis lei.now result }
+        ensures leis { self.now.leis ≡ leis_of self.now.links }
     {
-        self.items.as_slice()
+        self.places.find(lei)
+    }
+
+    /// The LEI at a place.
+    pub fn lei(&self, place: usize) -> &str
+        requires { place < length self.now.leis }
+        ensures lei { result.now ≡ at self.now.leis place }
+        ensures leis { self.now.leis ≡ leis_of self.now.links }
+    {
+        self.places.lei(place)
+    }
+
+    /// The places at which links start, in order.
+    pub fn starts(&self) -> &[usize]
+        ensures leis { map (at self.now.leis) result.now ≡ groups.starts self.now.links }
+        ensures below { AreBelow (length self.now.leis) result.now }
+    {
+        self.starts.as_slice()
+    }
+
+    /// The direct parents.
+    pub fn tree(&self) -> &Tree
+        ensures parents { Finds self.now.leis result.now (spec.direct self.now.links) }
+        ensures leis { self.now.leis ≡ leis_of self.now.links }
+    {
+        &self.tree
     }
 
     /// The direct parent of an entity, if it has one.
-    pub fn direct(&self, lei: &str) -> Option<&str>
-        ensures { option_map (λ end. end.now) result ≡ spec.direct self.now lei.now }
+    pub fn direct(&self, place: usize) -> Option<&str>
+        requires { place < length self.now.leis }
+        ensures { option_map (λ end. end.now) result ≡ spec.direct self.now.links (at self.now.leis place) }
     {
-        self.parents.get(lei)
+        self.lei_of(self.tree.parents()[place])
     }
 
     /// The ultimate parent that is reported for an entity, if one is.
-    pub fn reported(&self, lei: &str) -> Option<&str>
-        ensures { option_map (λ end. end.now) result ≡ spec.reported self.now lei.now }
+    pub fn reported(&self, place: usize) -> Option<&str>
+        requires { place < length self.now.leis }
+        ensures { option_map (λ end. end.now) result ≡ spec.reported self.now.links (at self.now.leis place) }
     {
-        self.ultimates.get(lei)
+        self.lei_of(self.ultimates[place])
     }
-}
 
-// Rows of `rr` as links.
-fn links_of(alloc: Global, rows: &[Row]) -> Result<Vec<Link>, NoMemory>
-    requires { All (IsRowOf DeclaredSheet.Rr) rows.now }
-    ensures { IfOk result (λ links. links.items ≡ map spec.link_of rows.now) }
-{
-    let mut links = Vec::with_capacity(alloc, rows.len())?;
-    for row in rows {
-        links.push(Link::of(alloc, row)?)?;
+    /// The ultimate parent of an entity as it is computed, if there is one.
+    pub fn top(&self, place: usize) -> Option<&str>
+        requires { place < length self.now.leis }
+        ensures { option_map (λ end. end.now) result ≡ groups.top self.now.links (at self.now.leis place) }
+    {
+        self.lei_of(self.tops[place])
     }
-    Ok(links)
-}
 
-// The end of the first link of each start that names a direct parent.
-fn parents_of(alloc: Global, links: &[Link]) -> Result<FirstTexts, NoMemory>
-    ensures { IfOk result (λ parents. (lei : Lei) → text_under parents lei ≡ spec.direct links.now lei) }
-{
-    let mut parents = FirstTexts::new(alloc);
-    for link in links {
-        if !matches!(link.kind, LinkKind::Direct) {
-            continue;
+    /// Whether the ultimate parent that is reported for an entity isn't the one that is computed.
+    pub fn disagrees(&self, place: usize) -> bool
+        requires { place < length self.now.leis }
+        ensures { result ≡ groups.disagrees self.now.links (at self.now.leis place) }
+    {
+        !is_same(self.ultimates[place], self.tops[place])
+    }
+
+    // The LEI at a place that may be missing.
+    fn lei_of(&self, place: Option<usize>) -> Option<&str>
+        requires { IsBelow (length self.now.leis) place }
+        ensures { option_map (λ lei. lei.now) result ≡ at_some self.now.leis place }
+    {
+        match place {
+            Some(place) => Some(self.places.lei(place)),
+            None => None,
         }
-        parents.put(link.start.as_str(), link.end.as_str())?;
     }
-    Ok(parents)
 }
 
-// The end of the first link of each start that names an ultimate parent.
-fn ultimates_of(alloc: Global, links: &[Link]) -> Result<FirstTexts, NoMemory>
-    ensures { IfOk result (λ ultimates. (lei : Lei) → text_under ultimates lei ≡ spec.reported links.now lei) }
+// Whether both are missing, or both are there and the same.
+fn is_same(one: Option<usize>, other: Option<usize>) -> bool
+    ensures { result ≡ are_same one other }
 {
-    let mut ultimates = FirstTexts::new(alloc);
-    for link in links {
-        if !matches!(link.kind, LinkKind::Ultimate) {
-            continue;
-        }
-        ultimates.put(link.start.as_str(), link.end.as_str())?;
+    match (one, other) {
+        (None, None) => true,
+        (Some(one), Some(other)) => one == other,
+        _ => false,
     }
-    Ok(ultimates)
+}
+
+// The places at which arcs start, each once and in order.
+fn starts_of(alloc: Global, arcs: &[Arc]) -> Result<Vec<usize>, NoMemory>
+    ensures { IfOk result (λ starts. starts.items ≡ places_in_order (map (λ arc. arc.start) arcs.now)) }
+{
+    let mut starts = BTreeSet::new(alloc);
+    for arc in arcs {
+        add_place(&mut starts, arc.start)?;
+    }
+    listed(alloc, starts)
 }

@@ -1,54 +1,59 @@
 //! Names of entities.
-ghost use Rattle.std.specs.Prelude.{◌≡◌, map, option_map, IfOk};
+ghost use Rattle.std.specs.Prelude.{◌≡◌, ◌≤◌, map, option_map, IfOk};
 ghost use Rattle.std.specs.List.{All};
-ghost use Rattle.lei_code.specs.Texts.{Lei};
+ghost use Rattle.lei_records.specs.Rows.{text_at};
 ghost use Rattle.register_words.specs.declared.sheets.Sheet.{Sheet as DeclaredSheet};
-ghost use Rattle.copy_csv.specs.Rows.{IsRowOf};
-ghost use Rattle.group_reports.specs.FirstTexts.{FindsNames, text_under};
+ghost use Rattle.copy_csv.specs.Rows.{AreRows, IsRowOf};
 ghost use Rattle.group_reports.specs.Links as spec;
+ghost use Rattle.group_reports.specs.Named.{AreNamed};
 ghost use Rattle.group_reports.specs.Reports.{name_of, or_hyphen as spec_or_hyphen};
 
-use crate::first_texts::FirstTexts;
-use copy_csv::{Row, Sheet};
-use lei_outside::{NoMemory, Text};
+use crate::finding::find;
+use copy_csv::{Row, Sheet, Texts};
+use lei_outside::NoMemory;
 use std::alloc::Global;
 use std::marker::Model;
 
 /// The LEI and the name of each row of `lei`. Contracts see the list of them.
 #[derive(Drop)]
 pub struct Names {
-    items: Vec<(Text, Text)>,
-    texts: FirstTexts,
+    leis: Texts,
+    texts: Texts,
 }
 
 impl Model for Names {
-    ghost use Rattle.std.specs.Prelude.{List};
-    ghost use Rattle.group_reports.specs.FirstTexts.{FindsNames};
+    ghost use Rattle.std.specs.Prelude.{List, zip};
     ghost use Rattle.group_reports.specs.Links.{Name};
+    ghost use Rattle.group_reports.specs.Named.{AreNamed};
 
     ghost Value = { List Name };
 
-    ghost view = { λ names. names.items.items };
+    ghost view = { λ names. zip names.leis names.texts };
 
-    ghost invariant = { λ names. FindsNames names.items.items names.texts };
+    ghost invariant = { λ names. AreNamed names.leis names.texts };
 }
 
 impl Names {
     /// The names of rows of `lei`.
     pub fn of(alloc: Global, rows: &[Row]) -> Result<Self, NoMemory>
-        requires { All (IsRowOf DeclaredSheet.Lei) rows.now }
+        requires { AreRows DeclaredSheet.Lei rows.now }
         ensures { IfOk result (λ names. names ≡ map spec.named rows.now) }
     {
-        let items = names_of(alloc, rows)?;
-        let texts = texts_of(alloc, items.as_slice())?;
-        Ok(Names { items, texts })
+        let leis = texts_of(alloc, rows, 1)?;
+        let texts = texts_of(alloc, rows, 2)?;
+        Ok(Names { leis, texts })
     }
 
     /// The name in the row of an entity, if it has a row.
     pub fn name_at(&self, lei: &str) -> Option<&str>
         ensures { option_map (λ name. name.now) result ≡ spec.name_at self.now lei.now }
     {
-        self.texts.get(lei)
+        let Some(place) = find(&self.leis, lei) else {
+            return None;
+        };
+        let is_there = place < self.texts.len();
+        prove!(is_there);
+        Some(self.texts.text(place + 1))
     }
 
     /// The name of an entity, or a hyphen if it is missing.
@@ -65,37 +70,18 @@ impl Names {
     }
 }
 
-// The LEIs and names of rows of `lei`.
-fn names_of(alloc: Global, rows: &[Row]) -> Result<Vec<(Text, Text)>, NoMemory>
-    requires { All (IsRowOf DeclaredSheet.Lei) rows.now }
-    ensures { IfOk result (λ names. names.items ≡ map spec.named rows.now) }
+// The texts of rows of `lei` at a place.
+fn texts_of(alloc: Global, rows: &[Row], place: usize) -> Result<Texts, NoMemory>
+    requires rows { All (IsRowOf DeclaredSheet.Lei) rows.now }
+    requires first { 1 ≤ place }
+    requires last { place ≤ 2 }
+    ensures { IfOk result (λ texts. texts ≡ map (λ row. text_at row.texts place) rows.now) }
 {
-    let mut names = Vec::with_capacity(alloc, rows.len())?;
+    let mut texts = Texts::new(alloc);
     for row in rows {
-        names.push(named(alloc, row)?)?;
-    }
-    Ok(names)
-}
-
-// The LEI and the name of a row of `lei`.
-fn named(alloc: Global, row: &Row) -> Result<(Text, Text), NoMemory>
-    requires { row.now.sheet ≡ DeclaredSheet.Lei }
-    ensures { IfOk result (λ name. name ≡ spec.named row.now) }
-{
-    let is_record = row.sheet() == Sheet::Lei;
-    prove!(is_record);
-    let lei = Text::copy_of(alloc, row.text(1))?;
-    let name = Text::copy_of(alloc, row.text(2))?;
-    Ok((lei, name))
-}
-
-// The name in the first row of each LEI.
-fn texts_of(alloc: Global, names: &[(Text, Text)]) -> Result<FirstTexts, NoMemory>
-    ensures { IfOk result (λ texts. FindsNames names.now texts) }
-{
-    let mut texts = FirstTexts::new(alloc);
-    for name in names {
-        texts.put(name.0.as_str(), name.1.as_str())?;
+        let is_record = row.sheet() == Sheet::Lei;
+        prove!(is_record);
+        texts.push(row.text(place))?;
     }
     Ok(texts)
 }

@@ -1,14 +1,14 @@
 //! The parts of a report.
-ghost use Rattle.std.specs.Prelude.{◌≡◌, ◌++◌, filter, flat_map, length, IfOk, OnOk};
+ghost use Rattle.std.specs.Prelude.{◌≡◌, ◌<◌, ◌++◌, filter, flat_map, length, map, IfOk, OnOk};
 ghost use Rattle.group_reports.specs.Groups as groups;
+ghost use Rattle.group_reports.specs.Listings.{member_at};
+ghost use Rattle.group_reports.specs.Places.{AreBelow, at};
 ghost use Rattle.group_reports.specs.Reports as spec;
 
-use crate::entity::Entity;
 use crate::lines::put_line;
 use crate::links::Links;
-use crate::listing::Member;
+use crate::listing::Placed;
 use crate::names::{Names, or_hyphen};
-use crate::walks::{disagrees, top};
 use lei_outside::NoMemory;
 
 /// Puts the line of a root.
@@ -24,10 +24,12 @@ pub fn put_members(
     out: &mut Vec<u8>,
     names: &Names,
     links: &Links,
-    members: &[Member],
+    members: &[Placed],
 ) -> Result<(), NoMemory>
+    requires { AreBelow (length links.now.leis) (map (λ member. member.place) members.now) }
     ensures { OnOk result (out.new.items ≡ out.old.items
-        ++ flat_map (spec.member_line (record { names = names.now; links = links.now })) members.now) }
+        ++ flat_map (spec.member_line (record { names = names.now; links = links.now.links }))
+        (map (member_at links.now.leis) members.now)) }
 {
     for member in members {
         put_member(out, names, links, member)?;
@@ -40,14 +42,16 @@ fn put_member(
     out: &mut Vec<u8>,
     names: &Names,
     links: &Links,
-    member: &Member,
+    member: &Placed,
 ) -> Result<(), NoMemory>
+    requires { member.now.place < length links.now.leis }
     ensures { OnOk result (out.new.items ≡ out.old.items
-        ++ spec.member_line (record { names = names.now; links = links.now }) member.now) }
+        ++ spec.member_line (record { names = names.now; links = links.now.links })
+        (member_at links.now.leis member.now)) }
 {
-    let lei = member.lei.as_str();
+    let lei = links.lei(member.place);
     let mut depth = itoa::Buffer::new();
-    let parent = or_hyphen(links.direct(lei));
+    let parent = or_hyphen(links.direct(member.place));
     let name = names.or_hyphen(lei);
     put_line(out, depth.format(member.depth), &[lei, parent, name])?;
     Ok(())
@@ -63,43 +67,44 @@ pub fn put_members_line(out: &mut Vec<u8>, count: usize) -> Result<(), NoMemory>
 }
 
 /// Puts the lines of those of some entities that disagree, and the line that counts them.
-pub fn put_disagreements(
-    out: &mut Vec<u8>,
-    links: &Links,
-    entities: &[Entity],
-) -> Result<(), NoMemory>
-    ensures { OnOk result (out.new.items ≡ out.old.items ++ spec.disagreement_lines links.now entities.now) }
+pub fn put_disagreements(out: &mut Vec<u8>, links: &Links, places: &[usize]) -> Result<(), NoMemory>
+    requires { AreBelow (length links.now.leis) places.now }
+    ensures { OnOk result (out.new.items ≡ out.old.items
+        ++ spec.disagreement_lines links.now.links (map (at links.now.leis) places.now)) }
 {
-    let count = put_disagreeing(out, links, entities)?;
+    let count = put_disagreeing(out, links, places)?;
     let mut number = itoa::Buffer::new();
     put_line(out, "disagreements", &[number.format(count)])?;
     Ok(())
 }
 
 // Puts the lines of those that disagree, and counts them.
-fn put_disagreeing(out: &mut Vec<u8>, links: &Links, entities: &[Entity]) -> Result<usize, NoMemory>
-    ensures out { OnOk result (out.new.items ≡ out.old.items
-        ++ flat_map (spec.disagreement_line links.now) (filter (groups.disagrees links.now) entities.now)) }
-    ensures count { IfOk result (λ count. count ≡ length (filter (groups.disagrees links.now) entities.now)) }
+fn put_disagreeing(out: &mut Vec<u8>, links: &Links, places: &[usize]) -> Result<usize, NoMemory>
+    requires { AreBelow (length links.now.leis) places.now }
+    ensures out { OnOk result (out.new.items ≡ out.old.items ++ flat_map (spec.disagreement_line links.now.links)
+        (filter (groups.disagrees links.now.links) (map (at links.now.leis) places.now))) }
+    ensures count { IfOk result (λ count. count
+        ≡ length (filter (groups.disagrees links.now.links) (map (at links.now.leis) places.now))) }
 {
     let mut count = 0;
-    for entity in entities {
-        let lei = entity.as_str();
-        if !disagrees(links, lei) {
+    for place in places {
+        if !links.disagrees(*place) {
             continue;
         }
-        put_disagreement(out, links, lei)?;
+        put_disagreement(out, links, *place)?;
         count += 1;
     }
     Ok(count)
 }
 
 // Puts the line of an entity that disagrees.
-fn put_disagreement(out: &mut Vec<u8>, links: &Links, lei: &str) -> Result<(), NoMemory>
-    ensures { OnOk result (out.new.items ≡ out.old.items ++ spec.disagreement_line links.now lei.now) }
+fn put_disagreement(out: &mut Vec<u8>, links: &Links, place: usize) -> Result<(), NoMemory>
+    requires { place < length links.now.leis }
+    ensures { OnOk result (out.new.items ≡ out.old.items
+        ++ spec.disagreement_line links.now.links (at links.now.leis place)) }
 {
-    let reported = or_hyphen(links.reported(lei));
-    let top = or_hyphen(top(links, lei));
-    put_line(out, "DISAGREES", &[lei, reported, top])?;
+    let reported = or_hyphen(links.reported(place));
+    let top = or_hyphen(links.top(place));
+    put_line(out, "DISAGREES", &[links.lei(place), reported, top])?;
     Ok(())
 }

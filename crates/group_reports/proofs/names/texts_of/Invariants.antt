@@ -1,9 +1,7 @@
-use Rattle.std.proofs.Common.{◌≡◌, drop}
-use Rattle.lei_code.specs.Texts.{Lei}
-use Rattle.group_reports.specs.FirstTexts.{or_else, text_under}
-use Rattle.group_reports.specs.Links.{name_at}
+use Rattle.std.proofs.Common.{◌≡◌, map, take}
+use Rattle.lei_records.specs.Rows.{text_at}
 use Rattle.group_reports.proofs.names.texts_of.Given as goal
 
--- what isn't found yet is found from this one on
-abbrev pub invariant-loop-name : goal.invariant-loop-name
-invariant-loop-name l = (lei : Lei) → or_else (text_under l.texts lei) (name_at (drop l.name-index l.names) lei) ≡ name_at l.names lei
+-- those of the rows so far were pushed
+abbrev pub invariant-loop-row : goal.invariant-loop-row
+invariant-loop-row l = l.texts ≡ map (λ row. text_at row.texts l.place) (take l.row-index l.rows)
