@@ -1,0 +1,7 @@
+pub mod BetweenLemmas
+pub mod PatchedRows
+pub mod PacketLemmas
+pub mod ReadyLemmas
+pub mod SettlingLemmas
+pub mod TakingLemmas
+pub mod FollowingLemmas

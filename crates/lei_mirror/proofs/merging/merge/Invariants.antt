@@ -1,0 +1,12 @@
+use Rattle.std.proofs.Common.{◌≡◌, ◌≤◌, ◌++◌, drop, length}
+use Rattle.std.specs.Prelude.{flat_map}
+use Rattle.delta_apply.specs.Merging.{merged}
+use Rattle.delta_apply.proofs.Passing.{alone}
+use Rattle.lei_mirror.proofs.merging.merge.Given as goal
+
+-- what was put, with what the rows and the changes that are left make, is what all make
+abbrev pub invariant-loop-index : goal.invariant-loop-index
+invariant-loop-index l = record {
+  walk : l.made.items ++ flat_map alone (merged (drop l.index l.rows) (drop l.next l.changes)) ≡ flat_map alone (merged l.rows l.changes);
+  within : l.next ≤ length l.changes;
+}

@@ -1,0 +1,7 @@
+pub mod Between
+pub mod Packets
+pub mod Mirrors
+pub mod Following
+pub mod States
+pub mod Changes
+pub mod Settling

@@ -1,0 +1,92 @@
+//! Packets that are kept ahead.
+ghost use Rattle.std.specs.Prelude.{◌≡◌, ◌≤◌, ◌+◌, ◌-◌, ◌∷◌, ◌++◌, ◌||◌, [], filter, length, nat_le, nat_lt, OnErr, OnOk};
+ghost use Rattle.std.specs.List.{All, list_any};
+ghost use Rattle.lei_mirror.specs.Mirrors as spec;
+ghost use Rattle.lei_mirror.specs.Packets as packets;
+ghost use Rattle.lei_mirror.specs.Settling.{SettlesTo};
+ghost use Rattle.lei_mirror.specs.States.{AreTables, IsSoundPacket};
+
+use crate::packet::Packet;
+use crate::settling::settle;
+use crate::tables::Tables;
+use lei_outside::NoMemory;
+use std::alloc::Global;
+
+// How many packets are kept at most.
+const PACKETS: usize = 64;
+
+// How many bytes they have at most.
+const BYTES: u64 = 536_870_912;
+
+/// Whether a packet changes nothing: its publication isn't after the one that is shown, or one like it is
+/// kept.
+pub fn is_past(tables: &Tables, kept: &[Packet], packet: &Packet) -> bool
+    ensures { result ≡ (nat_le packet.now.head.publication tables.now.publication
+        || list_any (packets.is_like packet.now) kept.now) }
+{
+    packet.head.publication <= tables.publication || is_kept(kept, packet)
+}
+
+fn is_kept(kept: &[Packet], packet: &Packet) -> bool
+    ensures { result ≡ list_any (packets.is_like packet.now) kept.now }
+{
+    for other in kept {
+        if packet.is_like(other) {
+            return true;
+        }
+    }
+    false
+}
+
+/// Whether there is no room for one more packet.
+pub fn is_full(kept: &[Packet], packet: &Packet) -> bool
+    requires { spec.bytes_in kept.now ≤ 536_870_912 }
+    ensures { result ≡ (nat_le 64 (length kept.now)
+        || nat_lt 536_870_912 (spec.bytes_in kept.now + packet.now.size)) }
+{
+    kept.len() >= PACKETS || room(kept) < packet.size
+}
+
+// How many more bytes may be kept.
+fn room(kept: &[Packet]) -> u64
+    ensures { result ≡ 536_870_912 - spec.bytes_in kept.now }
+{
+    let mut room = BYTES;
+    for packet in kept {
+        room = room.saturating_sub(packet.size);
+    }
+    room
+}
+
+/// Keeps a packet after the others, and moves as far as it then can. If memory runs out, nothing has changed.
+pub fn keep(
+    alloc: Global,
+    tables: &mut Tables,
+    kept: &mut Vec<Packet>,
+    packet: Packet,
+) -> Result<(), NoMemory>
+    requires tables { AreTables tables.old }
+    requires packets { All IsSoundPacket kept.old.items }
+    requires packet { IsSoundPacket packet }
+    ensures settles { OnOk result (SettlesTo tables.old (kept.old.items ++ packet ∷ []) tables.new) }
+    ensures kept { OnOk result (kept.new.items
+        ≡ filter (spec.is_ahead tables.new.publication) (kept.old.items ++ packet ∷ [])) }
+    ensures tables { OnOk result (AreTables tables.new) }
+    ensures rises { tables.old.publication ≤ tables.new.publication }
+    ensures tables_stay { OnErr result (tables.new ≡ tables.old) }
+    ensures kept_stay { OnErr result (kept.new.items ≡ kept.old.items) }
+{
+    kept.push(packet)?;
+    match settle(alloc, tables, kept.as_slice()) {
+        Ok(settled) => {
+            let shown = settled.publication;
+            kept.retain(|packet| shown < packet.head.publication);
+            *tables = settled;
+            Ok(())
+        }
+        Err(fault) => {
+            drop(kept.pop());
+            Err(fault)
+        }
+    }
+}

@@ -1,0 +1,87 @@
+//! Rows and changes, merged in the order of their keys.
+ghost use Rattle.std.specs.Prelude.{◌≡◌, ◌≤◌, ◌++◌, ◌∷◌, [], length, flat_map, IfOk, OnOk};
+ghost use Rattle.std.specs.List.{All};
+ghost use Rattle.copy_csv.specs.Rows.{AreChanges, AreRows, changed_row};
+ghost use Rattle.copy_forms.specs.Patching.{patched};
+ghost use Rattle.delta_apply.specs.Merging.{put_by};
+ghost use Rattle.delta_apply.specs.Walks.{PassesRow};
+
+use crate::changes::SharedChange;
+use crate::shared::{SharedRow, SharedRows};
+use copy_csv::Sheet;
+use lei_outside::NoMemory;
+use std::alloc::Global;
+use std::cmp::Ordering;
+
+/// The rows after the changes. Each row is passed once, and none is copied.
+pub fn merge(
+    alloc: Global,
+    sheet: Sheet,
+    rows: &[SharedRow],
+    changes: &[SharedChange],
+) -> Result<SharedRows, NoMemory>
+    requires rows { AreRows sheet rows.now }
+    requires changes { AreChanges sheet changes.now }
+    ensures { IfOk result (λ merged. merged ≡ patched rows.now changes.now) }
+{
+    let mut made = Vec::with_capacity(alloc, rows.len().saturating_add(changes.len()))?;
+    let mut next = 0;
+    for index in 0..rows.len() {
+        next = push_next(&mut made, changes, next, &rows[index])?;
+    }
+    push_all(&mut made, &changes[next..])?;
+    let merged = SharedRows::of(alloc, made)?;
+    Ok(merged)
+}
+
+// Puts after the others what the changes from a place on put before a row, and what stands in its place:
+// itself if no change has its key. Gives the place of the first change that is left.
+fn push_next(
+    made: &mut Vec<SharedRow>,
+    changes: &[SharedChange],
+    at: usize,
+    row: &SharedRow,
+) -> Result<usize, NoMemory>
+    requires place { at ≤ length changes.now }
+    requires sheets { All (λ change. (changed_row change).sheet ≡ row.now.sheet) changes.now }
+    ensures put { IfOk result (λ next. PassesRow (λ row. row ∷ []) changes.now row.now at
+        made.old.items next made.new.items) }
+    ensures place { IfOk result (λ next. next ≤ length changes.now) }
+{
+    for index in at..changes.len() {
+        let change = &changes[index];
+        match change.row().row().order(row.row()) {
+            Ordering::Less => push_change(made, change)?,
+            Ordering::Equal => {
+                push_change(made, change)?;
+                return Ok(index + 1);
+            }
+            Ordering::Greater => {
+                made.push(row.share()?)?;
+                return Ok(index);
+            }
+        }
+    }
+    made.push(row.share()?)?;
+    Ok(changes.len())
+}
+
+// Puts what all of these changes put after the others.
+fn push_all(made: &mut Vec<SharedRow>, changes: &[SharedChange]) -> Result<(), NoMemory>
+    ensures { OnOk result (made.new.items ≡ made.old.items ++ flat_map put_by changes.now) }
+{
+    for change in changes {
+        push_change(made, change)?;
+    }
+    Ok(())
+}
+
+// Puts what a change puts after the others.
+fn push_change(made: &mut Vec<SharedRow>, change: &SharedChange) -> Result<(), NoMemory>
+    ensures { OnOk result (made.new.items ≡ made.old.items ++ put_by change.now) }
+{
+    if change.puts() {
+        made.push(change.row().share()?)?;
+    }
+    Ok(())
+}

@@ -1,0 +1,75 @@
+//! Packets, read.
+ghost use Rattle.std.specs.Prelude.{IfOk, IsErrOf};
+ghost use Rattle.lei_mirror.specs.declared.faults.MirrorFault.{MirrorFault as Fault};
+ghost use Rattle.lei_mirror.specs.declared.packet.PacketKind.{PacketKind as Kind};
+ghost use Rattle.lei_mirror.specs.Packets.{IsNoPacket, IsPacket};
+ghost use Rattle.lei_mirror.specs.States.{IsSoundPacket};
+
+use crate::changes::shared_changes;
+use crate::faults::MirrorFault;
+use crate::packet::{Packet, PacketBody, PacketKind};
+use crate::shared::SharedRows;
+use copy_forms::{CopyRead, DeltaRead, Form, FormFault, Sheet, read_copy, read_delta};
+use std::alloc::Global;
+
+/// The packet that these bytes are. Its rows are made here, once.
+pub fn read_packet(
+    alloc: Global,
+    kind: PacketKind,
+    sheet: Sheet,
+    bytes: &[u8],
+) -> Result<Packet, MirrorFault>
+    ensures found { IfOk result (λ packet. IsPacket kind sheet bytes.now packet) }
+    ensures sound { IfOk result (λ packet. IsSoundPacket packet) }
+    ensures only { IsErrOf result Fault.NotRead → IsNoPacket kind sheet bytes.now }
+    ensures room { IsErrOf result Fault.Full → ⊥ }
+{
+    match kind {
+        PacketKind::Copy => read_copy_packet(alloc, sheet, bytes),
+        PacketKind::Delta => read_delta_packet(alloc, sheet, bytes),
+    }
+}
+
+fn read_copy_packet(alloc: Global, sheet: Sheet, bytes: &[u8]) -> Result<Packet, MirrorFault>
+    ensures found { IfOk result (λ packet. IsPacket Kind.Copy sheet bytes.now packet) }
+    ensures sound { IfOk result (λ packet. IsSoundPacket packet) }
+    ensures only { IsErrOf result Fault.NotRead → IsNoPacket Kind.Copy sheet bytes.now }
+    ensures room { IsErrOf result Fault.Full → ⊥ }
+{
+    let read = match read_copy(alloc, bytes, sheet, Form::Json) {
+        Ok(read) => read,
+        Err(FormFault::NotRead) => return Err(MirrorFault::NotRead),
+        Err(FormFault::NoMemory) => return Err(MirrorFault::NoMemory),
+    };
+    let CopyRead { head, rows, .. } = read;
+    let Some(head) = head else { unreachable!() };
+    let rows = SharedRows::of_read(alloc, rows)?;
+    Ok(Packet {
+        sheet,
+        head,
+        size: bytes.len() as u64,
+        body: PacketBody::Copy(rows),
+    })
+}
+
+fn read_delta_packet(alloc: Global, sheet: Sheet, bytes: &[u8]) -> Result<Packet, MirrorFault>
+    ensures found { IfOk result (λ packet. IsPacket Kind.Delta sheet bytes.now packet) }
+    ensures sound { IfOk result (λ packet. IsSoundPacket packet) }
+    ensures only { IsErrOf result Fault.NotRead → IsNoPacket Kind.Delta sheet bytes.now }
+    ensures room { IsErrOf result Fault.Full → ⊥ }
+{
+    let read = match read_delta(alloc, bytes, sheet, Form::Json) {
+        Ok(read) => read,
+        Err(FormFault::NotRead) => return Err(MirrorFault::NotRead),
+        Err(FormFault::NoMemory) => return Err(MirrorFault::NoMemory),
+    };
+    let DeltaRead { head, changes, .. } = read;
+    let Some(head) = head else { unreachable!() };
+    let changes = shared_changes(alloc, changes.into_vec())?;
+    Ok(Packet {
+        sheet,
+        head,
+        size: bytes.len() as u64,
+        body: PacketBody::Delta(changes),
+    })
+}

@@ -1,0 +1,70 @@
+//! Which publications a mirror can move to.
+ghost use Rattle.std.specs.Prelude.{◌≡◌, ◌↔◌, IsTrue};
+ghost use Rattle.std.specs.List.{find};
+ghost use Rattle.lei_mirror.specs.Mirrors as spec;
+ghost use Rattle.lei_mirror.specs.Packets as packets;
+ghost use Rattle.lei_mirror.specs.Settling.{FindsGreatest, lent};
+
+use crate::packet::Packet;
+use copy_csv::Sheet;
+
+/// What brings a sheet to a publication: its copy, or else the first delta to it from a publication that
+/// isn't after the one that is shown.
+pub fn packet_for(shown: u32, kept: &[Packet], number: u32, sheet: Sheet) -> Option<&Packet>
+    ensures { lent result ≡ spec.packet_for shown kept.now number sheet }
+{
+    if let Some(copy) = copy_among(kept, sheet, number) {
+        return Some(copy);
+    }
+    delta_among(kept, sheet, number, shown)
+}
+
+fn copy_among(kept: &[Packet], sheet: Sheet, number: u32) -> Option<&Packet>
+    ensures { lent result ≡ find (packets.is_copy_of sheet number) kept.now }
+{
+    for packet in kept {
+        if packet.is_copy_of(sheet, number) {
+            return Some(packet);
+        }
+    }
+    None
+}
+
+fn delta_among(kept: &[Packet], sheet: Sheet, number: u32, shown: u32) -> Option<&Packet>
+    ensures { lent result ≡ find (packets.is_delta_to sheet number shown) kept.now }
+{
+    for packet in kept {
+        if packet.is_delta_to(sheet, number, shown) {
+            return Some(packet);
+        }
+    }
+    None
+}
+
+// Whether a publication is ready.
+fn is_ready(shown: u32, kept: &[Packet], number: u32) -> bool
+    ensures { IsTrue result ↔ spec.IsReadyToShow shown kept.now number }
+{
+    shown < number
+        && packet_for(shown, kept, number, Sheet::Lei).is_some()
+        && packet_for(shown, kept, number, Sheet::Rr).is_some()
+        && packet_for(shown, kept, number, Sheet::Repex).is_some()
+}
+
+/// The greatest publication that is ready.
+pub fn greatest_ready(shown: u32, kept: &[Packet]) -> Option<u32>
+    ensures { FindsGreatest shown kept.now result }
+{
+    let mut greatest = shown;
+    for packet in kept {
+        let number = packet.head.publication;
+        if greatest < number && is_ready(shown, kept, number) {
+            greatest = number;
+        }
+    }
+    if shown < greatest {
+        Some(greatest)
+    } else {
+        None
+    }
+}

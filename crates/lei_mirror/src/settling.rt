@@ -1,0 +1,83 @@
+//! A mirror that moves as far as it can.
+ghost use Rattle.std.specs.Prelude.{◌≡◌, ◌≤◌, IfOk};
+ghost use Rattle.std.specs.List.{All};
+ghost use Rattle.copy_csv.specs.Rows.{AreRows};
+ghost use Rattle.lei_mirror.specs.Mirrors as spec;
+ghost use Rattle.lei_mirror.specs.Settling.{IsSoundFor, SettlesTo, lent};
+ghost use Rattle.lei_mirror.specs.States.{AreTables, IsSoundPacket};
+
+use crate::merging::merge;
+use crate::packet::{Packet, PacketBody};
+use crate::ready::{greatest_ready, packet_for};
+use crate::tables::{SheetCopy, Tables};
+use copy_csv::{Head, Sheet};
+use lei_outside::NoMemory;
+use std::alloc::Global;
+
+/// The tables to which these packets bring a mirror with these tables. They are made beside the old ones,
+/// with the rows that stay in common, so that nothing is to be taken back if memory runs out.
+pub fn settle(alloc: Global, tables: &Tables, kept: &[Packet]) -> Result<Tables, NoMemory>
+    requires tables { AreTables tables.now }
+    requires packets { All IsSoundPacket kept.now }
+    ensures settles { IfOk result (λ settled. SettlesTo tables.now kept.now settled) }
+    ensures tables { IfOk result (λ settled. AreTables settled) }
+    ensures rises { IfOk result (λ settled. tables.now.publication ≤ settled.publication) }
+{
+    let mut now = tables.share()?;
+    while let Some(number) = greatest_ready(now.publication, kept) {
+        now = tables_at(alloc, &now, kept, number)?;
+    }
+    Ok(now)
+}
+
+// The tables of another publication, each brought there by a packet.
+fn tables_at(
+    alloc: Global,
+    tables: &Tables,
+    kept: &[Packet],
+    number: u32,
+) -> Result<Tables, NoMemory>
+    requires tables { AreTables tables.now }
+    requires packets { All IsSoundPacket kept.now }
+    ensures { IfOk result (λ made. made ≡ spec.tables_at tables.now kept.now number) }
+{
+    let shown = tables.publication;
+    let lei = packet_for(shown, kept, number, Sheet::Lei);
+    let rr = packet_for(shown, kept, number, Sheet::Rr);
+    let repex = packet_for(shown, kept, number, Sheet::Repex);
+    Ok(Tables {
+        publication: number,
+        lei: copy_after(alloc, Sheet::Lei, &tables.lei, lei)?,
+        rr: copy_after(alloc, Sheet::Rr, &tables.rr, rr)?,
+        repex: copy_after(alloc, Sheet::Repex, &tables.repex, repex)?,
+    })
+}
+
+// What is shown of a sheet after a packet of it.
+fn copy_after(
+    alloc: Global,
+    sheet: Sheet,
+    old: &SheetCopy,
+    packet: Option<&Packet>,
+) -> Result<SheetCopy, NoMemory>
+    requires rows { AreRows sheet old.now.rows }
+    requires packet { IsSoundFor sheet (lent packet) }
+    ensures { IfOk result (λ made. made ≡ spec.copy_after old.now (lent packet.entry)) }
+{
+    let Some(packet) = packet else {
+        return old.share();
+    };
+    match &packet.body {
+        PacketBody::Copy(rows) => Ok(SheetCopy {
+            head: Some(packet.head),
+            rows: rows.share()?,
+        }),
+        PacketBody::Delta(changes) => Ok(SheetCopy {
+            head: Some(Head {
+                from: 0,
+                ..packet.head
+            }),
+            rows: merge(alloc, sheet, old.rows.as_slice(), changes.as_slice())?,
+        }),
+    }
+}
