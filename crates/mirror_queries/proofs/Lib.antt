@@ -1,0 +1,5 @@
+pub mod Large
+pub mod Fitting
+pub mod Steps
+pub mod Served
+pub mod OneReply

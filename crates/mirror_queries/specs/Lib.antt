@@ -1,0 +1,5 @@
+pub mod Grammar
+pub mod Answering
+pub mod Sizes
+pub mod Serving
+pub mod Following

@@ -1,0 +1,10 @@
+-- The sizes of packets that are asked to be taken.
+use Rattle.std.specs.Prelude.{◌<◌, ◌^◌, length}
+use Rattle.query_reading.specs.declared.asked.QueryAsked.{QueryAsked}
+use Rattle.mirror_queries.specs.Answering.{MirrorAsked}
+
+-- A packet has fewer than 2^64 bytes, as all in memory have.
+abbrev pub IsShort : MirrorAsked → Type 0
+IsShort (QueryAsked.Refuse refusal) = Unit {0}
+IsShort (QueryAsked.Query query) = Unit {0}
+IsShort (QueryAsked.Packet head packet) = length packet < 2 ^ 64
