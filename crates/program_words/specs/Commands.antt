@@ -37,6 +37,19 @@ abbrev pub apply_app : App
 apply_app = with_text (codes "DELTA") (with_text (codes "COPY")
     (with_text (codes "FORM") (with_text (codes "TABLE") (plain (codes "apply")))))
 
+-- `search FORM COPY`
+abbrev pub search_app : App
+search_app = with_text (codes "COPY") (with_text (codes "FORM") (plain (codes "search")))
+
+-- `mirror`
+abbrev pub mirror_app : App
+mirror_app = plain (codes "mirror")
+
+-- `group WHO FORM LEICOPY RRCOPY`
+abbrev pub group_app : App
+group_app = with_text (codes "RRCOPY") (with_text (codes "LEICOPY")
+    (with_text (codes "FORM") (with_text (codes "WHO") (plain (codes "group")))))
+
 -- `check CODE`
 abbrev pub check_app : App
 check_app = with_text (codes "CODE") (plain (codes "check"))

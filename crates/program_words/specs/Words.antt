@@ -6,17 +6,21 @@ use Rattle.register_words.specs.declared.sheets.Sheet.{Sheet}
 use Rattle.lei_code.specs.Texts.{Text}
 use Rattle.register_words.specs.Words.{form_of, number_within, sheet_of}
 use Rattle.clap.specs.Walk.{Row, first_of}
-use Rattle.program_words.specs.Commands.{apply_app, check_app, demo_app, digits_app, lines_app, read_by, serve_app}
+use Rattle.program_words.specs.Commands.{apply_app, check_app, demo_app, digits_app, group_app, lines_app, mirror_app, read_by, search_app, serve_app}
 use Rattle.program_words.specs.declared.runs.Command.{Command}
 use Rattle.program_words.specs.declared.runs.Command.TheVariants as commands
 use Rattle.program_words.specs.declared.runs.WantedRun.{WantedRun}
 
--- To answer the lines of the input, to answer over HTTP, to patch a copy of this sheet and form by a delta, to say
+-- To answer the lines of the input, to answer over HTTP, to patch a copy of this sheet and form by a delta, to search the
+-- names of a copy of this form, to mirror the tables of a register, to report on the group of an entity, or on all, by two copies of this form, to say
 -- whether a text is an LEI, to make the check digits of a text, or to make up a register of so many records.
 pub data Invocation : Type 0 where
   to_answer_lines : Invocation
   to_serve : Invocation
   to_patch : Sheet → Form → Invocation
+  to_search : Form → Invocation
+  to_mirror : Invocation
+  to_report : Text → Form → Invocation
   to_check : Text → Invocation
   to_make_digits : Text → Invocation
   to_make_up : ℕ → Invocation
@@ -91,6 +95,36 @@ apply_meant rows = apply_by (option_and_then sheet_of (first_of (codes "TABLE") 
     (option_and_then form_of (first_of (codes "FORM") rows))
     (first_of (codes "COPY") rows) (first_of (codes "DELTA") rows)
 
+-- names of a copy are searched by a form and a file, and nothing where one of them can't be read
+abbrev pub search_by : Option Form → Option Text → Option Meant
+search_by (Some form) (Some copy) = Some (record (only (to_search form)) { second = Some copy })
+search_by (Some form) None = None
+search_by None copy = None
+
+-- The file of the copy is the second, since the first input has the queries.
+abbrev pub search_meant : List Row → Option Meant
+search_meant rows = search_by (option_and_then form_of (first_of (codes "FORM") rows)) (first_of (codes "COPY") rows)
+
+-- A mirror is asked for by its name alone.
+abbrev pub mirror_meant : List Row → Option Meant
+mirror_meant rows = Some (only to_mirror)
+
+-- a report is made by a text that says on whom, a form and two files, and nothing where one of them can't be read
+abbrev pub group_by : Option Text → Option Form → Option Text → Option Text → Option Meant
+group_by (Some who) (Some form) (Some lei) (Some rr) =
+    Some (record (only (to_report who form)) { first = Some lei; second = Some rr })
+group_by (Some who) (Some form) (Some lei) None = None
+group_by (Some who) (Some form) None rr = None
+group_by (Some who) None lei rr = None
+group_by None form lei rr = None
+
+-- The file of the copy of `lei` is the first, and that of the copy of `rr` the second. A report may be wanted on any
+-- text, the empty one too.
+abbrev pub group_meant : List Row → Option Meant
+group_meant rows = group_by (first_of (codes "WHO") rows)
+    (option_and_then form_of (first_of (codes "FORM") rows))
+    (first_of (codes "LEICOPY") rows) (first_of (codes "RRCOPY") rows)
+
 -- Any text is checked, the empty one too.
 abbrev pub check_meant : List Row → Option Meant
 check_meant rows = option_map (λ text. only (to_check text)) (first_of (codes "CODE") rows)
@@ -111,10 +145,13 @@ meant_by name words =
     if bytes_eq name (codes "lines") then option_and_then lines_meant (read_by lines_app words)
     else (if bytes_eq name (codes "serve") then option_and_then serve_meant (read_by serve_app words)
     else (if bytes_eq name (codes "apply") then option_and_then apply_meant (read_by apply_app words)
+    else (if bytes_eq name (codes "search") then option_and_then search_meant (read_by search_app words)
+    else (if bytes_eq name (codes "mirror") then option_and_then mirror_meant (read_by mirror_app words)
+    else (if bytes_eq name (codes "group") then option_and_then group_meant (read_by group_app words)
     else (if bytes_eq name (codes "check") then option_and_then check_meant (read_by check_app words)
     else (if bytes_eq name (codes "digits") then option_and_then digits_meant (read_by digits_app words)
     else (if bytes_eq name (codes "demo") then option_and_then demo_meant (read_by demo_app words)
-    else None)))))
+    else None))))))))
 
 -- What the words behind the program's name ask for, and nothing where they are no command.
 abbrev pub meant : List Text → Option Meant
@@ -128,6 +165,9 @@ abbrev pub invocation_of : Command → Invocation
 invocation_of commands.Lines = to_answer_lines
 invocation_of commands.Serve = to_serve
 invocation_of (commands.Apply sheet form) = to_patch sheet form
+invocation_of (commands.Search form) = to_search form
+invocation_of commands.Mirror = to_mirror
+invocation_of (commands.Group who form) = to_report who.now form
 invocation_of (commands.Check code) = to_check code.now
 invocation_of (commands.Digits text) = to_make_digits text.now
 invocation_of (commands.Demo records) = to_make_up records
@@ -149,6 +189,9 @@ abbrev pub IsInRange : Command → Type 0
 IsInRange commands.Lines = Unit {0}
 IsInRange commands.Serve = Unit {0}
 IsInRange (commands.Apply sheet form) = Unit {0}
+IsInRange (commands.Search form) = Unit {0}
+IsInRange commands.Mirror = Unit {0}
+IsInRange (commands.Group who form) = Unit {0}
 IsInRange (commands.Check code) = Unit {0}
 IsInRange (commands.Digits text) = Unit {0}
 IsInRange (commands.Demo records) = (2 ≤ records) × (records ≤ 100_000)

@@ -4,7 +4,7 @@ ghost use Rattle.clap.specs.Simple.{app_of};
 ghost use Rattle.clap.specs.Faults.{is_simple_and_free};
 ghost use Rattle.clap.specs.Matches.{found_of};
 ghost use Rattle.clap.specs.Walk.{rows_of};
-ghost use Rattle.program_words.specs.Commands.{apply_app, check_app, demo_app, digits_app, lines_app, plain, read_by, serve_app, with_option, with_text};
+ghost use Rattle.program_words.specs.Commands.{apply_app, check_app, demo_app, digits_app, group_app, lines_app, mirror_app, plain, read_by, search_app, serve_app, with_option, with_text};
 ghost use Rattle.program_words.specs.Reading.{Finds};
 
 use crate::fault::WordsFault;
@@ -70,6 +70,28 @@ pub fn apply_command<'a>(alloc: Global) -> Result<Command<'a>, NoMemory>
     let command = with_text(alloc, command, "FORM")?;
     let command = with_text(alloc, command, "COPY")?;
     with_text(alloc, command, "DELTA")
+}
+
+pub fn search_command<'a>(alloc: Global) -> Result<Command<'a>, NoMemory>
+    ensures { IfOk result (λ made. app_of made ≡ search_app) }
+{
+    let command = with_text(alloc, plain(alloc, "search"), "FORM")?;
+    with_text(alloc, command, "COPY")
+}
+
+pub fn mirror_command<'a>(alloc: Global) -> Result<Command<'a>, NoMemory>
+    ensures { IfOk result (λ made. app_of made ≡ mirror_app) }
+{
+    Ok(plain(alloc, "mirror"))
+}
+
+pub fn group_command<'a>(alloc: Global) -> Result<Command<'a>, NoMemory>
+    ensures { IfOk result (λ made. app_of made ≡ group_app) }
+{
+    let command = with_text(alloc, plain(alloc, "group"), "WHO")?;
+    let command = with_text(alloc, command, "FORM")?;
+    let command = with_text(alloc, command, "LEICOPY")?;
+    with_text(alloc, command, "RRCOPY")
 }
 
 pub fn check_command<'a>(alloc: Global) -> Result<Command<'a>, NoMemory>

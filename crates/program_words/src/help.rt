@@ -4,6 +4,9 @@ const COMMANDS: &'static str = "usage: leireg COMMAND
   lines   answers each line of the standard input
   serve   answers requests over HTTP
   apply   patches a golden copy by a delta
+  search  finds the names in a golden copy that have certain words
+  mirror  keeps the tables of a register up to date by its copies and deltas
+  group   reports who belongs to the group of an entity
   check   tells whether a text is a Legal Entity Identifier
   digits  makes the check digits of a Legal Entity Identifier
   demo    makes up a register, and tells what became of it
@@ -30,6 +33,23 @@ writes the golden copy that the one in the file COPY becomes by the delta in the
   FORM   csv or json
 example: leireg apply lei csv copy.csv delta.csv";
 
+const SEARCH: &'static str = "usage: leireg search FORM COPY
+reads the golden copy of lei in the file COPY, and answers each line of the standard input: FIND PAGE WORDS, or
+TAKE N with the N bytes of a delta after it
+  FORM  csv or json
+example: leireg search csv copy.csv";
+
+const MIRROR: &'static str = "usage: leireg mirror
+takes golden copies and deltas in JSON, in any order, and shows all three tables of one publication; it answers each
+line of the standard input: COPY TABLE N or DELTA TABLE N with the N bytes of a copy or a delta after it, or SHOW TABLE
+example: leireg mirror";
+
+const GROUP: &'static str = "usage: leireg group WHO FORM LEICOPY RRCOPY
+reports who belongs to the group of the entity with the LEI WHO, and where reported and computed parents disagree,
+by the golden copies of lei and rr in the files LEICOPY and RRCOPY; with ALL as WHO all that disagree
+  FORM  csv or json
+example: leireg group 506700GE1G29325QX363 csv lei.csv rr.csv";
+
 const CHECK: &'static str = "usage: leireg check CODE
 tells whether CODE is a Legal Entity Identifier
 example: leireg check 5493001KJTIIGC8Y1R12";
@@ -50,6 +70,9 @@ pub fn help_of(name: &str) -> &'static str {
         "lines" => LINES,
         "serve" => SERVE,
         "apply" => APPLY,
+        "search" => SEARCH,
+        "mirror" => MIRROR,
+        "group" => GROUP,
         "check" => CHECK,
         "digits" => DIGITS,
         "demo" => DEMO,

@@ -2,12 +2,13 @@
 ghost use Rattle.std.specs.Prelude.{◌≡◌, ◌≤◌, Some, IfOk, IfSome, codes, map, option_and_then, option_map, string_bytes};
 ghost use Rattle.clap.specs.Matches.{found_of};
 ghost use Rattle.clap.specs.Walk.{first_of, rows_of};
-ghost use Rattle.program_words.specs.Commands.{apply_app, check_app, demo_app, digits_app, lines_app, read_by, serve_app};
+ghost use Rattle.program_words.specs.Commands.{apply_app, check_app, demo_app, digits_app, group_app, lines_app, mirror_app, read_by, search_app, serve_app};
 ghost use Rattle.program_words.specs.Reading.{Finds};
-ghost use Rattle.program_words.specs.Words.{AreInRange, apply_meant, check_meant, connections_told, invocation_of, demo_meant, digits_meant, lines_meant, meaning, meant, number_under, only, serve_meant};
+ghost use Rattle.program_words.specs.Words.{AreInRange, apply_meant, check_meant, connections_told, demo_meant, digits_meant, group_meant, invocation_of, lines_meant, meaning, meant, mirror_meant, number_under, only, search_meant, serve_meant};
 
 use crate::commands::{
-    apply_command, check_command, demo_command, digits_command, lines_command, read, serve_command,
+    apply_command, check_command, demo_command, digits_command, group_command, lines_command,
+    mirror_command, read, search_command, serve_command,
 };
 use crate::fault::WordsFault;
 use clap::ArgMatches;
@@ -33,6 +34,13 @@ pub enum Command<'a> {
     Serve,
     /// To patch a copy of this sheet and form by a delta.
     Apply(Sheet, Form),
+    /// To search the names of a copy of `lei` in this form.
+    Search(Form),
+    /// To keep the three tables of a register up to date by its copies and deltas.
+    Mirror,
+    /// To report on the group of an entity by copies of `lei` and `rr` in this form. With `ALL` in place of an LEI, to
+    /// report which parents disagree.
+    Group(&'a str, Form),
     /// To say whether a text is a code.
     Check(&'a str),
     /// To make the check digits of the first 18 characters of a code.
@@ -47,9 +55,10 @@ pub struct WantedRun<'a> {
     pub command: Command<'a>,
     /// The path of the store of `lines` and `serve`; None where the register is in memory.
     pub store: Option<&'a str>,
-    /// The path of the copy that `apply` patches.
+    /// The path of the copy that `apply` patches, or of the copy of `lei` that `group` reads.
     pub first: Option<&'a str>,
-    /// The path of the delta that it is patched by.
+    /// The path of the delta by which `apply` patches it, of the copy that `search` opens, or of the copy of `rr` that
+    /// `group` reads.
     pub second: Option<&'a str>,
     /// The port of `serve`; at 0 the machine chooses one.
     pub port: u16,
@@ -72,6 +81,9 @@ pub fn wanted<'a>(alloc: Global, words: &'a [String]) -> Result<WantedRun<'a>, W
         "lines" => wanted_lines(alloc, words),
         "serve" => wanted_serve(alloc, words),
         "apply" => wanted_apply(alloc, words),
+        "search" => wanted_search(alloc, words),
+        "mirror" => wanted_mirror(alloc, words),
+        "group" => wanted_group(alloc, words),
         "check" => wanted_check(alloc, words),
         "digits" => wanted_digits(alloc, words),
         "demo" => wanted_demo(alloc, words),
@@ -104,6 +116,33 @@ fn wanted_apply<'a>(alloc: Global, words: &'a [String]) -> Result<WantedRun<'a>,
 {
     let matches = read(apply_command(alloc)?, words)?;
     apply_of(&matches).ok_or(WordsFault::Usage)
+}
+
+fn wanted_search<'a>(alloc: Global, words: &'a [String]) -> Result<WantedRun<'a>, WordsFault>
+    ensures meant { Finds meaning
+        (option_and_then search_meant (read_by search_app (map string_bytes words.now))) result }
+    ensures range { IfOk result AreInRange }
+{
+    let matches = read(search_command(alloc)?, words)?;
+    search_of(&matches).ok_or(WordsFault::Usage)
+}
+
+fn wanted_mirror<'a>(alloc: Global, words: &'a [String]) -> Result<WantedRun<'a>, WordsFault>
+    ensures meant { Finds meaning
+        (option_and_then mirror_meant (read_by mirror_app (map string_bytes words.now))) result }
+    ensures range { IfOk result AreInRange }
+{
+    read(mirror_command(alloc)?, words)?;
+    Ok(only(Command::Mirror))
+}
+
+fn wanted_group<'a>(alloc: Global, words: &'a [String]) -> Result<WantedRun<'a>, WordsFault>
+    ensures meant { Finds meaning
+        (option_and_then group_meant (read_by group_app (map string_bytes words.now))) result }
+    ensures range { IfOk result AreInRange }
+{
+    let matches = read(group_command(alloc)?, words)?;
+    group_of(&matches).ok_or(WordsFault::Usage)
 }
 
 fn wanted_check<'a>(alloc: Global, words: &'a [String]) -> Result<WantedRun<'a>, WordsFault>
@@ -216,6 +255,33 @@ fn apply_of<'a>(matches: &ArgMatches<'a>) -> Option<WantedRun<'a>>
         first: Some(copy),
         second: Some(delta),
         ..only(Command::Apply(sheet, form))
+    })
+}
+
+fn search_of<'a>(matches: &ArgMatches<'a>) -> Option<WantedRun<'a>>
+    ensures meant { option_map meaning result ≡ search_meant (rows_of (found_of matches.now)) }
+    ensures range { IfSome result AreInRange }
+{
+    let form = form_of(text(matches, "FORM")?.as_bytes())?;
+    let copy = text(matches, "COPY")?;
+    Some(WantedRun {
+        second: Some(copy),
+        ..only(Command::Search(form))
+    })
+}
+
+fn group_of<'a>(matches: &ArgMatches<'a>) -> Option<WantedRun<'a>>
+    ensures meant { option_map meaning result ≡ group_meant (rows_of (found_of matches.now)) }
+    ensures range { IfSome result AreInRange }
+{
+    let who = text(matches, "WHO")?;
+    let form = form_of(text(matches, "FORM")?.as_bytes())?;
+    let lei = text(matches, "LEICOPY")?;
+    let rr = text(matches, "RRCOPY")?;
+    Some(WantedRun {
+        first: Some(lei),
+        second: Some(rr),
+        ..only(Command::Group(who, form))
     })
 }
 
