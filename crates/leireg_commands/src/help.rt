@@ -33,7 +33,7 @@ pub fn advice(status: ExitStatus) -> &'static str {
         ExitStatus::StoreDamaged =>
             "put back a copy of it from before; with lines the standard output tells the first difference",
         ExitStatus::InputTooLong =>
-            "part it: lines may have 4294967295 bytes in all, and a file of apply 1073741823",
+            "part it: lines may have 4294967295 bytes in all, and a file 1073741823",
         ExitStatus::DoorFault =>
             "see that the port is free, or take port 0, for which the machine chooses one",
     }

@@ -47,7 +47,7 @@ pub fn run_command<R: Threads + Sync, K: Keeper>(
 // The input of a command: its first file, or the standard input.
 fn first_input(host: &HostRuntime, wanted: &WantedRun<'_>) -> Option<OneOf<Stdin, File>> {
     match wanted.command {
-        Command::Apply(_, _) => file_at(host, wanted.first),
+        Command::Apply(_, _) | Command::Group(_, _) => file_at(host, wanted.first),
         _ => Some(OneOf::First(host.stdin())),
     }
 }

@@ -11,22 +11,27 @@ use Rattle.register_words.specs.declared.reply.Reply.TheVariants.{Words}
 use Rattle.register_history.specs.Legal.{Session, replies_to}
 use Rattle.register_history.specs.State.{OfficeState}
 use Rattle.register_history.proofs.Sessions.{exact}
-use Rattle.leireg_run.specs.Codes.{check_line, digits_fault, digits_line, told_status, TellsLine}
+use Rattle.file_commands.specs.Codes.{check_line, digits_fault, digits_line, told_status, TellsLine}
 use Rattle.lei_outside.specs.Keeping.{KeptTables}
 use Rattle.leireg_run.specs.Ends.{AnswersLines, Completes, Does, EndsWith, FailsToOpen, IsComplete, Opens, TellsDamage, TellsSummary}
-use Rattle.leireg_run.specs.Applying.{files}
+use Rattle.file_commands.specs.Applying.{Patches}
+use Rattle.file_commands.specs.Grouping.{Reports}
+use Rattle.file_commands.specs.TwoFiles.{files}
 use Rattle.register_demo.specs.Session.{IsSummary}
 use Rattle.lei_code.specs.Texts.{Text}
-use Rattle.leireg_run.proofs.Applied.{completes_files}
+use Rattle.file_commands.specs.Sides.{sides}
+use Rattle.file_commands.proofs.Mirrored.{completes_mirror}
+use Rattle.file_commands.proofs.Searched.{completes_search}
+use Rattle.file_commands.proofs.TwoFilesRead.{completes_files}
 use Rattle.request_loop.specs.Counts.{RoseBy}
 use Rattle.lei_office.specs.Faults.{keeper_faults}
-use Rattle.leireg_run.specs.Runs.{input_limit}
+use Rattle.file_commands.specs.Files.{input_limit}
 use Rattle.leireg_run.specs.Outside.{Course, Leads, Outside}
 use Rattle.line_reading.specs.LineRuns.{asks_of_lines}
-use Rattle.program_words.specs.Words.{Invocation, to_answer_lines, to_check, to_make_digits, to_make_up, to_patch, to_serve}
-use Rattle.leireg_run.specs.Status.{end_status, stop_status}
-use Rattle.leireg_run.specs.declared.status.Stop.{Stop}
-use Rattle.leireg_run.specs.declared.status.Stop.TheVariants as stops
+use Rattle.program_words.specs.Words.{Invocation, to_answer_lines, to_check, to_make_digits, to_make_up, to_mirror, to_patch, to_report, to_search, to_serve}
+use Rattle.file_commands.specs.Status.{end_status, stop_status}
+use Rattle.file_commands.specs.declared.status.Stop.{Stop}
+use Rattle.file_commands.specs.declared.status.Stop.TheVariants as stops
 use Rattle.lei_office.proofs.Counting.{none_reported}
 
 -- what was read of told bytes, to their end
@@ -128,7 +133,13 @@ completes may (to_check text) before after second second_after status n3 n4 n6 w
 completes may (to_make_digits text) before after second second_after status n3 n4 n6 whole tells =
     tells_done (digits_fault text) (digits_line text) before.written after.written status n4 n6 tells
 completes may (to_patch sheet form) before after second second_after status n3 n4 n6 whole applies =
-    completes_files sheet form (files before.left second before.written) (files after.left second_after after.written) status n3 n4 n6 applies
+    completes_files (Patches sheet form) (files before.left second before.written) (files after.left second_after after.written) status n3 n4 n6 applies
+completes may (to_search form) before after second second_after status n3 n4 n6 whole searches =
+    completes_search form (files before.left second before.written) (files after.left second_after after.written) status n3 n4 n6 searches
+completes may to_mirror before after second second_after status n3 n4 n6 whole mirrors =
+    completes_mirror (sides before.left before.written) (sides after.left after.written) status n3 n4 n6 mirrors
+completes may (to_report who form) before after second second_after status n3 n4 n6 whole reports =
+    completes_files (Reports who form) (files before.left second before.written) (files after.left second_after after.written) status n3 n4 n6 reports
 completes may (to_make_up records) before after second second_after status n3 n4 n6 whole tells = summary_done records before.written after.written status n4 n6 tells
 
 -- the stops of these statuses

@@ -17,8 +17,8 @@ use Rattle.line_reading.specs.declared.framing.NoEnd.{NoEnd}
 use Rattle.line_reading.proofs.LineRuns.{AnsweredSome, all_front, answered_all, answered_in_part, answered_to_end}
 use Rattle.leireg_run.specs.Ends.{AnswersLines, AnswersSome, EndsWith, RunsFrom, StopsWriting}
 use Rattle.leireg_run.specs.Outside.{Course, Leads, Outside, outside}
-use Rattle.leireg_run.specs.Runs.{input_limit}
-use Rattle.leireg_run.specs.Status.{end_status, ended_as}
+use Rattle.file_commands.specs.Files.{input_limit}
+use Rattle.file_commands.specs.Status.{end_status, ended_as}
 use Rattle.leireg_run.proofs.Fitting.{reads_office}
 
 -- ---- a run

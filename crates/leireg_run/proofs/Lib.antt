@@ -1,7 +1,4 @@
 pub mod Ending
 pub mod Fitting
-pub mod Stopping
-pub mod FileReading
-pub mod Applied
 pub mod Completing
 pub mod Unopened

@@ -1,5 +1,5 @@
 -- Runs over lines whose store is opened, and those whose store isn't.
-use Rattle.std.proofs.Common.{◌≡◌, ℕ, ℤ, List, Option, Ok, inl, inr, refl, sym, ap, subst, ◌∙◌, arith}
+use Rattle.std.proofs.Common.{◌≡◌, ◌≤◌, ◌⊎◌, ℕ, ℤ, List, Option, Ok, inl, inr, refl, sym, ap, subst, ◌∙◌, arith}
 use Rattle.std.specs.Prelude.{IfSome}
 use Rattle.lei_outside.specs.Count.{Rose}
 use Rattle.lei_outside.specs.Keeping.{KeptTables, Stays}
@@ -9,13 +9,21 @@ use Rattle.register_history.specs.Damage.{IsDamage}
 use Rattle.register_history.specs.Kept.{StaysUntold}
 use Rattle.register_words.specs.Limits.{standard}
 use Rattle.register_history.specs.State.{OfficeState}
+use Rattle.file_commands.specs.TwoFiles.{DoesWithFiles, Files, Rule}
+use Rattle.file_commands.specs.Mirroring.{Mirrors}
+use Rattle.file_commands.specs.Searching.{Searches}
+use Rattle.file_commands.specs.Sides.{Sides}
+use Rattle.register_words.specs.declared.sheets.Form.{Form}
+use Rattle.file_commands.proofs.Mirrored.{mirror_status}
+use Rattle.file_commands.proofs.Searched.{search_status}
+use Rattle.file_commands.proofs.TwoFilesRead.{files_status}
 use Rattle.leireg_run.specs.Ends.{EndsWith, IsDamageTold, IsUnopened, MayTell, RunsFrom, RunsLines, TellsDamage, damage_text}
 use Rattle.leireg_run.specs.Opened.{IsOpened}
 use Rattle.request_loop.specs.Counts.{RoseBy}
 use Rattle.lei_office.specs.Faults.{keeper_faults}
 use Rattle.leireg_run.specs.Outside.{Course, Outside, outside}
-use Rattle.leireg_run.specs.Status.{stop_status}
-use Rattle.leireg_run.specs.declared.status.Stop.{Stop}
+use Rattle.file_commands.specs.Status.{stop_status}
+use Rattle.file_commands.specs.declared.status.Stop.{Stop}
 
 -- what a run does doesn't depend on what the keeper told before
 runs_so : (from : OfficeState) (left : Option (List ℕ)) (given : Option (List ℤ)) (written : Option (List ℕ)) (old new : Option KeptTables) (before now : ℕ) (after : Outside) (status : ℕ)
@@ -95,3 +103,32 @@ pub damage_whole : (left left' : Option (List ℕ)) (given given' : Option (List
     → IfSome new (λ tables. IsDamage standard tables damage) → Grows written written' (damage_text damage)
     → TellsDamage {E = Unit {0}} (outside left given written old before) (outside left' given' written' new now) (Ok (tt {0}))
 damage_whole left left' given given' written written' old new before now damage is grows = record { damage = damage; is = is; written = grows }
+
+-- a status of a command that has no store
+not_unopened : (status : ℕ) → (status ≤ 4) ⊎ (status ≡ 6) ⊎ (status ≡ 8) → IsUnopened status → ⊥
+not_unopened status which unopened = elim which [
+  | inl low ↦ elim unopened [
+    | inl five ↦ omega (arith, low, five)
+    | inr seven ↦ omega (arith, low, seven)
+  ]
+  | inr (inl six) ↦ elim unopened [
+    | inl five ↦ omega (arith, six, five)
+    | inr seven ↦ omega (arith, six, seven)
+  ]
+  | inr (inr eight) ↦ elim unopened [
+    | inl five ↦ omega (arith, eight, five)
+    | inr seven ↦ omega (arith, eight, seven)
+  ]
+]
+
+-- no store is opened by a command over two files
+pub files_unopened : (rule : Rule) (before after : Files) (status : ℕ) → DoesWithFiles rule before after status → IsUnopened status → ⊥
+files_unopened rule before after status does = not_unopened status (files_status rule before after status does)
+
+-- nor by a search
+pub search_unopened : (form : Form) (before after : Files) (status : ℕ) → Searches form before after status → IsUnopened status → ⊥
+search_unopened form before after status searches = not_unopened status (search_status form before after status searches)
+
+-- nor by a mirror
+pub mirror_unopened : (before after : Sides) (status : ℕ) → Mirrors before after status → IsUnopened status → ⊥
+mirror_unopened before after status mirrors = not_unopened status (mirror_status before after status mirrors)

@@ -15,7 +15,7 @@ use Rattle.register_history.specs.Kept.{Keeps, StaysUntold}
 use Rattle.register_history.specs.State.{OfficeState}
 use Rattle.register_history.specs.Legal.{Legal, Session, replies_to}
 use Rattle.register_words.specs.Limits.{standard}
-use Rattle.leireg_run.specs.Codes.{check_line, digits_fault, digits_line, told_status, TellsLine}
+use Rattle.file_commands.specs.Codes.{check_line, digits_fault, digits_line, told_status, TellsLine}
 use Rattle.request_loop.specs.Wires.{IsSent}
 use Rattle.request_loop.specs.Serving.{read_limit}
 use Rattle.line_reading.specs.Lines.{Line, whole_part}
@@ -24,12 +24,18 @@ use Rattle.leireg_run.specs.Opened.{IsOpened}
 use Rattle.leireg_run.specs.Outside.{Course, Leads, Outside}
 use Rattle.line_reading.specs.Replies.{reply_texts}
 use Rattle.line_reading.specs.LineRuns.{asks_of_lines}
-use Rattle.leireg_run.specs.Runs.{Answers, AnswersCutShort, input_limit}
-use Rattle.leireg_run.specs.declared.status.Stop.{Stop}
-use Rattle.leireg_run.specs.declared.status.Stop.TheVariants as stops
+use Rattle.leireg_run.specs.Runs.{Answers, AnswersCutShort}
+use Rattle.file_commands.specs.Files.{input_limit}
+use Rattle.file_commands.specs.declared.status.Stop.{Stop}
+use Rattle.file_commands.specs.declared.status.Stop.TheVariants as stops
 use Rattle.register_demo.specs.Session.{IsSummary}
-use Rattle.leireg_run.specs.Applying.{AppliesFiles, CompletesFiles, files}
-use Rattle.program_words.specs.Words.{Invocation, to_answer_lines, to_check, to_make_digits, to_make_up, to_patch, to_serve}
+use Rattle.file_commands.specs.Applying.{Patches}
+use Rattle.file_commands.specs.Grouping.{Reports}
+use Rattle.file_commands.specs.Mirroring.{CompletesMirror, Mirrors}
+use Rattle.file_commands.specs.Searching.{CompletesSearch, Searches}
+use Rattle.file_commands.specs.Sides.{sides}
+use Rattle.file_commands.specs.TwoFiles.{CompletesFiles, DoesWithFiles, files}
+use Rattle.program_words.specs.Words.{Invocation, to_answer_lines, to_check, to_make_digits, to_make_up, to_mirror, to_patch, to_report, to_search, to_serve}
 
 -- ---- a run over lines, status by status
 
@@ -180,7 +186,15 @@ Does may (to_check text) before after second_before second_after status =
 Does may (to_make_digits text) before after second_before second_after status =
     TellsLine (digits_fault text) (digits_line text) before.written after.written status
 Does may (to_patch sheet form) before after second_before second_after status =
-    AppliesFiles sheet form (files before.left second_before before.written)
+    DoesWithFiles (Patches sheet form) (files before.left second_before before.written)
+    (files after.left second_after after.written) status
+Does may (to_search form) before after second_before second_after status =
+    Searches form (files before.left second_before before.written)
+    (files after.left second_after after.written) status
+Does may to_mirror before after second_before second_after status =
+    Mirrors (sides before.left before.written) (sides after.left after.written) status
+Does may (to_report who form) before after second_before second_after status =
+    DoesWithFiles (Reports who form) (files before.left second_before before.written)
     (files after.left second_after after.written) status
 Does may (to_make_up records) before after second_before second_after status =
     TellsSummary records before.written after.written status
@@ -229,7 +243,15 @@ Completes may (to_check text) before after second_before second_after status = s
 Completes may (to_make_digits text) before after second_before second_after status = status
     ≡ told_status (digits_fault text)
 Completes may (to_patch sheet form) before after second_before second_after status =
-    CompletesFiles sheet form (files before.left second_before before.written)
+    CompletesFiles (Patches sheet form) (files before.left second_before before.written)
+    (files after.left second_after after.written) status
+Completes may (to_search form) before after second_before second_after status =
+    CompletesSearch form (files before.left second_before before.written)
+    (files after.left second_after after.written) status
+Completes may to_mirror before after second_before second_after status =
+    CompletesMirror (sides before.left before.written) (sides after.left after.written) status
+Completes may (to_report who form) before after second_before second_after status =
+    CompletesFiles (Reports who form) (files before.left second_before before.written)
     (files after.left second_after after.written) status
 Completes may (to_make_up records) before after second_before second_after status =
     (status ≡ 0) × ((text : Text) × IsSummary records text × Grows before.written after.written text)

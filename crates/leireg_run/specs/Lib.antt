@@ -1,7 +1,3 @@
-pub mod Codes
-pub mod Status
-pub mod Files
-pub mod Applying
 pub mod Opened
 pub mod Runs
 pub mod Outside

@@ -7,10 +7,6 @@ use Rattle.register_history.specs.Legal.{Session}
 use Rattle.line_reading.specs.LineRuns.{AreTextsOf}
 use Rattle.line_reading.specs.Replies.{reply_texts}
 
--- A run ends where it has read 4,294,967,296 bytes (4 GiB). This project's profile.
-abbrev pub input_limit : ℕ
-input_limit = 4_294_967_296
-
 -- These replies answer what was asked, in order, at these moments, from one office to the other, and these bytes are
 -- their texts in order.
 pub record Answers (old : OfficeState) (asks : List Asked) (moments : List ℤ) (replies : List Reply)

@@ -4,7 +4,7 @@ ghost use Rattle.lei_outside.specs.Faults.{FailsLast};
 ghost use Rattle.request_loop.specs.Wires.{IsSent};
 ghost use Rattle.leireg_run.specs.Ends.{damage_text};
 
-use crate::codes::write_pieces;
+use file_commands::write_pieces;
 use lei_office::Damage;
 use lei_outside::{Sink, SinkFault};
 

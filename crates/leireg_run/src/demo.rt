@@ -2,10 +2,9 @@
 ghost use Rattle.std.specs.Prelude.{◌≡◌, ◌≤◌, IsErrOf};
 ghost use Rattle.lei_outside.specs.Faults.{FailsLast};
 ghost use Rattle.leireg_run.specs.Ends.{TellsSummary};
-ghost use Rattle.leireg_run.specs.Status.{end_status};
+ghost use Rattle.file_commands.specs.Status.{end_status};
 
-use crate::applying::tell_text;
-use crate::status::Stop;
+use file_commands::{Stop, tell_text};
 use lei_outside::Sink;
 use register_demo::{Progress, demo};
 use std::alloc::Global;

@@ -1,15 +1,13 @@
 //! The commands of the program, over any sources, any sink, any keeper and any clock.
 #![tactic(auto)]
 
-mod applying;
-mod codes;
 mod command;
 mod damage;
 mod demo;
-mod files;
+mod laws;
 mod program;
-pub mod status;
 
-pub use files::{MAX_FILE, no_file};
-pub use program::{MAX_INPUT, run};
+pub use file_commands::{MAX_FILE, MAX_INPUT, no_file, status_text};
+pub use laws::mirrors_show_copies_of_histories;
+pub use program::run;
 pub use register_demo::{Progress, Untold};

@@ -11,29 +11,24 @@ ghost use Rattle.leireg_run.specs.Opened.{IsOpened};
 ghost use Rattle.leireg_run.specs.Ends.{RunsFrom, RunsLines, Does, DoesIfRead, Completes, IsDamageTold, IsUnopened, MayTell, TellsDamage, damage_text};
 ghost use Rattle.line_reading.specs.LineFrames.{Holds};
 ghost use Rattle.leireg_run.specs.Outside.{outside};
-ghost use Rattle.leireg_run.specs.Status.{end_status, ended_as};
-ghost use Rattle.leireg_run.specs.Applying.{FailsOneOf};
+ghost use Rattle.file_commands.specs.Status.{end_status};
+ghost use Rattle.file_commands.specs.TwoFiles.{FailsOneOf};
 ghost use Rattle.program_words.specs.Words.{Invocation, IsInRange, invocation_of, to_answer_lines};
 ghost use Rattle.leireg_run.specs.Words.{Mean, invocation_in, reads_input, reads_second, unless_serving};
 
-use crate::applying::apply;
-use crate::codes::{check, digits};
 use crate::command::command_of;
 use crate::damage::write_damage;
 use crate::demo::tell_demo;
-use crate::status::Stop;
+use file_commands::{MAX_INPUT, Stop, apply, check, digits, ended_as, group, mirror, search};
 use lei_office::{Damage, Limits, Office, OpenFault};
 use lei_outside::{Clock, Keeper, Sink, SinkFault, Source};
-use line_reading::{LineFraming, NoEnd};
+use line_reading::LineFraming;
 use program_words::{Command, WordsFault};
 use register_demo::Progress;
 use register_words::ExitStatus;
-use request_loop::{Duplex, Ended, Intake, serve};
+use request_loop::{Duplex, Intake, serve};
 use std::alloc::Global;
 use std::thread::Threads;
-
-/// The bytes of an input at which a run ends. This project's profile.
-pub const MAX_INPUT: usize = 4_294_967_296;
 
 /// Does what the words ask for, which are the program's words without its name. Says the status that it ends with, and
 /// gives the keeper back. Lines are answered from the office of what the keeper has. The clock is asked for one moment
@@ -143,6 +138,9 @@ fn run_command<R: Threads + Sync, S: Source, T: Source, W: Sink, K: Keeper, C: C
         Command::Check(code) => (check(code, out), keeper),
         Command::Digits(text) => (digits(text, out), keeper),
         Command::Apply(sheet, form) => (apply(alloc, *sheet, *form, input, second, out), keeper),
+        Command::Search(form) => (search(rt, alloc, *form, input, second, out), keeper),
+        Command::Mirror => (mirror(rt, alloc, input, out), keeper),
+        Command::Group(who, form) => (group(alloc, who, *form, input, second, out), keeper),
         Command::Demo(records) => (tell_demo(rt, alloc, *records, out, progress), keeper),
     }
 }
@@ -279,18 +277,4 @@ fn serve_lines<R: Threads + Sync, S: Source, W: Sink, K: Keeper, C: Clock>(
         most: MAX_INPUT,
     };
     ended_as(serve(rt, intake, office, framing, wire, clock))
-}
-
-// What a run is stopped as, by how serving its lines ended.
-fn ended_as(ended: Ended<NoEnd>) -> Result<(), Stop>
-    ensures { result ≡ ended_as ended }
-{
-    match ended {
-        Ended::AtEnd => Ok(()),
-        Ended::By(end) => match end {},
-        Ended::ReadFault => Err(Stop::ReadFault),
-        Ended::WriteFault => Err(Stop::WriteFault),
-        Ended::InputLimit => Err(Stop::InputTooLong),
-        Ended::NoMemory => Err(Stop::NoMemory),
-    }
 }

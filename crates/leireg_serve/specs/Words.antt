@@ -2,13 +2,16 @@
 use Rattle.std.specs.Prelude.{◌≡◌, List, map, string_bytes, String, Option, None, Some, option_and_then}
 use Rattle.std.specs.Global.{Global}
 use Rattle.lei_code.specs.Texts.{Text}
-use Rattle.program_words.specs.Words.{Invocation, Meant, meant, to_answer_lines, to_check, to_make_digits, to_make_up, to_patch, to_serve}
+use Rattle.program_words.specs.Words.{Invocation, Meant, meant, to_answer_lines, to_check, to_make_digits, to_make_up, to_mirror, to_patch, to_report, to_search, to_serve}
 
 -- What is meant, where the invocation is to serve.
 abbrev pub if_serving : Invocation → Meant → Option Meant
 if_serving to_answer_lines what = None
 if_serving to_serve what = Some what
 if_serving (to_patch sheet form) what = None
+if_serving (to_search form) what = None
+if_serving to_mirror what = None
+if_serving (to_report who form) what = None
 if_serving (to_check text) what = None
 if_serving (to_make_digits text) what = None
 if_serving (to_make_up records) what = None

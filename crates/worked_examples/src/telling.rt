@@ -32,7 +32,9 @@ pub fn tell_session<R: Print + AllocGlobal + Threads + Sync>(
 }
 
 // The words whose help a guide shows, the empty one for that of the whole program.
-const COMMANDS: [&str; 7] = ["", "lines", "serve", "apply", "check", "digits", "demo"];
+const COMMANDS: [&str; 10] = [
+    "", "lines", "serve", "apply", "search", "mirror", "group", "check", "digits", "demo",
+];
 
 /// Tells whether the help of each command stands in a text as it is printed, and says that.
 pub fn tell_help<R: Print>(rt: &R, file: &str, text: &str) -> io::Result<bool> {

@@ -1,8 +1,8 @@
 use Rattle.std.proofs.Common.{Err, ap, sym, ◌∙◌}
-use Rattle.leireg_run.specs.Status.{end_status}
+use Rattle.file_commands.specs.Status.{end_status}
 use Rattle.leireg_run.specs.Ends.{MayTell}
 use Rattle.leireg_run.proofs.Completing.{completes_meant, completes_stopped, only_damage}
-use Rattle.leireg_run.proofs.Applied.{rose_of, one_rose}
+use Rattle.file_commands.proofs.TwoFilesRead.{rose_of, one_rose}
 use Rattle.leireg_run.proofs.program.run.Goals as goal
 
 pub returns-in-Ok-default-clause-complete : goal.returns-in-Ok-default-clause-complete

@@ -5,7 +5,7 @@ use Rattle.register_words.specs.Limits.{standard}
 use Rattle.lei_office.specs.Offices.{FaultRose, IsRefused, keeper_back}
 use Rattle.leireg_run.specs.Ends.{MayTell, RunsFrom}
 use Rattle.leireg_run.specs.Outside.{Outside, outside}
-use Rattle.leireg_run.specs.Status.{end_status}
+use Rattle.file_commands.specs.Status.{end_status}
 use Rattle.leireg_run.proofs.Unopened.{damaged_opening, opens_runs}
 use Rattle.leireg_run.proofs.program.run_lines.Goals as goal
 

@@ -9,12 +9,12 @@ use Rattle.lei_office.proofs.Sessions.{serves_untold}
 use Rattle.line_reading.specs.LineFrames.{line_rules}
 use Rattle.leireg_run.specs.Ends.{RunsFrom}
 use Rattle.leireg_run.specs.Outside.{outside}
-use Rattle.leireg_run.specs.Runs.{input_limit}
-use Rattle.leireg_run.specs.Status.{end_status}
-use Rattle.leireg_run.specs.declared.status.Stop.{Stop}
+use Rattle.file_commands.specs.Files.{input_limit}
+use Rattle.file_commands.specs.Status.{end_status}
+use Rattle.file_commands.specs.declared.status.Stop.{Stop}
 use Rattle.leireg_run.proofs.Ending.{runs_served}
 use Rattle.leireg_run.proofs.Fitting.{lines_fit}
-use Rattle.leireg_run.proofs.Stopping.{only_read_fault, only_write_fault}
+use Rattle.file_commands.proofs.Stopping.{only_read_fault, only_write_fault}
 use Rattle.leireg_run.proofs.program.serve_lines.Goals as goal
 
 pub serve-requires-clause-fits : goal.serve-requires-clause-fits

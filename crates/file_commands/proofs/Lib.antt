@@ -1,0 +1,8 @@
+pub mod FileReading
+pub mod Stopping
+pub mod TwoFilesRead
+pub mod Applied
+pub mod Grouped
+pub mod Serving
+pub mod Searched
+pub mod Mirrored

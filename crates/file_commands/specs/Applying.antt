@@ -1,0 +1,28 @@
+-- What the command writes that patches a golden copy. This project's profile.
+use Rattle.std.specs.Prelude.{◌≡◌, [], ◌∷◌, ◌++◌, codes, decimal, Result, Ok, Err}
+use Rattle.lei_code.specs.Texts.{Text}
+use Rattle.register_words.specs.declared.sheets.Form.{Form}
+use Rattle.register_words.specs.declared.sheets.Sheet.{Sheet}
+use Rattle.delta_apply.specs.Applying.{IsAnswer}
+use Rattle.delta_apply.specs.declared.fault.ApplyFault.{ApplyFault}
+use Rattle.delta_apply.specs.declared.fault.ApplyFault.TheVariants as faults
+use Rattle.file_commands.specs.TwoFiles.{Outcome, Rule}
+
+-- The line that says why there is no new copy.
+abbrev pub apply_refusal : ApplyFault → Text
+apply_refusal faults.CopyNotRead = codes "refused COPY_NOT_READ\n"
+apply_refusal faults.DeltaNotRead = codes "refused DELTA_NOT_READ\n"
+apply_refusal (faults.WrongBase publication from) =
+    codes "refused WRONG_BASE " ++ (decimal publication ++ 32 ∷ (decimal from ++ 10 ∷ []))
+apply_refusal faults.OlderDelta = codes "refused OLDER_DELTA\n"
+apply_refusal faults.NoMemory = []
+
+-- What comes of an answer to a copy and a delta: the new copy, or why there is none.
+abbrev pub outcome_of : Result Text ApplyFault → Outcome
+outcome_of (Ok copy) = Ok copy
+outcome_of (Err fault) = Err (apply_refusal fault)
+
+-- What comes of a copy and a delta of this sheet and form.
+abbrev pub Patches : Sheet → Form → Rule
+Patches sheet form copy delta outcome =
+    (answer : Result Text ApplyFault) × IsAnswer copy delta sheet form answer × (outcome ≡ outcome_of answer)

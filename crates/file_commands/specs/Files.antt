@@ -1,0 +1,42 @@
+-- Inputs of lines, and files that are read to their ends. This project's profile.
+use Rattle.std.specs.Prelude.{◌≡◌, ◌<◌, ℕ, List, length, Option}
+use Rattle.lei_outside.specs.Told.{IsAtEnd, Loses}
+use Rattle.file_commands.specs.declared.status.Stop.{Stop}
+use Rattle.file_commands.specs.declared.status.Stop.TheVariants as stops
+
+-- The reading of a file ends where 1,073,741,824 bytes were read (1 GiB).
+abbrev pub file_limit : ℕ
+file_limit = 1_073_741_824
+
+-- A run over lines ends if it has read 4,294,967,296 bytes (4 GiB).
+abbrev pub input_limit : ℕ
+input_limit = 4_294_967_296
+
+-- These bytes were read, and there the file ends. They are fewer than end a reading.
+pub record IsReadWhole (before after : Option (List ℕ)) (bytes : List ℕ) : Type 0 where
+  pub lost : Loses before after bytes
+  pub ended : IsAtEnd after
+  pub short : length bytes < file_limit
+
+-- Fewer bytes were read than end a reading.
+pub record IsReadShort (before after : Option (List ℕ)) : Type 0 where
+  pub bytes : List ℕ
+  pub lost : Loses before after bytes
+  pub short : length bytes < file_limit
+
+-- As many bytes were read as end a reading.
+pub record IsReadToLimit (before after : Option (List ℕ)) : Type 0 where
+  pub bytes : List ℕ
+  pub lost : Loses before after bytes
+  pub long : length bytes ≡ file_limit
+
+-- Why a file wasn't read to its end: a read failed, memory was wanted, or the file is too long, exactly where so many
+-- bytes were read.
+abbrev pub IsFileStop : Option (List ℕ) → Option (List ℕ) → Stop → Type 0
+IsFileStop before after stops.Refused = ⊥
+IsFileStop before after stops.ReadFault = IsReadShort before after
+IsFileStop before after stops.WriteFault = ⊥
+IsFileStop before after stops.KeeperFault = ⊥
+IsFileStop before after stops.NoMemory = IsReadShort before after
+IsFileStop before after stops.StoreDamaged = ⊥
+IsFileStop before after stops.InputTooLong = IsReadToLimit before after

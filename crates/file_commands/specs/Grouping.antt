@@ -1,0 +1,108 @@
+-- What the command writes that reports on groups. This project's profile.
+use Rattle.std.specs.Prelude.{◌≡◌, ◌≢◌, ◌||◌, ℕ, Bool, true, false, List, [], ◌∷◌, ◌++◌, codes, decimal, is_some, if◌then◌else◌, Result, Ok, Err, map, ⊤}
+use Rattle.std.specs.Str.{bytes_eq}
+use Rattle.lei_code.specs.Texts.{Text}
+use Rattle.copy_csv.specs.Sheets.{SheetRow}
+use Rattle.copy_csv.specs.declared.heads.Head.{Head}
+use Rattle.copy_forms.specs.Files.{IsCopy}
+use Rattle.delta_apply.specs.Applying.{IsNoCopy, IsSomeCopy}
+use Rattle.group_reports.specs.Links.{GroupTable, link_of, name_at, named}
+use Rattle.group_reports.specs.Reports.{disagreement_report, group_report}
+use Rattle.register_words.specs.declared.sheets.Form.{Form}
+use Rattle.register_words.specs.declared.sheets.Sheet.{Sheet}
+use Rattle.file_commands.specs.TwoFiles.{Outcome, Rule}
+use Rattle.file_commands.specs.declared.grouping.GroupRefusal.{GroupRefusal}
+use Rattle.file_commands.specs.declared.grouping.GroupRefusal.TheVariants as refusals
+
+-- ---- two copies
+
+-- A copy of `lei` and one of `rr`, with what stands in them.
+pub record Copies (lei rr : Text) (form : Form) : Type 0 where
+  pub lei_head : Head
+  pub lei_wide : Bool
+  pub lei_rows : List SheetRow
+  pub lei_is : IsCopy lei Sheet.Lei form lei_head lei_wide lei_rows
+  pub rr_head : Head
+  pub rr_wide : Bool
+  pub rr_rows : List SheetRow
+  pub rr_is : IsCopy rr Sheet.Rr form rr_head rr_wide rr_rows
+
+-- In JSON two copies are of one publication. In CSV no head is printed, so nothing is asked.
+abbrev pub GoTogether : Form → Head → Head → Type 0
+GoTogether Form.Csv lei rr = ⊤
+GoTogether Form.Json lei rr = lei.publication ≡ rr.publication
+
+-- What a report takes from two copies.
+abbrev pub table_of : List SheetRow → List SheetRow → GroupTable
+table_of lei rr = record { names = map named lei; links = map link_of rr }
+
+-- ---- on whom
+
+-- All starts are wanted, and not the group of one entity.
+abbrev pub is_all : Text → Bool
+is_all who = bytes_eq who (codes "ALL")
+
+-- A report on this can be made: all are wanted, or the first copy has a row with this LEI.
+abbrev pub is_known : GroupTable → Text → Bool
+is_known table who = is_all who || is_some (name_at table.names who)
+
+-- The report: where reported and computed parents disagree, or who belongs to a group.
+abbrev pub report_text : GroupTable → Text → Text
+report_text table who = if is_all who then disagreement_report table else group_report table who
+
+-- ---- what is to be answered
+
+-- What is to be answered of two files, in this order: that the first is no copy of `lei`, that the second is no copy of
+-- `rr`, that they are of two publications, that the first has no row of the entity, or the report. Want of memory is
+-- never to be answered.
+abbrev pub IsReport : Text → Form → Text → Text → Result Text GroupRefusal → Type 0
+IsReport who form lei rr (Ok text) =
+    (copies : Copies lei rr form) × GoTogether form copies.lei_head copies.rr_head
+    × (is_known (table_of copies.lei_rows copies.rr_rows) who ≡ true)
+    × (text ≡ report_text (table_of copies.lei_rows copies.rr_rows) who)
+IsReport who form lei rr (Err refusals.LeiCopyNotRead) = IsNoCopy lei Sheet.Lei form
+IsReport who form lei rr (Err refusals.RrCopyNotRead) = IsSomeCopy lei Sheet.Lei form × IsNoCopy rr Sheet.Rr form
+IsReport who form lei rr (Err (refusals.OtherPublication p q)) =
+    (form ≡ Form.Json) × (copies : Copies lei rr form) × (copies.lei_head.publication ≡ p)
+    × (copies.rr_head.publication ≡ q) × (p ≢ q)
+IsReport who form lei rr (Err refusals.LeiUnknown) =
+    (copies : Copies lei rr form) × GoTogether form copies.lei_head copies.rr_head
+    × (is_known (table_of copies.lei_rows copies.rr_rows) who ≡ false)
+IsReport who form lei rr (Err refusals.NoMemory) = ⊥
+
+-- What is to be answered if this is taken from two copies that go together, unless memory was wanting.
+abbrev pub IsReportOf : GroupTable → Text → Result Text GroupRefusal → Type 0
+IsReportOf table who (Ok text) = (is_known table who ≡ true) × (text ≡ report_text table who)
+IsReportOf table who (Err refusals.LeiCopyNotRead) = ⊥
+IsReportOf table who (Err refusals.RrCopyNotRead) = ⊥
+IsReportOf table who (Err (refusals.OtherPublication p q)) = ⊥
+IsReportOf table who (Err refusals.LeiUnknown) = is_known table who ≡ false
+IsReportOf table who (Err refusals.NoMemory) = ⊤
+
+-- This holds, unless memory was wanting.
+abbrev pub UnlessNoMemory : Result Text GroupRefusal → Type 0 → Type 0
+UnlessNoMemory (Ok text) P = P
+UnlessNoMemory (Err refusals.LeiCopyNotRead) P = P
+UnlessNoMemory (Err refusals.RrCopyNotRead) P = P
+UnlessNoMemory (Err (refusals.OtherPublication p q)) P = P
+UnlessNoMemory (Err refusals.LeiUnknown) P = P
+UnlessNoMemory (Err refusals.NoMemory) P = ⊤
+
+-- The line that says why there is no report.
+abbrev pub group_refusal : GroupRefusal → Text
+group_refusal refusals.LeiCopyNotRead = codes "refused LEI_COPY_NOT_READ\n"
+group_refusal refusals.RrCopyNotRead = codes "refused RR_COPY_NOT_READ\n"
+group_refusal (refusals.OtherPublication p q) =
+    codes "refused OTHER_PUBLICATION " ++ (decimal p ++ 32 ∷ (decimal q ++ 10 ∷ []))
+group_refusal refusals.LeiUnknown = codes "refused LEI_UNKNOWN\n"
+group_refusal refusals.NoMemory = []
+
+-- What comes of an answer: the report, or why there is none.
+abbrev pub outcome_of : Result Text GroupRefusal → Outcome
+outcome_of (Ok text) = Ok text
+outcome_of (Err refusal) = Err (group_refusal refusal)
+
+-- What comes of two copies of this form, in a report on this.
+abbrev pub Reports : Text → Form → Rule
+Reports who form lei rr outcome =
+    (answer : Result Text GroupRefusal) × IsReport who form lei rr answer × (outcome ≡ outcome_of answer)

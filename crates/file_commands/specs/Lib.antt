@@ -1,0 +1,9 @@
+pub mod Codes
+pub mod Status
+pub mod Files
+pub mod TwoFiles
+pub mod Applying
+pub mod Grouping
+pub mod Sides
+pub mod Searching
+pub mod Mirroring

@@ -1,0 +1,97 @@
+-- What a command does that reads two files to their ends, and writes what comes of them. This project's profile.
+use Rattle.std.specs.Prelude.{◌≡◌, ◌<◌, ◌⊎◌, ℕ, List, length, Option, Some, Result, Ok, Err}
+use Rattle.lei_code.specs.Texts.{Text}
+use Rattle.lei_outside.specs.Faults.{FailsLast}
+use Rattle.lei_outside.specs.Told.{Grows, WritesFront}
+use Rattle.file_commands.specs.Files.{IsFileStop, IsReadWhole, file_limit}
+use Rattle.file_commands.specs.Status.{stop_status}
+use Rattle.file_commands.specs.declared.status.Stop.{Stop}
+
+-- ---- what is written
+
+-- What comes of two files: a text, or the line that says why there is none.
+abbrev pub Outcome : Type 0
+Outcome = Result Text Text
+
+-- The bytes that are written of it.
+abbrev pub outcome_text : Outcome → Text
+outcome_text (Ok text) = text
+outcome_text (Err line) = line
+
+-- The status after that: 0, or 2 if there is no text.
+abbrev pub outcome_status : Outcome → ℕ
+outcome_status (Ok text) = 0
+outcome_status (Err line) = 2
+
+-- An outcome was written whole; or a write failed, or memory was wanted, and a front of it was written and not all.
+abbrev pub TellsOutcome : Outcome → Option (List ℕ) → Option (List ℕ) → ℕ → Type 0
+TellsOutcome outcome before after status =
+    ((status ≡ outcome_status outcome) × Grows before after (outcome_text outcome))
+    ⊎ ((status ≡ 4) × WritesFront before after (outcome_text outcome))
+    ⊎ ((status ≡ 6) × WritesFront before after (outcome_text outcome))
+
+-- What comes of the bytes of two files, by a rule.
+abbrev pub Rule : Type 1
+Rule = Text → Text → Outcome → Type 0
+
+-- What comes of two files was written; or nothing was, since memory was wanted for it.
+abbrev pub TellsOf : Rule → Text → Text → Option (List ℕ) → Option (List ℕ) → ℕ → Type 0
+TellsOf rule first second before after status =
+    ((outcome : Outcome) × rule first second outcome × TellsOutcome outcome before after status)
+    ⊎ ((status ≡ 6) × (after ≡ before))
+
+-- ---- what is read
+
+-- What the two files have left and what the output has taken, at one time.
+pub record Files : Type 0 where
+  pub first : Option (List ℕ)
+  pub second : Option (List ℕ)
+  pub written : Option (List ℕ)
+
+-- The three of these devices.
+abbrev pub files : Option (List ℕ) → Option (List ℕ) → Option (List ℕ) → Files
+files first second written = record { first = first; second = second; written = written }
+
+-- The first file wasn't read to its end, and the second not at all; or the first was, and the second not to its end.
+abbrev pub AreLeft : Files → Files → Stop → Type 0
+AreLeft before after stop =
+    (IsFileStop before.first after.first stop × (after.second ≡ before.second))
+    ⊎ ((first : List ℕ) × IsReadWhole before.first after.first first
+    × IsFileStop before.second after.second stop)
+
+-- A read of one of two sources failed, and nothing was read behind it; no read of the other one failed.
+abbrev pub FailsOneOf : {S T : Type 0} → (S → Option (List ℕ)) → (S → ℕ) → S → S → (T → Option (List ℕ))
+    → (T → ℕ) → T → T → Type 0
+FailsOneOf left faults old new other_left other_faults other_old other_new =
+    (FailsLast left faults old new × (other_faults other_new ≡ other_faults other_old))
+    ⊎ ((faults new ≡ faults old) × FailsLast other_left other_faults other_old other_new)
+
+-- ---- how the command ends
+
+-- Both files were read to their ends, and what comes of them was written.
+pub record AnswersFiles (rule : Rule) (before after : Files) (status : ℕ) : Type 0 where
+  pub first : List ℕ
+  pub second : List ℕ
+  pub first_read : IsReadWhole before.first after.first first
+  pub second_read : IsReadWhole before.second after.second second
+  pub tells : TellsOf rule first second before.written after.written status
+
+-- A file wasn't read to its end, and nothing was written.
+pub record LeavesFiles (before after : Files) (status : ℕ) : Type 0 where
+  pub stop : Stop
+  pub status_is : status ≡ stop_status stop
+  pub left : AreLeft before after stop
+  pub unwritten : after.written ≡ before.written
+
+-- What the command does, by its status.
+abbrev pub DoesWithFiles : Rule → Files → Files → ℕ → Type 0
+DoesWithFiles rule before after status = AnswersFiles rule before after status ⊎ LeavesFiles before after status
+
+-- Files that are told and short enough are read and answered, and what comes of them is written, with status 0 or 2.
+abbrev pub CompletesFiles : Rule → Files → Files → ℕ → Type 0
+CompletesFiles rule before after status =
+    (first second : List ℕ) → before.first ≡ Some first → before.second ≡ Some second
+    → length first < file_limit → length second < file_limit
+    → (outcome : Outcome) × rule first second outcome
+    × (status ≡ outcome_status outcome)
+    × Grows before.written after.written (outcome_text outcome)

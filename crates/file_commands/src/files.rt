@@ -1,0 +1,71 @@
+//! Files that are read to their ends.
+ghost use Rattle.std.specs.Prelude.{◌≡◌, ◌≤◌, ◌<◌, ◌++◌, [], take, vec_len, IfErr, IfOk, IsErrOf, OnErr, OnOk};
+ghost use Rattle.lei_outside.specs.Told.{Loses};
+ghost use Rattle.request_loop.specs.ReadBuffers.{Fills};
+ghost use Rattle.lei_outside.specs.Faults.{FailsLast};
+ghost use Rattle.file_commands.specs.Files.{IsFileStop, IsReadWhole};
+
+use crate::status::Stop;
+use lei_outside::{Bytes, Failed, NoMemory, Source, SureSource};
+use line_reading::BLOCK;
+use std::alloc::Global;
+
+/// The bytes of a file at which its reading ends. This project's profile.
+pub const MAX_FILE: usize = 1_073_741_824;
+
+/// A file without bytes, for a command that reads no second one.
+pub fn no_file(alloc: Global) -> SureSource
+    ensures { result.left ≡ [] }
+{
+    SureSource::new(Bytes::from(Vec::new(alloc)), 1)
+}
+
+/// Reads a file to its end, block by block.
+pub fn read_file<S: Source>(alloc: Global, input: &mut S) -> Result<Vec<u8>, Stop>
+    ensures whole { IfOk result (λ file. IsReadWhole (S.left input.old) (S.left input.new) file.items) }
+    ensures stops { IfErr result (IsFileStop (S.left input.old) (S.left input.new)) }
+    ensures failed { IsErrOf result Stop.ReadFault → FailsLast S.left S.faults input.old input.new }
+    ensures kept { ¬ (IsErrOf result Stop.ReadFault) → S.faults input.new ≡ S.faults input.old }
+{
+    let mut block = block(alloc)?;
+    let mut file = Vec::new(alloc);
+    loop {
+        let count = read_block(input, &mut block, MAX_FILE - file.len())?;
+        if count == 0 {
+            return Ok(file);
+        }
+        if file.len() + count == MAX_FILE {
+            return Err(Stop::InputTooLong);
+        }
+        put_behind(&mut file, &block[..count])?;
+    }
+}
+
+// Reads once, at most a block and at most this many bytes, into the front of a block.
+fn read_block<S: Source>(input: &mut S, block: &mut Vec<u8>, most: usize) -> Result<usize, Failed>
+    requires room { vec_len block.old ≡ BLOCK }
+    requires some { 0 < most }
+    ensures ok { IfOk result (λ count. Fills (S.left input.old) (S.left input.new) []
+        (take count block.new.items) count most) }
+    ensures block { IfOk result (λ count. count ≤ BLOCK) }
+    ensures err { OnErr result (Loses (S.left input.old) (S.left input.new) []) }
+    ensures len { vec_len block.new ≡ vec_len block.old }
+    ensures kept { OnOk result (S.faults input.new ≡ S.faults input.old) }
+    ensures failed { OnErr result (FailsLast S.left S.faults input.old input.new) }
+{
+    let end = most.min(BLOCK);
+    input.read(&mut block[0..end])
+}
+
+// The memory that one read fills.
+fn block(alloc: Global) -> Result<Vec<u8>, NoMemory>
+    ensures { IfOk result (λ block. vec_len block ≡ BLOCK) }
+{
+    Ok(vec![in alloc; 0u8; BLOCK]?)
+}
+
+fn put_behind(file: &mut Vec<u8>, bytes: &[u8]) -> Result<(), NoMemory>
+    ensures { OnOk result (file.new.items ≡ file.old.items ++ bytes.now) }
+{
+    Ok(file.extend_from_slice(bytes)?)
+}

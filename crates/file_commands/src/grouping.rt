@@ -1,0 +1,154 @@
+//! The command that reports on groups.
+ghost use Rattle.std.specs.Prelude.{◌≡◌, Err, IfErr, IfOk, IsErrOf};
+ghost use Rattle.lei_outside.specs.Faults.{FailsLast};
+ghost use Rattle.register_words.specs.declared.sheets.Sheet.{Sheet as DeclaredSheet};
+ghost use Rattle.copy_forms.specs.Files.{IsCopyRead};
+ghost use Rattle.group_reports.specs.Links.{GroupTable};
+ghost use Rattle.file_commands.specs.Grouping.{IsReport, IsReportOf, Reports, UnlessNoMemory, group_refusal};
+ghost use Rattle.file_commands.specs.TwoFiles.{DoesWithFiles, FailsOneOf, TellsOf, TellsOutcome, files};
+ghost use Rattle.request_loop.specs.Wires.{IsSent};
+ghost use Rattle.file_commands.specs.Status.{end_status};
+
+use crate::files::read_file;
+use crate::status::Stop;
+use crate::writing::{tell_text, write_numbers, write_pieces};
+use copy_csv::{Form, FormFault, Sheet};
+use copy_forms::read_copy;
+use group_reports::{GroupFault, Groups, ReportFault};
+use lei_outside::{Bytes, NoMemory, Sink, SinkFault, Source};
+use std::alloc::Global;
+
+/// Why no report is made.
+#[derive(Clone, Copy)]
+pub enum GroupRefusal {
+    /// The first file is no golden copy of `lei` in this form.
+    LeiCopyNotRead,
+    /// The second file is no golden copy of `rr` in this form.
+    RrCopyNotRead,
+    /// In JSON: the numbers of the publications of the two, which differ.
+    OtherPublication(u32, u32),
+    /// The first copy has no row of the entity.
+    LeiUnknown,
+    /// Memory ran out.
+    NoMemory,
+}
+
+/// Reads a copy of `lei` and one of `rr` to their ends, and writes the report on the group of an entity, or with `ALL`
+/// in place of its LEI on all starts of relationships; or why there is none.
+pub fn group<S: Source, T: Source, W: Sink>(
+    alloc: Global,
+    who: &str,
+    form: Form,
+    input: &mut S,
+    second: &mut T,
+    out: &mut W,
+) -> Result<(), Stop>
+    ensures reports { DoesWithFiles (Reports who.now form)
+        (files (S.left input.old) (T.left second.old) (W.written out.old))
+        (files (S.left input.new) (T.left second.new) (W.written out.new))
+        (end_status result) }
+    ensures read_fault { IsErrOf result Stop.ReadFault → FailsOneOf S.left S.faults input.old input.new
+        T.left T.faults second.old second.new }
+    ensures no_read_fault { ¬ (IsErrOf result Stop.ReadFault) → S.faults input.new ≡ S.faults input.old }
+    ensures no_second_fault { ¬ (IsErrOf result Stop.ReadFault) → T.faults second.new ≡ T.faults second.old }
+    ensures write_fault { IsErrOf result Stop.WriteFault → FailsLast W.written W.faults out.old out.new }
+    ensures no_write_fault { ¬ (IsErrOf result Stop.WriteFault) → W.faults out.new ≡ W.faults out.old }
+{
+    let lei = read_file(alloc, input)?;
+    let rr = read_file(alloc, second)?;
+    tell(alloc, who, form, &lei, &rr, out)
+}
+
+// Writes what comes of a copy of `lei` and one of `rr`.
+fn tell<W: Sink>(
+    alloc: Global,
+    who: &str,
+    form: Form,
+    lei: &[u8],
+    rr: &[u8],
+    out: &mut W,
+) -> Result<(), Stop>
+    ensures tells { TellsOf (Reports who.now form) lei.now rr.now (W.written out.old) (W.written out.new)
+        (end_status result) }
+    ensures no_read_fault { ¬ (IsErrOf result Stop.ReadFault) }
+    ensures kept { ¬ (IsErrOf result Stop.WriteFault) → W.faults out.new ≡ W.faults out.old }
+    ensures failed { IsErrOf result Stop.WriteFault → FailsLast W.written W.faults out.old out.new }
+{
+    match report(alloc, who, form, lei, rr) {
+        Ok(text) => tell_text(text.as_slice(), out),
+        Err(GroupRefusal::NoMemory) => Err(Stop::NoMemory),
+        Err(refusal) => refuse(refusal, out),
+    }
+}
+
+// The report by a copy of `lei` and one of `rr`, or why there is none.
+fn report(
+    alloc: Global,
+    who: &str,
+    form: Form,
+    lei: &[u8],
+    rr: &[u8],
+) -> Result<Bytes, GroupRefusal>
+    ensures { UnlessNoMemory result (IsReport who.now form lei.now rr.now result) }
+{
+    let lei = match read_copy(alloc, lei, Sheet::Lei, form) {
+        Ok(copy) => copy,
+        Err(FormFault::NotRead) => return Err(GroupRefusal::LeiCopyNotRead),
+        Err(FormFault::NoMemory) => return Err(GroupRefusal::NoMemory),
+    };
+    let rr = match read_copy(alloc, rr, Sheet::Rr, form) {
+        Ok(copy) => copy,
+        Err(FormFault::NotRead) => return Err(GroupRefusal::RrCopyNotRead),
+        Err(FormFault::NoMemory) => return Err(GroupRefusal::NoMemory),
+    };
+    match Groups::open(alloc, &lei, &rr) {
+        Ok(groups) => report_by(&groups, who),
+        Err(GroupFault::OtherPublication(p, q)) => Err(GroupRefusal::OtherPublication(p, q)),
+        Err(GroupFault::NoMemory) => Err(GroupRefusal::NoMemory),
+    }
+}
+
+// The report by groups that are known.
+fn report_by(groups: &Groups, who: &str) -> Result<Bytes, GroupRefusal>
+    ensures { IsReportOf groups.now who.now result }
+{
+    if who == "ALL" {
+        return match groups.disagreements() {
+            Ok(text) => Ok(text),
+            Err(NoMemory) => Err(GroupRefusal::NoMemory),
+        };
+    }
+    match groups.report(who) {
+        Ok(text) => Ok(text),
+        Err(ReportFault::LeiUnknown) => Err(GroupRefusal::LeiUnknown),
+        Err(ReportFault::NoMemory) => Err(GroupRefusal::NoMemory),
+    }
+}
+
+// Writes why there is no report.
+fn refuse<W: Sink>(refusal: GroupRefusal, out: &mut W) -> Result<(), Stop>
+    ensures tells { TellsOutcome (Err (group_refusal refusal)) (W.written out.old) (W.written out.new)
+        (end_status result) }
+    ensures no_read_fault { ¬ (IsErrOf result Stop.ReadFault) }
+    ensures kept { ¬ (IsErrOf result Stop.WriteFault) → W.faults out.new ≡ W.faults out.old }
+    ensures failed { IsErrOf result Stop.WriteFault → FailsLast W.written W.faults out.old out.new }
+{
+    write_refusal(refusal, out)?;
+    Err(Stop::Refused)
+}
+
+fn write_refusal<W: Sink>(refusal: GroupRefusal, out: &mut W) -> Result<(), SinkFault>
+    ensures written { IsSent (W.written out.old) (W.written out.new) (group_refusal refusal) result }
+    ensures kept { ¬ (IsErrOf result SinkFault.Failed) → W.faults out.new ≡ W.faults out.old }
+    ensures failed { IsErrOf result SinkFault.Failed → FailsLast W.written W.faults out.old out.new }
+{
+    match refusal {
+        GroupRefusal::LeiCopyNotRead => write_pieces(out, &[b"refused LEI_COPY_NOT_READ\n"]),
+        GroupRefusal::RrCopyNotRead => write_pieces(out, &[b"refused RR_COPY_NOT_READ\n"]),
+        GroupRefusal::OtherPublication(p, q) => {
+            write_numbers(b"refused OTHER_PUBLICATION ", p, q, out)
+        }
+        GroupRefusal::LeiUnknown => write_pieces(out, &[b"refused LEI_UNKNOWN\n"]),
+        GroupRefusal::NoMemory => Ok(()),
+    }
+}

@@ -1,0 +1,20 @@
+//! The commands of the program that need no register: over single texts, and over files that are read to their ends.
+#![tactic(auto)]
+
+mod applying;
+mod codes;
+mod files;
+mod grouping;
+mod mirroring;
+mod searching;
+mod status;
+mod writing;
+
+pub use applying::apply;
+pub use codes::{check, digits};
+pub use files::{MAX_FILE, no_file};
+pub use grouping::group;
+pub use mirroring::mirror;
+pub use searching::{MAX_INPUT, search};
+pub use status::{Stop, ended_as, status_text};
+pub use writing::{tell_text, write_pieces};

@@ -1,0 +1,92 @@
+//! The statuses that the program ends with.
+ghost use Rattle.std.specs.Prelude.{◌≡◌};
+ghost use Rattle.file_commands.specs.Status.{ended_as, status_text, stop_status};
+
+use lei_outside::{Failed, NoMemory, SinkFault};
+use line_reading::NoEnd;
+use register_words::ExitStatus;
+use request_loop::Ended;
+
+/// Why a command ends with another status than `ExitStatus::Ok`.
+pub enum Stop {
+    Refused,
+    ReadFault,
+    WriteFault,
+    KeeperFault,
+    NoMemory,
+    StoreDamaged,
+    InputTooLong,
+}
+
+impl Stop {
+    pub fn status(self) -> u8
+        ensures { result ≡ stop_status self }
+    {
+        match self {
+            Stop::Refused => ExitStatus::Refused.number(),
+            Stop::ReadFault => ExitStatus::ReadFault.number(),
+            Stop::WriteFault => ExitStatus::WriteFault.number(),
+            Stop::KeeperFault => ExitStatus::KeeperFault.number(),
+            Stop::NoMemory => ExitStatus::NoMemory.number(),
+            Stop::StoreDamaged => ExitStatus::StoreDamaged.number(),
+            Stop::InputTooLong => ExitStatus::InputTooLong.number(),
+        }
+    }
+}
+
+impl From<Failed> for Stop {
+    ghost use Rattle.file_commands.specs.declared.status.Stop.TheVariants.{ReadFault};
+
+    ghost from_gives = { λ _ stop. stop ≡ ReadFault };
+
+    fn from(_: Failed) -> Self {
+        Stop::ReadFault
+    }
+}
+
+impl From<SinkFault> for Stop {
+    ghost use Rattle.file_commands.specs.Status.{stop_of};
+
+    ghost from_gives = { λ fault stop. stop ≡ stop_of fault };
+
+    fn from(fault: SinkFault) -> Self {
+        match fault {
+            SinkFault::Failed => Stop::WriteFault,
+            SinkFault::NoMemory => Stop::NoMemory,
+        }
+    }
+}
+
+impl From<NoMemory> for Stop {
+    ghost use Rattle.file_commands.specs.declared.status.Stop.TheVariants as stop;
+
+    ghost from_gives = { λ _ e. e ≡ stop.NoMemory };
+
+    fn from(_: NoMemory) -> Self {
+        Stop::NoMemory
+    }
+}
+
+/// What a command is stopped as, by how serving its lines ended.
+pub fn ended_as(ended: Ended<NoEnd>) -> Result<(), Stop>
+    ensures { result ≡ ended_as ended }
+{
+    match ended {
+        Ended::AtEnd => Ok(()),
+        Ended::By(end) => match end {},
+        Ended::ReadFault => Err(Stop::ReadFault),
+        Ended::WriteFault => Err(Stop::WriteFault),
+        Ended::InputLimit => Err(Stop::InputTooLong),
+        Ended::NoMemory => Err(Stop::NoMemory),
+    }
+}
+
+/// The word of a status, as it is told to a person.
+pub fn status_text(status: u8) -> &'static str
+    ensures { result.now ≡ status_text status }
+{
+    match ExitStatus::of(status) {
+        Some(status) => status.name(),
+        None => "UNKNOWN",
+    }
+}
