@@ -30,6 +30,8 @@ mod limits;
 #[cfg(test)]
 mod moments;
 #[cfg(test)]
+mod older_store;
+#[cfg(test)]
 mod patches;
 #[cfg(test)]
 mod runs;

@@ -85,6 +85,20 @@ pub const RETIRES_SECOND: &str = upload!(
         r#","Entity.SuccessorEntity.1.SuccessorLEI":"00000000000000000195""# "RETIRED" "]}"]
 );
 
+/// An upload of three records.
+pub const THREE_RECORDS: &str = upload!(
+    ["Alpha" "1001" "00000000000000000195" "506700GE1G29325QX363" "ACTIVE" "" "ISSUED" ","]
+    ["Beta" "1002" "00000000000000000292" "506700GE1G29325QX363" "ACTIVE" "" "ISSUED" ","]
+    ["Gamma" "1003" "00000000000000000389" "506700GE1G29325QX363" "ACTIVE" "" "ISSUED" "]}"]
+);
+
+/// An upload that retires the first record with the others as its successors.
+pub const RETIRES_FOR_TWO: &str = upload!(
+    ["Alpha" "1001" "00000000000000000195" "506700GE1G29325QX363" "INACTIVE"
+        r#","Entity.SuccessorEntity.1.SuccessorLEI":"00000000000000000292 00000000000000000389""#
+        "RETIRED" "]}"]
+);
+
 /// What is sent.
 #[derive(Clone, Copy)]
 pub enum Sent {

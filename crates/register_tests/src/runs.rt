@@ -2,7 +2,8 @@
 use crate::exchanges::{Exchange, MOST, all_sent, only, reads_of, replies_within, whole_replies};
 use crate::limits::MOMENT;
 use lei_outside::{
-    ByteSink, ByteSource, Clock, Failed, NoMemory, Sink, Source, SureKeeper, SureSink, SureSource,
+    ByteSink, ByteSource, Bytes, Clock, Failed, NoMemory, Sink, Source, SureKeeper, SureSink,
+    SureSource,
 };
 use leireg_run::{Untold, no_file, run};
 use register_words::ExitStatus;
@@ -93,6 +94,11 @@ impl Clock for CountingClock {
         self.calls = self.calls.saturating_add(1);
         MOMENT
     }
+}
+
+/// The first two lines of the session: an accreditation and the upload.
+pub fn accredited_and_taken(alloc: Global) -> Result<Bytes, NoMemory> {
+    all_sent(alloc, &[LINES[0], LINES[1]])
 }
 
 /// The words of the command that answers lines.

@@ -13,8 +13,8 @@ use std::thread::Threads;
 
 // ---- without a stop
 
-// Whether the session over this keeper is answered as it should be, and no call of the keeper fails.
-fn is_answered<R: Threads + Sync, S: Alter + Drop>(
+/// Whether the session over this keeper is answered as it should be, and no call of the keeper fails.
+pub fn is_answered<R: Threads + Sync, S: Alter + Drop>(
     rt: &R,
     alloc: Global,
     keeper: SqliteKeeper<S>,
@@ -33,27 +33,38 @@ fn a_session_over_a_database_in_memory_is_answered(rt: HostRuntime) -> Result<()
 
 // ---- stopped at each call of a disk
 
-// Which file of a store fails.
-#[derive(Clone, Copy)]
-enum Failing {
+/// Which file of a store fails.
+#[derive(Clone, Copy, Debug)]
+pub enum Failing {
+    /// That of the log.
     Log,
+    /// That of the database.
     Database,
 }
 
-// The files of a store in memory. One of them passes so many calls on, and fails at each after that.
-fn fused(alloc: Global, failing: Failing, calls: u64) -> Files<Fuse<Memory>> {
-    let (log, db) = match failing {
-        Failing::Log => (calls, u64::MAX),
-        Failing::Database => (u64::MAX, calls),
-    };
+/// The empty files of a store in memory.
+pub fn no_files(alloc: Global) -> Files<Memory> {
     Files {
-        log: Fuse::new(Memory::new(alloc), log),
-        db: Fuse::new(Memory::new(alloc), db),
+        log: Memory::new(alloc),
+        db: Memory::new(alloc),
     }
 }
 
-// The files after a crash of both.
-fn crashed<D: Crash>(mut files: Files<D>) -> Files<D> {
+/// These files. One of them passes so many calls on, and fails at each after that.
+pub fn fused(files: Files<Memory>, failing: Failing, calls: u64) -> Files<Fuse<Memory>> {
+    let (of_log, of_db) = match failing {
+        Failing::Log => (calls, u64::MAX),
+        Failing::Database => (u64::MAX, calls),
+    };
+    let Files { log, db } = files;
+    Files {
+        log: Fuse::new(log, of_log),
+        db: Fuse::new(db, of_db),
+    }
+}
+
+/// The files after a crash of both.
+pub fn crashed<D: Crash>(mut files: Files<D>) -> Files<D> {
     files.log.crash();
     files.db.crash();
     files
@@ -135,14 +146,14 @@ fn goes_on<R: Threads + Sync, S: Alter + Drop>(
     }
 }
 
-// How a session ended, one of whose disks fails from some call on.
+/// How a session ended, one of whose disks fails from some call on.
 #[derive(Clone, Copy, PartialEq, Eq, Debug)]
-enum Ending {
-    // No call failed.
+pub enum Ending {
+    /// No call failed.
     Whole,
-    // A call failed, and what the crash left is sound.
+    /// A call failed, and what the crash left is sound.
     Stopped,
-    // What the crash left isn't.
+    /// What the crash left isn't.
     Lost,
 }
 
@@ -152,7 +163,7 @@ fn session_ending<R: Threads + Sync>(
     failing: Failing,
     calls: u64,
 ) -> Result<Ending, NoMemory> {
-    let left = run_and_crash(rt, alloc, fused(alloc, failing, calls))?;
+    let left = run_and_crash(rt, alloc, fused(no_files(alloc), failing, calls))?;
     let has_failed = left.has_failed;
     if !is_safe(rt, alloc, left.files, left.acknowledged)? {
         return Ok(Ending::Lost);
@@ -236,49 +247,80 @@ fn a_crash_in_the_last_of_four_calls_of_the_log_loses_nothing(rt: HostRuntime) -
 
 // ---- damage
 
-// What is done to a store that has the session, and the status with which the program refuses it then:
-// another table of the name, a table without its second key, a further table, a further index, numbers that
-// fit no field, a form that the store can't have, a name whose first part is too long or too short, and rows
-// that lack.
-const DAMAGE: [(&str, ExitStatus); 13] = [
+/// What is done to a store: the statements that do it to one of form 2, those that do such a thing to one of
+/// form 1 if they are others, and the status with which the program refuses the store then.
+pub type Damage = (&'static str, Option<&'static str>, ExitStatus);
+
+/// What is done to a store that has the session: another table of the name, a table without its second key, a
+/// further table, a further index, numbers that fit no field, an entry that lacks, a second row of the form, a
+/// form that no store has, cells of the other form, cells whose name or kind none has, and no cell at all.
+pub const DAMAGE: [Damage; 13] = [
     (
         "DROP TABLE cell; CREATE TABLE cell (kind INTEGER, name TEXT, touched INTEGER, row TEXT)",
+        None,
         ExitStatus::KeeperFault,
     ),
     (
         "DROP TABLE cell; CREATE TABLE cell (kind INTEGER NOT NULL, name TEXT NOT NULL, \
          touched INTEGER NOT NULL CHECK (touched >= 1), row BLOB, PRIMARY KEY (kind, name)) STRICT",
+        None,
         ExitStatus::KeeperFault,
     ),
     (
         "CREATE TABLE other (a INTEGER) STRICT",
+        None,
         ExitStatus::KeeperFault,
     ),
     (
         "CREATE INDEX by_number ON entry (number)",
+        None,
         ExitStatus::KeeperFault,
     ),
     (
         "UPDATE entry SET number = -1 WHERE seq = 4",
+        None,
         ExitStatus::KeeperFault,
     ),
     (
         "UPDATE entry SET kind = 256 WHERE seq = 1",
+        None,
         ExitStatus::KeeperFault,
     ),
-    ("DELETE FROM entry WHERE seq = 5", ExitStatus::StoreDamaged),
+    (
+        "DELETE FROM entry WHERE seq = 5",
+        None,
+        ExitStatus::StoreDamaged,
+    ),
     (
         "INSERT INTO store (one, form) VALUES (2, 2)",
+        None,
         ExitStatus::KeeperFault,
     ),
-    ("UPDATE store SET form = 3", ExitStatus::KeeperFault),
-    ("DELETE FROM store", ExitStatus::KeeperFault),
-    ("UPDATE cell2 SET lei = lei || 'A'", ExitStatus::KeeperFault),
+    (
+        "UPDATE store SET form = 3",
+        Some("INSERT INTO store (one, form) VALUES (1, 3)"),
+        ExitStatus::KeeperFault,
+    ),
+    (
+        "DELETE FROM store",
+        Some("INSERT INTO cell2 (kind, lei, rest, touched, row) VALUES (1, 'A', '', 1, NULL)"),
+        ExitStatus::KeeperFault,
+    ),
+    (
+        "UPDATE cell2 SET lei = lei || 'A'",
+        Some("UPDATE cell SET kind = 256"),
+        ExitStatus::KeeperFault,
+    ),
     (
         "UPDATE cell2 SET lei = 'A', rest = 'B'",
+        Some("UPDATE cell SET kind = -1"),
         ExitStatus::KeeperFault,
     ),
-    ("DELETE FROM cell2", ExitStatus::StoreDamaged),
+    (
+        "DELETE FROM cell2",
+        Some("DELETE FROM cell"),
+        ExitStatus::StoreDamaged,
+    ),
 ];
 
 // Whether a store with the session is refused with this status after the damage, and has all its entries
@@ -329,7 +371,7 @@ fn entry_count<S: Alter>(conn: &mut Connection<S>) -> Option<i64> {
 
 // The first damage after which the store isn't refused as it should be.
 fn first_taken<R: Threads + Sync>(rt: &R, alloc: Global) -> Result<Option<&'static str>, NoMemory> {
-    for (damage, status) in DAMAGE {
+    for (damage, _, status) in DAMAGE {
         if !is_refused(rt, alloc, damage, status)? {
             return Ok(Some(damage));
         }

@@ -75,8 +75,28 @@ pub fn transfer<R: Threads + Sync, K: Keeper + Drop>(
     alloc: Global,
     keeper: K,
 ) -> Result<(Course, K), NoMemory> {
+    let (status, written, keeper) = replies(rt, alloc, LINES.as_bytes(), keeper)?;
+    Ok((course_of(status, written.as_slice()), keeper))
+}
+
+/// The first lines of the session, so many of them.
+pub fn first_lines(count: usize) -> &'static [u8] {
+    let mut end: usize = 0;
+    for line in LINES.lines().take(count) {
+        end = end.saturating_add(line.len()).saturating_add(1);
+    }
+    LINES.as_bytes().get(..end).unwrap_or(&[])
+}
+
+/// The status of a run over lines, what it wrote, and the keeper, which comes back.
+pub fn replies<R: Threads + Sync, K: Keeper + Drop>(
+    rt: &R,
+    alloc: Global,
+    lines: &[u8],
+    keeper: K,
+) -> Result<(u8, Bytes, K), NoMemory> {
     let words = words(alloc)?;
-    let mut source = SureSource::new(Bytes::copy_of(alloc, LINES.as_bytes())?, 65_536);
+    let mut source = SureSource::new(Bytes::copy_of(alloc, lines)?, 65_536);
     let mut second = no_file(alloc);
     let mut sink = SureSink::new(alloc, usize::MAX);
     let (status, keeper) = run(
@@ -90,7 +110,7 @@ pub fn transfer<R: Threads + Sync, K: Keeper + Drop>(
         &mut Still,
         &mut Untold,
     );
-    Ok((course_of(status, sink.written()), keeper))
+    Ok((status, Bytes::copy_of(alloc, sink.written())?, keeper))
 }
 
 fn course_of(status: u8, written: &[u8]) -> Course {
@@ -101,8 +121,8 @@ fn course_of(status: u8, written: &[u8]) -> Course {
     }
 }
 
-// How many lines of replies begin with 200, up to the first that doesn't.
-fn acknowledged(written: &[u8]) -> u64 {
+/// How many lines of replies begin with 200, up to the first that doesn't.
+pub fn acknowledged(written: &[u8]) -> u64 {
     let mut count: u64 = 0;
     for line in written.split(|byte: &u8| -> bool { *byte == b'\n' }) {
         if !line.starts_with(b"200 ") {
