@@ -49,30 +49,31 @@ def compact(fields):
     return json.dumps(fields, separators=(",", ":"), sort_keys=True)
 
 
-def changes():
-    """One change at each hundredth record: rows that differ, and each tenth of them dropped."""
-    for place in range(CHANGES):
-        number = 1_000 + place * (RECORDS // CHANGES)
+def changes(records, count):
+    """So many changes among so many records: rows that differ, and each tenth of them dropped."""
+    for place in range(count):
+        number = 1_000 + place * (records // count)
         if place % 10 == 9:
             yield "DROP", {"LEI": code(number)}
         else:
             yield "PUT", record(number, "Beta")
 
 
-def write_csv(copy, delta):
+def write_csv(copy, delta, records, count):
     copy.write(line(NAMES))
-    for at in range(RECORDS):
+    for at in range(records):
         copy.write(line(row(record(1_000 + at, "Alpha"))))
     delta.write(line(["Delta.Action"] + NAMES))
-    for action, fields in changes():
+    for action, fields in changes(records, count):
         delta.write(line([action] + row(fields)))
 
 
-def write_json(copy, delta):
-    copy.write(f'{{"contentDate":"{MOMENT}","publication":1,"recordCount":{RECORDS},"records":[')
-    copy.write(",".join(compact(record(1_000 + at, "Alpha")) for at in range(RECORDS)) + "]}")
-    delta.write(f'{{"contentDate":"{MOMENT}","fromPublication":1,"publication":2,"recordCount":{CHANGES},"records":[')
-    delta.write(",".join(f'{{"action":"{action}","record":{compact(fields)}}}' for action, fields in changes()) + "]}")
+def write_json(copy, delta, records, count):
+    copy.write(f'{{"contentDate":"{MOMENT}","publication":1,"recordCount":{records},"records":[')
+    copy.write(",".join(compact(record(1_000 + at, "Alpha")) for at in range(records)) + "]}")
+    delta.write(f'{{"contentDate":"{MOMENT}","fromPublication":1,"publication":2,"recordCount":{count},"records":[')
+    made = changes(records, count)
+    delta.write(",".join(f'{{"action":"{action}","record":{compact(fields)}}}' for action, fields in made) + "]}")
 
 
 def run(command, out):
@@ -87,7 +88,7 @@ def run(command, out):
 def measure(form, write, folder):
     paths = [os.path.join(folder, name) for name in ("copy", "delta", "new")]
     with open(paths[0], "w") as copy, open(paths[1], "w") as delta:
-        write(copy, delta)
+        write(copy, delta, RECORDS, CHANGES)
     size = os.path.getsize(paths[0])
     took = []
     for _ in range(RUNS):

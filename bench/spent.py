@@ -1,0 +1,16 @@
+#!/usr/bin/env python3
+"""Runs a command, and prints to the standard error the seconds that it took by the clock, and its peak memory in bytes.
+A script that has much memory itself runs its commands so, since the system counts the memory of the process that
+starts another one as that one's, too.
+
+usage: python3 -IS bench/spent.py COMMAND..
+"""
+import os
+import sys
+import time
+
+start = time.perf_counter()
+child = os.posix_spawnp(sys.argv[1], sys.argv[1:], os.environ)
+_, status, usage = os.wait4(child, 0)
+print(time.perf_counter() - start, usage.ru_maxrss * 1024, file=sys.stderr)
+sys.exit(os.waitstatus_to_exitcode(status) != 0)
