@@ -36,7 +36,7 @@ alone Less = refl
 alone Equal = refl
 alone Greater = refl
 
--- two records have one key exactly where they have one code
+-- two records have the same key exactly if they have the same code
 pub key_eq : (a b : List ℕ) → eq_by_cmp key_cmp (record_key a) (record_key b) ≡ bytes_eq a b
 key_eq a b = alone (slice_cmp nat_cmp a b) ∙ is_eq-slice_cmp a b
 
@@ -56,7 +56,7 @@ bytes_itself a = sym (key_eq a a) ∙ ap is_eq (tied_itself keys_total (record_k
 
 -- ---- the first record that passes a test
 
--- a row that stands under this code and passes the test
+-- a row that is under this code and passes the test
 pub record Hit (table : Table) (test : Row → Bool) (lei : List ℕ) : Type 0 where
   pub row : Row
   pub at : row_at table lei ≡ Some row
@@ -86,11 +86,11 @@ none_by : (table : Table) (test : Row → Bool) → IsKeyed table → ((lei : Li
 none_by table test keyed never None is = refl
 none_by table test keyed never (Some lei) is = absurd (never lei (first_of-hit table test lei keyed is))
 
--- where no row passes the test, there is no first one
+-- if no row passes the test, there is no first one
 pub first_of-none : (table : Table) (test : Row → Bool) → IsKeyed table → ((lei : List ℕ) → Hit table test lei → ⊥) → first_of table test ≡ None
 first_of-none table test keyed never = none_by table test keyed never (first_of table test) refl
 
--- where only this one does, it is the first
+-- if only this one does, it is the first
 pub first_of-only : (table : Table) (test : Row → Bool) (lei : List ℕ) → IsKeyed table → Hit table test lei → ((other : List ℕ) → Hit table test other → other ≡ lei) → first_of table test ≡ Some lei
 first_of-only table test lei keyed hit only =
     let found = hit-first_of table test lei hit in
@@ -123,7 +123,7 @@ not_true false e = refl
 abbrev pub is_other : Option (List ℕ × List ℕ) → List ℕ → Row → Bool
 is_other key own other = holds_key key other && not (bytes_eq (lei_in other) own)
 
--- what a view answers of a key, over the cells of a table
+-- what a view answers for a key, over the cells of a table
 abbrev holder_at : Table → Option (List ℕ × List ℕ) → Option (List ℕ)
 holder_at table None = None
 holder_at table (Some key) = holder_of table key.0 key.1
@@ -160,8 +160,8 @@ other_of table None own keyed holders =
     ap seen (sym (first_of-none table (is_other None own) keyed (λ lei hit. let clash : false ≡ true = hit.passes in cc)))
 other_of table (Some key) own keyed holders = other_than table key.0 key.1 own keyed holders (holder_of table key.0 key.1) refl
 
--- over a table without two holders of a key, the holder of the row's key is another one exactly
--- where one is among all rows
+-- over a table without two holders of a key, the holder of the row's key is another one exactly if there is another one
+-- among all rows
 pub other_holder-seen : (table : Table) (row : Row) → IsKeyed table → AuthorityKeysAreUnique table
     → unless_own (lei_in row) (seen (holder_at table (akey row))) ≡ seen (other_holder table row)
 other_holder-seen table row keyed holders = other_of table (akey row) (lei_in row) keyed holders
@@ -175,6 +175,6 @@ pub taken-cells : (table : Table) (row : Row) → IsKeyed table → AuthorityKey
 taken-cells table row keyed holders =
     ap (unless_own (lei_in row)) (key_seen table (akey row)) ∙ other_holder-seen table row keyed holders
 
--- and of a view that answers the cells of a sound table
+-- and for a view that answers the cells of a sound table
 pub taken-over_table : (cells : Cells) (table : Table) (row : Row) → IsSound table → cells ≡ cells_of table → taken cells row ≡ seen (other_holder table row)
 taken-over_table cells table row sound same = ap (λ answers. taken answers row) same ∙ taken-cells table row sound.keyed sound.holders

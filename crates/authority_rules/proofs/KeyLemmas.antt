@@ -1,4 +1,4 @@
--- Keys of rows: their order, and that two are one where the parts that they are made of are.
+-- Keys of rows: their order, and that two are equal if their parts are.
 use Rattle.std.specs.Prelude.{◌≡◌, ℕ, true, ◌&&◌, List, [], ◌∷◌}
 use Rattle.std.specs.Cmp.{tied_itself, tied_then}
 use Rattle.std.specs.Cmp.Lexicographic.{nat_list_eq_equiv, slice_cmp}
@@ -22,7 +22,7 @@ use Rattle.authority_rules.proofs.HolderLemmas.{keys_total}
 pub keys_antisymmetric : IsAntisymmetric key_cmp
 keys_antisymmetric = slice_cmp-IsAntisymmetric (slice_cmp-IsAntisymmetric nat_cmp-IsAntisymmetric)
 
--- a key is its own
+-- a key is equal to itself
 pub key_itself : (key : KeyTexts) → eq_by_cmp key_cmp key key ≡ true
 key_itself key = ap is_eq (tied_itself keys_total key)
 
@@ -40,11 +40,11 @@ more_texts a b front rest =
 
 -- ---- the key of a row
 
--- a record has the key of an LEI exactly where it has the LEI
+-- a record has the key of an LEI exactly if it has the LEI
 pub tied-record_key : (lei : List ℕ) (row : Row) → eq_by_cmp key_cmp (record_key lei) (record_key (lei_in row)) ≡ bytes_eq (lei_in row) lei
 tied-record_key lei row = one_text lei (lei_in row)
 
--- a relationship has that of a start, a type and an end exactly where it has the three
+-- a relationship has that of a start, a type and an end exactly if it has the three
 pub tied-relation_key : (start : List ℕ) (kind : RelationType) (end : List ℕ) (row : Row)
     → eq_by_cmp key_cmp (relation_key start kind end) (relation_key_in row)
     ≡ ((bytes_eq (start_in row) start && is_same_type (kind_in row) kind) && bytes_eq (end_in row) end)
@@ -56,7 +56,7 @@ tied-relation_key start kind end row =
     (more_texts text own (end ∷ []) (end_in row ∷ []) ∙ ap (λ t. bytes_eq own text && t) (one_text end (end_in row)))
     ∙ sym (and_assoc (bytes_eq (start_in row) start) (bytes_eq own text) (bytes_eq (end_in row) end)))
 
--- an exception has that of an LEI and a category exactly where it has the two
+-- an exception has that of an LEI and a category exactly if it has the two
 pub tied-exception_key : (lei : List ℕ) (category : ExceptionCategory) (row : Row)
     → eq_by_cmp key_cmp (exception_key lei category) (exception_key_in row)
     ≡ (bytes_eq (subject_in row) lei && is_same_category (exception_category_in row) category)

@@ -31,7 +31,7 @@ less Equal p = absurd p
 less Greater p = absurd p
 
 module _ {K X : Type 0} {R : K → K → Ordering} (o : IsTotalOrder R) where
-  -- a key that ties with one below all is below all
+  -- a key that is equal to one below all is below all
   below_tied : (x y : K) (es : List (K × X)) → R x y ≡ Equal → T (Entries.below_all R y es) → T (Entries.below_all R x es)
   below_tied x y [] p h = tt
   below_tied x y (e ∷ es) p h =
@@ -42,7 +42,7 @@ module _ {K X : Type 0} {R : K → K → Ordering} (o : IsTotalOrder R) where
   find_below q (e ∷ es) h =
       ap (λ b. cond b (Some e.1) (Entries.find R q es)) (less _ (first _ _ h)) ∙ find_below q es (second _ _ h)
 
-  -- what is found behind the first entry has another key
+  -- what is found after the first entry has another key
   later : (k : K) (x : X) (e : K × X) (es : List (K × X)) → T (Entries.below_all R e.0 es) → Entries.find R k es ≡ Some x
       → Entries.find R k (e ∷ es) ≡ Some x
   later k x e es below is =
@@ -80,6 +80,6 @@ module _ {K X : Type 0} {R : K → K → Ordering} (o : IsTotalOrder R) where
       let hit = found p x (entries m) (entries_sorted m) is in
       (hit.0, get-entries m hit.0 ∙ hit.1, hit.2)
 
-  -- where a value that is held passes the test, the search finds one
+  -- if a value that is held passes the test, the search finds one
   pub values-find : (m : FinMap R X) (p : X → Bool) (k : K) (x : X) → get m k ≡ Some x → p x ≡ true → (y : X) × (find p (values m) ≡ Some y)
   values-find m p k x is passes = held p k x (entries m) (sym (get-entries m k) ∙ is) passes

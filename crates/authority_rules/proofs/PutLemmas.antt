@@ -30,13 +30,13 @@ mapped : {X Y : Type 0} (f : X → Y) (b : Bool) (x : X) (o : Option X) → opti
 mapped f true x o = refl
 mapped f false x o = refl
 
--- the record of the row's code is the row, and each other one stays
+-- the record of the row's code is the row, and every other one is unchanged
 pub record_of-put : (table : Table) (row : Row) (lei : List ℕ)
     → record_of (with_row table row) lei ≡ cond (bytes_eq lei (lei_in row)) (Some (rec_cell row)) (record_of table lei)
 record_of-put table row lei =
     ap (option_map rec_cell) (row_at-put table row lei) ∙ mapped rec_cell (bytes_eq lei (lei_in row)) row (row_at table lei)
 
--- a row of the new table is the one that was put, or stood there
+-- a row of the new table is the one that was put, or was already there
 split : (table : Table) (row : Row) (lei : List ℕ) (other : Row) (P : Type 0) → row_at (with_row table row) lei ≡ Some other
     → (lei ≡ lei_in row → row ≡ other → P) → (bytes_eq lei (lei_in row) ≡ false → row_at table lei ≡ Some other → P) → P
 split table row lei other P at here there =
@@ -72,7 +72,7 @@ key_of-is authority id (Some key) is =
     let b : key.1 ≡ id = bytes_same key.1 id (second_true _ _ is) in
     λ i. Some (a i, b i)
 
--- where the row is free, only it has the key that it holds
+-- if the row is free, only it has the key that it holds
 free_key : (table : Table) (row : Row) (authority id lei : List ℕ) → IsKeyed table → IsFree table row → holds authority id row ≡ true
     → Hit table (holds authority id) lei → lei ≡ lei_in row
 unfolding holds
@@ -149,7 +149,7 @@ kept table row authority id keyed holders free not_held (Some lei) is =
           first_of-only (with_row table row) (holds authority id) lei (IsKeyed-put table row keyed) (record { row = hit.row; at = at; passes = hit.passes }) (λ other h. (still other h).0)
     ] refl
 
--- the holder of a key is the row, where it holds it, and else the one before, but for the row's own record
+-- the holder of a key is the row, if it holds it, and otherwise the previous one, except the row's own record
 pub holder_of-put : (table : Table) (row : Row) (authority id : List ℕ) → IsKeyed table → AuthorityKeysAreUnique table → IsFree table row
     → holder_of (with_row table row) authority id ≡ cond (holds authority id row) (Some (lei_in row)) (other_than (lei_in row) (holder_of table authority id))
 holder_of-put table row authority id keyed holders free =

@@ -7,7 +7,7 @@ use Rattle.lei_records.specs.Spelled.{IsExceptionRow}
 use Rattle.lei_records.specs.Tables.{AreExceptionsKeyed, HasExceptionRows, IsSound, Rows, Table, exception_key_in, put, with_exceptions}
 use Rattle.authority_rules.proofs.UnderKeys.{inserted, removed}
 
--- other exceptions leave all else that is asked of a sound table
+-- other exceptions leave everything else that a sound table requires
 sound_with : (table : Table) (rows : Rows) → IsSound table → AreExceptionsKeyed (with_exceptions table rows) → HasExceptionRows (with_exceptions table rows)
     → IsSound (with_exceptions table rows)
 sound_with table rows sound keyed are_rows = record {

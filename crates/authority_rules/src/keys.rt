@@ -1,3 +1,4 @@
+//! Which records are live, and their authority keys.
 ghost use Rattle.std.specs.Prelude.{◌≡◌, option_map};
 ghost use Rattle.authority_rules.specs.Taken;
 ghost use Rattle.lei_records.specs.Cells.{akey, is_no_authority as names_none};
@@ -8,7 +9,7 @@ use lei_code::Lei;
 use lei_records::{Record, Seen, View};
 use lei_shapes::RecordStatus;
 
-// The codes that stand in the field of the registration authority where there is none.
+// The codes that the registration authority's field has if there is no authority.
 const NO_AUTHORITY: [&str; 2] = ["RA888888", "RA999999"];
 
 /// Whether the record is live: its status is ISSUED, LAPSED, PENDING_TRANSFER or PENDING_ARCHIVAL.
@@ -44,8 +45,8 @@ fn is_key(key: Option<(&str, &str)>, authority: &str, id: &str) -> bool
     }
 }
 
-/// The registration authority and its id of the entity. `None` where the id is absent, or where a
-/// code says that there is no authority.
+/// The entity's registration authority and its id there. `None` if the id is absent, or if a code says that there is no
+/// authority.
 #[tactic(auto, unfolding(lei_records::specs::Cells::akey))]
 pub fn key_of(item: &Record) -> Option<(&str, &str)>
     ensures { option_map (λ key. (key.0.now, key.1.now)) result ≡ akey item.now }
@@ -60,20 +61,19 @@ pub fn key_of(item: &Record) -> Option<(&str, &str)>
     Some((authority, id))
 }
 
-/// Another live record that has the item's authority key, whatever the item's own status is.
-/// `Missing` where the view doesn't know who has the key.
+/// Another live record that has the item's authority key, whatever the item's own status is. `Missing` if the view
+/// doesn't know who has the key.
 pub fn taken<V: View>(view: &V, item: &Record) -> Seen<Lei>
     ensures answers { result ≡ Taken.taken (V.cells view.now) item.now }
 
-    // Over the cells of a sound table: the first by code of the other records that are live and
-    // have the key.
+    // Over the cells of a sound table: of the other records that are live and have the key, the first by code.
     ensures over_tables { (table : Table) → IsSound table → V.cells view.now ≡ cells_of table
         → result ≡ seen (other_holder table item.now) }
 {
     unless_own(item.lei(), seen_holder(view, key_of(item)))
 }
 
-// Who has a key, and nobody where there is none.
+// Who has a key, or nobody if there is no key.
 fn seen_holder<V: View>(view: &V, key: Option<(&str, &str)>) -> Seen<Lei>
     ensures { result ≡ Taken.seen_holder (V.cells view.now) (option_map (λ k. (k.0.now, k.1.now)) key.entry) }
 {
@@ -83,7 +83,7 @@ fn seen_holder<V: View>(view: &V, key: Option<(&str, &str)>) -> Seen<Lei>
     }
 }
 
-// A record doesn't stand in its own way.
+// A record doesn't conflict with itself.
 fn unless_own(own: Lei, holder: Seen<Lei>) -> Seen<Lei>
     ensures { result ≡ Taken.unless_own own holder }
 {
@@ -93,7 +93,7 @@ fn unless_own(own: Lei, holder: Seen<Lei>) -> Seen<Lei>
     }
 }
 
-// Whether it is one of the two codes.
+// Whether the code is one of the two.
 fn is_no_authority(authority: &str) -> bool
     ensures { result ≡ names_none authority.now }
 {

@@ -5,8 +5,8 @@ ghost use Rattle.lei_records.specs.Spelled.{IsRow};
 ghost use Rattle.lei_records.specs.Tables.{Table, IsSound, put};
 ghost use Rattle.authority_rules.specs.Taken.{IsFree};
 
-/// A record whose authority key no other live record has, or that is not live, can be put into a
-/// sound table, which stays sound.
+/// If no other live record has a record's authority key, or the record isn't live, it can be put into a sound table,
+/// which stays sound.
 pub fn free_records_keep_tables_sound()
     ensures { (table : Table) (row : Row) → IsSound table → IsRow row → IsFree table row
         → IsSound (put table (Item.Record row)) }

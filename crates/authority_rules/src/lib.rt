@@ -1,5 +1,5 @@
-//! Authority keys: the id that a registration authority gave to an entity. No two live records have
-//! the same one. No call takes memory. This project's profile.
+//! Authority keys: the id that a registration authority gave to an entity. No two live records have the same key. No
+//! call takes memory. This project's profile.
 #![tactic(auto)]
 
 mod keys;

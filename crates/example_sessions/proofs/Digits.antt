@@ -9,14 +9,14 @@ step : (next rest : ℕ) (code : List ℕ) → next < length code → last_digit
 unfolding last_digits
 step next rest code within = rw (append_assoc, drop-set code next (48 + rest % 10) within) refl
 
--- a digit more is put in front of those that stand at the end
+-- one more digit is put in front of those at the end
 pub last_digits-put : (place next rest : ℕ) (code all : List ℕ) → place ≡ next + 1 → next < length code → last_digits place rest ++ drop place code ≡ all → last_digits next (rest / 10) ++ drop next (set code next (48 + rest % 10)) ≡ all
 last_digits-put place next rest code all is within whole =
     let one : suc next ≡ place = omega arith in
     let other : next + 1 ≡ place = omega arith in
     sym (step next rest code within) ∙ (ap (λ n. last_digits n rest ++ drop (next + 1) code) one ∙ (ap (λ n. last_digits place rest ++ drop n code) other ∙ whole))
 
--- and at the front all digits stand there
+-- and at the front all digits are there
 pub last_digits-all : (place rest : ℕ) (code all : List ℕ) → place ≤ 0 → last_digits place rest ++ drop place code ≡ all → code ≡ all
 unfolding last_digits
 last_digits-all zero rest code all none is = is
@@ -26,7 +26,7 @@ more : (most n : ℕ) (text : List ℕ) (i : ℕ) → i < length text → number
 unfolding number_after
 more most n text i within = rw (drop_more text i 0 within) refl
 
--- a character that is no digit ends the reading
+-- a character that isn't a digit ends the reading
 pub number_after-other : (most n : ℕ) (text : List ℕ) (i : ℕ) → i < length text → is_ascii_digit (get_or text i 0) ≡ false → number_after most n (drop i text) ≡ None
 number_after-other most n text i within other = rw (more most n text i within, other) refl
 

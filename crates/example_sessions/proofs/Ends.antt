@@ -18,7 +18,7 @@ unless : {A : Type 0} (test : Bool) (x y : A) → (test ≡ true → ⊥) → co
 unless true x y never = absurd (never refl)
 unless false x y never = refl
 
--- a text that ends so has a front
+-- a text with this character at its end has a front
 has_front : (text : List ℕ) → goes_on text ≡ true → text ≡ take (length text - 1) text ++ 92 ∷ []
 has_front text ends =
     let n = length text - 1 in
@@ -27,7 +27,7 @@ has_front text ends =
     let size : length text - 1 + 1 ≡ length text = omega arith in
     sym (take-length text) ∙ (ap (λ k. take k text) (sym size) ∙ (take_more text (length text - 1) 0 within ∙ ap (λ c. take (length text - 1) text ++ c ∷ []) last))
 
--- a text that doesn't end so
+-- a text without this character at its end
 front-without : (text : List ℕ) → ((front : List ℕ) → text ≢ front ++ 92 ∷ []) → front_of text ≡ text
 front-without text other = unless (goes_on text) (take (length text - 1) text) text (λ ends. other (take (length text - 1) text) (has_front text ends))
 

@@ -10,7 +10,7 @@ use Rattle.example_sessions.specs.declared.texts.Part.{Part}
 range_with_len-more : (first n : ℕ) → range_with_len first (n + 1) ≡ range_with_len first n ++ (first + n) ∷ []
 range_with_len-more first n = simp map-id at (map-range_with_len_more (λ x. x) first n (first + n) refl)
 
--- the line of one number more
+-- the line for one more number
 pub repeated-more : (parts : List Part) (end : List ℕ) (first number : ℕ) (bytes made next : List ℕ) → first ≤ number → bytes ≡ repeated parts end (range_with_len first (number - first)) → made ≡ bytes ++ filled (number_texts number) parts → next ≡ made ++ end → next ≡ repeated parts end (range_with_len first (number + 1 - first))
 repeated-more parts end first number bytes made next low was line whole =
     let n = number - first in

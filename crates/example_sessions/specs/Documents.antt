@@ -9,7 +9,7 @@ use Rattle.example_sessions.specs.declared.texts.Named.{Named}
 use Rattle.example_sessions.specs.declared.document.Place.{Place}
 use Rattle.example_sessions.specs.declared.document.Place.TheVariants as places
 
--- what was read of a document: the texts that are known, the sessions, and where the next line stands
+-- what was read of a document: the texts that are known, the sessions, and the place of the next line
 pub record DocumentState : Type 0 where
   pub known : List Named
   pub sessions : List SessionState
@@ -25,32 +25,32 @@ known_with known (name ∷ parameters) text = if is_some (text_named known name 
     ++ record { name = name; parameters = length parameters; parts = parts } ∷ [])
     (text_parts known parameters text)
 
--- the same of a line that was cut at its `=`
+-- the same for a line that was cut at its `=`
 abbrev pub known_cut : List Named → Option (List ℕ × List ℕ) → Option (List Named)
 known_cut known None = None
 known_cut known (Some parts) = known_with known (pieces 32 parts.0) parts.1
 
--- `NAME PARAMETER ..=TEXT`: one more text is known. No two have one name and as many parameters.
+-- `NAME PARAMETER ..=TEXT`: one more text is known. No two texts have the same name and the same number of parameters.
 abbrev pub known_after : List Named → List ℕ → Option (List Named)
 known_after known line = known_cut known (cut 61 line)
 
 -- ---- a line of a document
 
--- what a line begins, by its first word
+-- what starts with a line, by its first word
 abbrev pub begun_by : List ℕ → Option (List ℕ × List ℕ) → Place
 begun_by line None = if bytes_eq line (codes "```texts") then places.Texts else places.Outside
 begun_by line (Some parts) = if bytes_eq parts.0 (codes "```session")
     then places.Session (record { title = parts.1; runs = [] }) else places.Outside
 
--- what a line begins that stands outside of all: texts by "```texts", a session by "```session TITLE"
+-- what starts with a line that is outside texts and sessions: texts by "```texts", a session by "```session TITLE"
 abbrev pub begun : List ℕ → Place
 begun line = begun_by line (cut 32 line)
 
--- a line of three backquotes ends what was begun
+-- a line of three backquotes ends what was started
 abbrev pub is_end : List ℕ → Bool
 is_end line = bytes_eq line (codes "```")
 
--- what was read after one more line, by where it stands
+-- what was read after one more line, by its place
 abbrev pub at_place : DocumentState → Place → List ℕ → Option DocumentState
 at_place document places.Outside line = Some (record document { place = begun line })
 at_place document places.Texts line = if is_end line then Some (record document { place = places.Outside })
@@ -71,7 +71,7 @@ after_lines document [] = Some document
 after_lines document (line ∷ others) = option_and_then (λ after. after_lines after others)
     (after_line document line)
 
--- nothing was read yet, and these texts are known
+-- nothing has been read yet, and these texts are known
 abbrev pub unread : List Named → DocumentState
 unread known = record { known = known; sessions = []; place = places.Outside }
 
@@ -81,10 +81,10 @@ ended_at document places.Outside = Some document
 ended_at document places.Texts = None
 ended_at document (places.Session session) = None
 
--- what was read of a document that is whole
+-- what was read of a complete document
 abbrev pub ended : DocumentState → Option DocumentState
 ended document = ended_at document document.place
 
--- what a document says, where these texts are known
+-- what a document says, if these texts are known
 abbrev pub document_of : List Named → List ℕ → Option DocumentState
 document_of known text = option_and_then ended (after_lines (unread known) (pieces 10 text))

@@ -1,4 +1,4 @@
--- Texts in which `<NAME ARGUMENT ..>` stands for another text.
+-- Texts in which `<NAME ARGUMENT ..>` means another text.
 use Rattle.std.specs.Prelude.{ℕ, List, [], ◌∷◌, length, flat_map, slice_get, codes, if◌then◌else◌, Option, Some, None, option_map}
 use Rattle.std.specs.Str.{bytes_eq}
 use Rattle.example_sessions.specs.Cuts.{cut, pieces}
@@ -9,27 +9,27 @@ use Rattle.example_sessions.specs.declared.texts.Part.{Part}
 use Rattle.example_sessions.specs.declared.texts.Part.TheVariants.{Plain, Hole}
 use Rattle.example_sessions.specs.declared.texts.Named.{Named}
 
--- the parts of a known text, and a word's own where there is none
+-- the parts of a known text, or the word itself as a part if there is none
 abbrev pub parts_or : List ℕ → Option Named → List Part
 parts_or word None = Plain word ∷ []
 parts_or word (Some text) = text.parts
 
--- the hole of a parameter, and these parts where there is none
+-- the hole of a parameter, or these parts if there is none
 abbrev pub hole_or : List Part → Option ℕ → List Part
 hole_or parts None = parts
 hole_or parts (Some index) = Hole index ∷ []
 
--- an argument: the hole of the parameter of that name, the known text of that name, or the word itself
+-- an argument: the hole of the parameter with that name, the known text with that name, or the word itself
 abbrev pub argument_parts : List Named → List (List ℕ) → List ℕ → List Part
 argument_parts known parameters word = hole_or (parts_or word (text_named known word 0))
     (index_of parameters word)
 
--- the parts of an argument that is given, and none of one that isn't
+-- the parts of an argument that is given, and none if it isn't given
 abbrev pub given_parts : List Named → List (List ℕ) → Option (List ℕ) → List Part
 given_parts known parameters None = []
 given_parts known parameters (Some word) = argument_parts known parameters word
 
--- a part of a known text, in which a hole is filled by the argument of its index
+-- a part of a known text; a hole is filled by the argument with its index
 abbrev pub part_with : List Named → List (List ℕ) → List (List ℕ) → Part → List Part
 part_with known parameters arguments (Plain bytes) = Plain bytes ∷ []
 part_with known parameters arguments (Hole index) = given_parts known parameters (slice_get arguments index)
@@ -45,25 +45,25 @@ byte_parts name (text ∷ []) =
     if bytes_eq name (codes "byte") then option_map (λ byte. Plain (byte ∷ []) ∷ []) (number 255 text) else None
 byte_parts name (text ∷ other ∷ others) = None
 
--- what a name with arguments stands for: a known text, or else a byte
+-- what a name with arguments means: a known text, or else a byte
 abbrev pub parts_of_text : List Named → List (List ℕ) → List ℕ → List (List ℕ) → Option Named
     → Option (List Part)
 parts_of_text known parameters name arguments None = byte_parts name arguments
 parts_of_text known parameters name arguments (Some text) = Some
     (parts_with known parameters arguments text.parts)
 
--- the hole of a parameter, and else these parts
+-- the hole of a parameter, or else these parts
 abbrev pub hole_or_text : Option (List Part) → Option ℕ → Option (List Part)
 hole_or_text parts None = parts
 hole_or_text parts (Some index) = Some (Hole index ∷ [])
 
--- what a name without arguments stands for
+-- what a name without arguments means
 abbrev pub alone : List Named → List (List ℕ) → List ℕ → Option (List Part)
 alone known parameters name =
     hole_or_text (parts_of_text known parameters name [] (text_named known name 0)) (index_of parameters name)
 
--- What the words between `<` and `>` stand for: the hole of the parameter of that name, the known text of that name
--- with these arguments, or a byte.
+-- What the words between `<` and `>` mean: the hole of the parameter with that name, the known text with that name and
+-- these arguments, or a byte.
 abbrev pub meant : List Named → List (List ℕ) → List (List ℕ) → Option (List Part)
 meant known parameters [] = None
 meant known parameters (name ∷ []) = alone known parameters name
@@ -76,7 +76,7 @@ piece_cut known parameters None = None
 piece_cut known parameters (Some parts) = behind (meant known parameters (pieces 32 parts.0))
     (Some (Plain parts.1 ∷ []))
 
--- a piece behind a `<`: the words before the first `>`, and the text behind it
+-- a piece after a `<`: the words before the first `>`, and the text after it
 abbrev pub piece_parts : List Named → List (List ℕ) → List ℕ → Option (List Part)
 piece_parts known parameters piece = piece_cut known parameters (cut 62 piece)
 
@@ -92,6 +92,6 @@ parts_from known parameters [] = Some []
 parts_from known parameters (first ∷ others) = behind (Some (Plain first ∷ []))
     (pieces_parts known parameters others)
 
--- the parts of a text with these parameters, where these texts are known
+-- the parts of a text with these parameters, if these texts are known
 unfoldable pub text_parts : List Named → List (List ℕ) → List ℕ → Option (List Part)
 text_parts known parameters text = parts_from known parameters (pieces 60 text)

@@ -1,4 +1,4 @@
--- Sessions, and the lines that say them. A line is a word, a space, and the rest of it.
+-- Sessions, and the lines that describe them. A line is a word, a space, and the rest of it.
 use Rattle.std.specs.Prelude.{ℕ, ◌+◌, ◌-◌, ◌==◌, ℤ, List, [], ◌∷◌, ◌++◌, length, take, map, flat_map, slice_get, slice_index, codes, decimal, if◌then◌else◌, Option, Some, None, option_map, option_and_then, Bool}
 use Rattle.std.specs.List.{range_with_len}
 use Rattle.std.specs.Str.{bytes_eq}
@@ -12,9 +12,9 @@ use Rattle.example_sessions.specs.declared.run.RulesChange.{RulesChange}
 use Rattle.example_sessions.specs.declared.texts.Part.{Part}
 use Rattle.example_sessions.specs.declared.texts.Named.{Named}
 
--- A run of the program: its words, what is changed of its store before it, answers and rules, the moments of its clock, the numbers of the
--- calls that its keeper refuses, the bytes that are sent, those of a second file, the bytes that must come back, and
--- the status that it must end with.
+-- A run of the program: its words, the changes to its store before it (answers and rules), the moments of its clock,
+-- the numbers of the calls that its keeper refuses, the bytes that are sent, those of a second file, the bytes that
+-- must come back, and the status that it must end with.
 pub record RunState : Type 0 where
   pub words : List (List ℕ)
   pub changes : List Change
@@ -42,7 +42,7 @@ pub record SessionState : Type 0 where
 abbrev pub word_of : List ℕ → List ℕ
 word_of text = if bytes_eq text (codes "\"\"") then [] else text
 
--- the run of a command's words, of which the first names the program
+-- the run of a command's words; the first word names the program
 abbrev pub run_of_words : List (List ℕ) → Option RunState
 run_of_words [] = None
 run_of_words (program ∷ words) = if bytes_eq program (codes "./leireg")
@@ -60,17 +60,17 @@ run_of_words (program ∷ words) = if bytes_eq program (codes "./leireg")
     })
     else None
 
--- `$ ./leireg WORD ..`: a run with these words, in which nothing is sent
+-- `$ ./leireg WORD ..`: a run with these words, which sends nothing
 abbrev pub run_of : List ℕ → Option RunState
 run_of command = run_of_words (pieces 32 command)
 
--- `changed N TEXT`: before the run, the stored answer of the entry of this number is changed to this text
+-- `changed N TEXT`: before the run, the stored answer of the entry with this number is changed to this text
 abbrev pub with_change : RunState → List ℕ → Option RunState
 with_change run rest = option_and_then (λ parts.
     option_map (λ n. record run { changes = run.changes ++ record { entry = n; answer = parts.1 } ∷ [] })
     (number 1000000 parts.0)) (cut 32 rest)
 
--- `rules N R`: before the run, the entry of this number in the store is made one of these rules
+-- `rules N R`: before the run, the stored entry with this number is changed to one of these rules
 abbrev pub with_rules : RunState → List ℕ → Option RunState
 with_rules run rest = option_and_then (λ parts. option_and_then (λ n.
     option_map (λ rules. record run { rules = run.rules ++ record { entry = n; rules = rules } ∷ [] })
@@ -103,7 +103,7 @@ goes_on text = slice_index text (length text - 1) == 92
 abbrev pub front_of : List ℕ → List ℕ
 front_of text = if goes_on text then take (length text - 1) text else text
 
--- the line end of a text: none where it goes on
+-- the line end of a text: none if the text goes on
 abbrev pub end_of : List ℕ → List ℕ
 end_of text = if goes_on text then [] else 10 ∷ []
 
@@ -113,16 +113,16 @@ with_text known run sign text =
     option_and_then (λ parts. with_bytes run sign (filled [] parts ++ end_of text))
     (text_parts known [] (front_of text))
 
--- the names by which a repeated line speaks of its number, and what they stand for: the number, its code, and the code
--- of the number before it
+-- the names that a repeated line uses for its number, and what they stand for: the number, its code, and the code of
+-- the number before it
 abbrev pub number_names : List (List ℕ)
 number_names = codes "NUMBER" ∷ codes "LEI" ∷ codes "BEFORE" ∷ []
 
--- what these names stand for in the line of a number
+-- what these names stand for in the line for a number
 abbrev pub number_texts : ℕ → List (List ℕ)
 number_texts n = decimal n ∷ code_of n ∷ code_of (n - 1) ∷ []
 
--- the bytes of a line for each of so many numbers from the first on
+-- the bytes of a line for each of these numbers, in order
 abbrev pub repeated : List Part → List ℕ → List ℕ → List ℕ
 repeated parts end numbers = flat_map (λ n. filled (number_texts n) parts ++ end) numbers
 
@@ -130,20 +130,20 @@ repeated parts end numbers = flat_map (λ n. filled (number_texts n) parts ++ en
 abbrev pub numbers_between : ℕ → ℕ → List ℕ
 numbers_between first last = range_with_len first (last + 1 - first)
 
--- a line for each number from the first to the last is sent, stands in the second file or must come back
+-- a line for each number from the first to the last is sent, is in the second file or must come back
 abbrev pub with_repeated : List Named → RunState → ℕ → ℕ → List ℕ → List ℕ → Option RunState
 with_repeated known run first last sign text =
     option_and_then (λ parts. with_bytes run sign (repeated parts (end_of text) (numbers_between first last)))
     (text_parts known number_names (front_of text))
 
--- `each FIRST LAST > TEXT`, and so for the two other signs
+-- `each FIRST LAST > TEXT`, and the same for the two other signs
 abbrev pub with_each : List Named → RunState → List ℕ → Option RunState
 with_each known run range =
     option_and_then (λ first. option_and_then (λ last. option_and_then (λ line.
     option_and_then (λ from. option_and_then (λ to. with_repeated known run from to line.0 line.1)
     (number 1000000 last.0)) (number 1000000 first.0)) (cut 32 last.1)) (cut 32 first.1)) (cut 32 range)
 
--- a line of a run that has begun
+-- a line of a run that has started
 unfoldable pub with_line : List Named → RunState → List ℕ → List ℕ → Option RunState
 with_line known run word rest = if bytes_eq word (codes "changed") then with_change run rest
     else (if bytes_eq word (codes "rules") then with_rules run rest
@@ -155,14 +155,14 @@ with_line known run word rest = if bytes_eq word (codes "changed") then with_cha
 
 -- ---- the lines of a session
 
--- its last run goes on
+-- its last run continues
 abbrev pub with_last : List Named → SessionState → List ℕ → List ℕ → Option RunState → Option SessionState
 with_last known session word rest None = None
 with_last known session word rest (Some run) =
     option_map (λ new. record session { runs = take (length session.runs - 1) session.runs ++ new ∷ [] })
     (with_line known run word rest)
 
--- `# TEXT` says nothing, `$ ..` begins another run, and any other line is one of the last run.
+-- `# TEXT` says nothing, `$ ..` starts another run, and any other line belongs to the last run.
 abbrev pub by_word : List Named → SessionState → List ℕ → List ℕ → Option SessionState
 by_word known session word rest = if bytes_eq word (codes "#") then Some session
     else (if bytes_eq word (codes "$")

@@ -1,10 +1,10 @@
-//! What comes of a run.
+//! The result of a run.
 ghost use Rattle.std.specs.Prelude.{◌≡◌, ◌↔◌, IsTrue};
 
 use crate::run::Run;
 use lei_outside::Bytes;
 
-/// What came of a run: the bytes that were written, and the status.
+/// The result of a run: the bytes that were written, and the status.
 #[derive(Drop)]
 pub struct Came {
     pub written: Bytes,
@@ -12,7 +12,7 @@ pub struct Came {
 }
 
 impl Came {
-    /// Whether it is what was wanted.
+    /// Whether the result is the required one.
     pub fn is(&self, wanted: &Run) -> bool
         ensures { IsTrue result ↔
             ((self.now.written ≡ wanted.now.expected) × (self.now.status ≡ wanted.now.status)) }

@@ -1,4 +1,4 @@
-//! Codes of numbers.
+//! Codes from numbers.
 ghost use Rattle.std.specs.Prelude.{◌≡◌};
 ghost use Rattle.example_sessions.specs.Numbers;
 

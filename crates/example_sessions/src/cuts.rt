@@ -5,7 +5,7 @@ ghost use Rattle.example_sessions.specs.Cuts;
 use lei_outside::{NoMemory, Text};
 use std::alloc::{AllocError, Global};
 
-/// The text before the first of these characters and the text behind it, where there is one.
+/// The text before the first of these characters and the text after it, if there is one.
 pub fn cut(text: &str, at: char) -> Option<(&str, &str)>
     requires { at < 128 }
     ensures { option_map (λ parts. (parts.0.now, parts.1.now)) result ≡ Cuts.cut at text.now }
@@ -13,7 +13,7 @@ pub fn cut(text: &str, at: char) -> Option<(&str, &str)>
     text.split_once(at)
 }
 
-/// The pieces of a text between these characters, the empty ones too.
+/// The pieces of a text between these characters, including empty ones.
 pub fn pieces(alloc: Global, text: &str, at: char) -> Result<Vec<Text>, NoMemory>
     requires { at < 128 }
     ensures { IfOk result (λ found. found.items ≡ Cuts.pieces at text.now) }

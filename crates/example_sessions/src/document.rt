@@ -1,4 +1,4 @@
-//! Documents, with named texts and sessions in them.
+//! Documents with named texts and sessions in them.
 ghost use Rattle.std.specs.Prelude.{◌≡◌, ◌↔◌, Some, None, IsTrue, IfOk, MatchResult};
 ghost use Rattle.example_sessions.specs.Documents;
 ghost use Rattle.example_sessions.specs.Reading.{Gives, Fails};
@@ -12,17 +12,17 @@ use lei_outside::{List, NoMemory, Text};
 use std::alloc::Global;
 use std::marker::Model;
 
-/// A line that is not read, counted from 1, and why.
+/// A line that can't be read, counted from 1, and the reason.
 #[derive(Clone, Copy)]
 pub struct LineFault {
     pub line: usize,
     pub fault: Fault,
 }
 
-/// Where a line stands.
+/// The place of a line.
 #[derive(Drop)]
 pub enum Place {
-    /// Among what is for the reader.
+    /// Within the text for the reader.
     Outside,
     /// Among named texts.
     Texts,
@@ -30,7 +30,7 @@ pub enum Place {
     Session(Session),
 }
 
-/// What was read of a document: the texts that are known, the sessions, and where the next line stands.
+/// What was read of a document: the texts that are known, the sessions, and the place of the next line.
 #[derive(Drop)]
 pub struct Document {
     known: Vec<Named>,
@@ -47,7 +47,7 @@ impl Model for Document {
 }
 
 impl Document {
-    /// What a document says, where these texts are known.
+    /// What a document says, if these texts are known.
     pub fn read(alloc: Global, known: Vec<Named>, text: &str) -> Result<Self, LineFault>
         ensures { MatchResult result (λ document. Documents.document_of known.items text.now ≡ Some document)
             (λ at. Fails at.fault (Documents.document_of known.items text.now)) }
@@ -135,7 +135,7 @@ impl Document {
         self.sessions.as_slice()
     }
 
-    /// The texts that are known behind it.
+    /// The texts that are known after the document.
     pub fn into_known(self) -> Vec<Named>
         ensures { result.items ≡ self.known }
     {
@@ -144,7 +144,7 @@ impl Document {
     }
 }
 
-// What a line begins that stands outside of all.
+// What starts with a line that is outside texts and sessions.
 fn begun(alloc: Global, line: &str) -> Result<Place, NoMemory>
     ensures { IfOk result (λ place. place ≡ Documents.begun line.now) }
 {
@@ -157,7 +157,7 @@ fn begun(alloc: Global, line: &str) -> Result<Place, NoMemory>
     }
 }
 
-// The known texts, and the one of this line.
+// The known texts, with the one of this line.
 fn known_after(alloc: Global, known: Vec<Named>, line: &str) -> Result<Vec<Named>, Fault>
     ensures { Gives (λ made. made.items) result (Documents.known_after known.items line.now) }
 {

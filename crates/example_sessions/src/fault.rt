@@ -1,13 +1,13 @@
-//! Why a line is not read.
+//! Why a line can't be read.
 use lei_outside::NoMemory;
 use std::alloc::{AllocError, AllocFailed};
 
-/// Why a line is not read.
+/// Why a line can't be read.
 #[derive(Clone, Copy, PartialEq, Eq)]
 pub enum Fault {
-    /// It is no line of the form.
+    /// It doesn't have the required form.
     Form,
-    /// Memory was wanting.
+    /// Memory ran out.
     Memory,
 }
 

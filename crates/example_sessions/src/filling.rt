@@ -1,4 +1,4 @@
-//! Texts in which `<NAME ARGUMENT ..>` stands for another text.
+//! Texts in which `<NAME ARGUMENT ..>` means another text.
 ghost use Rattle.std.specs.Prelude.{◌≡◌, ◌++◌, Some, length, IfOk};
 ghost use Rattle.example_sessions.specs.Filling;
 ghost use Rattle.example_sessions.specs.Reading.{Gives, behind};
@@ -11,7 +11,7 @@ use crate::texts::{Named, Part, index_of, plain, text_named};
 use lei_outside::{NoMemory, Text};
 use std::alloc::Global;
 
-/// The parts of a text with these parameters, where these texts are known.
+/// The parts of a text with these parameters, if these texts are known.
 #[tactic(auto, unfolding(crate::specs::Filling::text_parts))]
 pub fn text_parts(
     alloc: Global,
@@ -31,7 +31,7 @@ pub fn text_parts(
     put_pieces(alloc, known, parameters, parts, others)
 }
 
-// These parts, and those of pieces behind them.
+// These parts, followed by those of pieces.
 fn put_pieces(
     alloc: Global,
     known: &[Named],
@@ -148,7 +148,7 @@ fn put_byte(
     Ok(parts)
 }
 
-// These parts, and those of a known text behind them, with these arguments in its holes.
+// These parts, followed by those of a known text with these arguments in its holes.
 fn put_parts(
     alloc: Global,
     known: &[Named],
@@ -212,7 +212,7 @@ fn put_argument(
     }
 }
 
-// These parts, and copies of others behind them.
+// These parts, followed by copies of others.
 fn put_copies(alloc: Global, mut parts: Vec<Part>, others: &[Part]) -> Result<Vec<Part>, NoMemory>
     ensures { IfOk result (λ made. made.items ≡ parts.items ++ others.now) }
 {

@@ -1,4 +1,4 @@
-//! Sessions with the register as they stand in files that a person reads: what is sent, and what must come back.
+//! Sessions with the register, as they are written in files for readers: what is sent, and what must come back.
 #![tactic(auto)]
 
 mod came;

@@ -1,8 +1,8 @@
-//! Numbers that are read.
+//! The reading of numbers.
 ghost use Rattle.std.specs.Prelude.{◌≡◌, ◌≤◌, IfSome};
 ghost use Rattle.example_sessions.specs.Numbers;
 
-/// The number that a text of decimal digits writes, where it is at most this. The empty text writes 0.
+/// The number that a text of decimal digits writes, if it is at most this. The empty text writes 0.
 pub fn number_of(text: &str, most: u32) -> Option<u32>
     ensures value { result ≡ Numbers.number most text.now }
     ensures within { IfSome result (λ n. n ≤ most) }

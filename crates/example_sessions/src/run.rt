@@ -1,4 +1,4 @@
-//! Runs of the program, as they are wanted.
+//! Runs of the program, as a document requires them.
 ghost use Rattle.std.specs.Prelude.{◌≡◌, ◌++◌, ◌≤◌, [], map, IfOk, string_bytes};
 ghost use Rattle.lei_outside.specs.Keeping.{AreKept};
 ghost use Rattle.lei_outside.specs.Memory.{tables_of};
@@ -17,14 +17,14 @@ use lei_shapes::Moment;
 use std::alloc::{AllocError, Global};
 use std::marker::Model;
 
-/// What is changed of a store: the answer of the entry of this number.
+/// A change to a store: the answer of the entry with this number.
 #[derive(Drop)]
 pub struct Change {
     pub entry: u32,
     pub answer: Bytes,
 }
 
-/// What is changed of a store: the rules of the entry of this number.
+/// A change to a store: the rules of the entry with this number.
 #[derive(Clone, Copy)]
 pub struct RulesChange {
     pub entry: u32,
@@ -49,9 +49,9 @@ impl Model for NumberRange {
     ghost invariant = { λ r. r.last ≤ 1000000 };
 }
 
-/// A run of the program: its words, what is changed of its store before it, answers and rules, the moments of its
-/// clock, the numbers of the calls that its keeper refuses, the bytes that are sent, those of a second file, the bytes
-/// that must come back, and the status that it must end with.
+/// A run of the program: its words, the changes to its store before it (answers and rules), the moments of its clock,
+/// the numbers of the calls that its keeper refuses, the bytes that are sent, those of a second file, the bytes that
+/// must come back, and the status that it must end with.
 #[derive(Drop)]
 pub struct Run {
     words: Vec<String>,
@@ -112,28 +112,28 @@ impl Run {
         })
     }
 
-    /// The words behind the program's name.
+    /// The words after the program's name.
     pub fn words(&self) -> &[String]
         ensures { map string_bytes result.now ≡ self.now.words }
     {
         self.words.as_slice()
     }
 
-    /// A clock that gives its moments.
+    /// A clock that gives the moments of the run.
     pub fn clock(&self, alloc: Global) -> Result<ListClock, AllocError>
         ensures { IfOk result (λ clock. clock ≡ record { moments = self.now.moments; calls = 0 }) }
     {
         Ok(ListClock::new(List::from(self.moments.as_slice().to_vec(alloc)?)))
     }
 
-    /// Which answers of its store are changed before it.
+    /// Which answers of its store are changed before the run.
     pub fn changes(&self) -> &[Change]
         ensures { result.now ≡ self.now.changes }
     {
         self.changes.as_slice()
     }
 
-    /// Which rules of its store's entries are changed before it.
+    /// Which rules of its store's entries are changed before the run.
     pub fn rules(&self) -> &[RulesChange]
         ensures { result.now ≡ self.now.rules }
     {
@@ -185,14 +185,14 @@ impl Run {
         self.expected.as_slice()
     }
 
-    /// The status that it must end with.
+    /// The status that the run must end with.
     pub fn status(&self) -> u8
         ensures { result ≡ self.now.status }
     {
         self.status
     }
 
-    /// The run after one more line, which is a word and the rest behind it.
+    /// The run after one more line, given as a word and the rest after it.
     #[tactic(auto, unfolding(crate::specs::Sessions::with_line))]
     pub fn with_line(
         self,
@@ -361,7 +361,7 @@ impl Run {
     }
 }
 
-// The words that these texts spell.
+// The words that these texts write.
 fn words_of(alloc: Global, texts: &[Text]) -> Result<Vec<String>, NoMemory>
     ensures { IfOk result (λ words. map string_bytes words.items ≡ map Sessions.word_of texts.now) }
 {
@@ -428,7 +428,7 @@ fn put_number(
     put_filled(bytes, parts, &texts)
 }
 
-// The names by which a repeated line speaks of its number.
+// The names that a repeated line uses for its number.
 fn number_names(alloc: Global) -> Result<[Text; 3], NoMemory>
     ensures { IfOk result (λ names. names ≡ Sessions.number_names) }
 {
@@ -439,7 +439,7 @@ fn number_names(alloc: Global) -> Result<[Text; 3], NoMemory>
     ])
 }
 
-// What these names stand for.
+// The texts that these names stand for.
 fn number_texts(alloc: Global, number: u32) -> Result<[Bytes; 3], NoMemory>
     ensures { IfOk result (λ texts. texts ≡ Sessions.number_texts number) }
 {

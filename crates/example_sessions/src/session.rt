@@ -1,4 +1,4 @@
-//! Sessions, as they are wanted.
+//! Sessions, as a document requires them.
 ghost use Rattle.std.specs.Prelude.{◌≡◌, ◌-◌, [], length, slice_get, IfOk};
 ghost use Rattle.example_sessions.specs.Reading.{Gives};
 ghost use Rattle.example_sessions.specs.Sessions;
@@ -28,7 +28,7 @@ impl Model for Session {
 }
 
 impl Session {
-    /// A session without a run.
+    /// A session without any run.
     pub fn new(alloc: Global, title: &str) -> Result<Self, NoMemory>
         ensures { IfOk result (λ session. session ≡ record { title = title.now; runs = [] }) }
     {
@@ -38,7 +38,7 @@ impl Session {
         })
     }
 
-    /// What it shows.
+    /// What the session shows.
     pub fn title(&self) -> &str
         ensures { result.now ≡ self.now.title }
     {
@@ -84,7 +84,7 @@ impl Session {
         self.with_last(alloc, known, word, rest)
     }
 
-    // The session whose last run goes on.
+    // The session after its last run continues.
     fn with_last(
         mut self,
         alloc: Global,

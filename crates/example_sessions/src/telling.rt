@@ -1,4 +1,4 @@
-//! What is told of a run that came out otherwise than it was wanted.
+//! The report on a run whose result isn't the required one.
 ghost use Rattle.std.specs.Prelude.{◌≡◌, ◌↔◌, IfOk, IsTrue};
 
 use crate::came::Came;
@@ -6,8 +6,8 @@ use crate::run::Run;
 use std::alloc::Global;
 use std::io;
 
-/// The session in which a run is made, and how: with this title, in this file, by reads and writes of at most so
-/// many bytes.
+/// The session that a run belongs to, and how the run is made: with this title, in this file, by reads and writes of at
+/// most this many bytes.
 #[derive(Clone, Copy)]
 pub struct Trial<'a> {
     pub file: &'a str,
@@ -15,7 +15,7 @@ pub struct Trial<'a> {
     pub size: usize,
 }
 
-/// Whether a run came out as wanted. Where it didn't, that is printed, with the trial that it was made in.
+/// Whether a run has the required result. If it doesn't, that is printed, with the trial that it was made in.
 pub fn is_wanted<R: Print + AllocGlobal>(
     rt: &R,
     alloc: Global,
@@ -59,14 +59,14 @@ fn tell_difference<R: Print + AllocGlobal>(
     Ok(())
 }
 
-// A text from some bytes before this one on to some behind it.
+// The part of a text from some bytes before this position to some bytes after it.
 fn around(alloc: Global, bytes: &[u8], at: usize) -> io::Result<String> {
     let begin = at.saturating_sub(60).min(bytes.len());
     let end = at.saturating_add(60).min(bytes.len());
     Ok(String::from_utf8_lossy(alloc, &bytes[begin..end])?)
 }
 
-// How many bytes two texts begin with alike.
+// How many bytes at the start of two texts are equal.
 fn alike(one: &[u8], other: &[u8]) -> usize {
     for count in 0..one.len() {
         if one.get(count) != other.get(count) {

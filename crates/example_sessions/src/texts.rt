@@ -6,14 +6,14 @@ ghost use Rattle.example_sessions.specs.Texts;
 use lei_outside::{Bytes, List, NoMemory, Text};
 use std::alloc::Global;
 
-/// A part of a text: bytes that stand there, or the hole of a parameter, by its index.
+/// A part of a text: bytes as they are, or the hole of a parameter, by its index.
 #[derive(Drop)]
 pub enum Part {
     Plain(Bytes),
     Hole(usize),
 }
 
-/// A text with a name and so many parameters.
+/// A text with a name and this many parameters.
 #[derive(Drop)]
 pub struct Named {
     pub name: Text,
@@ -21,28 +21,28 @@ pub struct Named {
     pub parts: List<Part>,
 }
 
-/// The text with this name and so many parameters.
+/// The text with this name and this many parameters.
 pub fn text_named<'a>(known: &'a [Named], name: &str, parameters: usize) -> Option<&'a Named>
     ensures { option_copied result ≡ Texts.text_named known.now name.now parameters }
 {
     known.iter().find(|text| text.name.as_str() == name && text.parameters == parameters)
 }
 
-/// Where a name stands among others.
+/// The index of a name among others.
 pub fn index_of(names: &[Text], name: &str) -> Option<usize>
     ensures { result ≡ Texts.index_of names.now name.now }
 {
     names.iter().position(|other| other.as_str() == name)
 }
 
-/// A part of these bytes.
+/// A part with these bytes.
 pub fn plain(alloc: Global, bytes: &[u8]) -> Result<Part, NoMemory>
     ensures { IfOk result (λ part. part ≡ Part.Plain bytes.now) }
 {
     Ok(Part::Plain(Bytes::copy_of(alloc, bytes)?))
 }
 
-/// These bytes, and those of a text behind them with these arguments in its holes.
+/// These bytes, followed by those of a text with these arguments in its holes.
 pub fn put_filled(
     mut bytes: Vec<u8>,
     parts: &[Part],

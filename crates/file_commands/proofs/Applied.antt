@@ -1,4 +1,4 @@
--- What comes of a copy and a delta.
+-- The outcome for a copy and a delta.
 use Rattle.std.proofs.Common.{◌≡◌, ◌≢◌, ℕ, List, Option, Result, Ok, Err, inl, refl}
 use Rattle.lei_code.specs.Texts.{Text}
 use Rattle.register_words.specs.declared.sheets.Form.{Form}
@@ -9,7 +9,7 @@ use Rattle.delta_apply.specs.declared.fault.ApplyFault.TheVariants as faults
 use Rattle.file_commands.specs.Applying.{Patches, apply_refusal, outcome_of}
 use Rattle.file_commands.specs.TwoFiles.{TellsOf, TellsOutcome}
 
--- an answer that isn't want of memory is the one that is to be given
+-- an answer that isn't lack of memory is the required one
 pub answered : (fault : ApplyFault) {P : Type 0} → fault ≢ faults.NoMemory → UnlessNoMemory (Err fault) P → P
 answered faults.CopyNotRead other is = is
 answered faults.DeltaNotRead other is = is

@@ -18,7 +18,7 @@ pub record IsReadSoFar (before after : Option (List ℕ)) (bytes : List ℕ) : T
 pub read-nothing : (told : Option (List ℕ)) → IsReadSoFar told told []
 read-nothing told = record { lost = Loses-none told; short = omega arith }
 
--- a read that took none leaves what was read short
+-- a read that took no bytes leaves what was read short
 pub stays-short : (before between after : Option (List ℕ)) (bytes : List ℕ) → IsReadSoFar before between bytes
     → Loses between after [] → IsReadShort before after
 stays-short before between after bytes so_far none = record {
@@ -30,14 +30,14 @@ stays-short before between after bytes so_far none = record {
 pub read-short : (before after : Option (List ℕ)) (bytes : List ℕ) → IsReadSoFar before after bytes → IsReadShort before after
 read-short before after bytes so_far = record { bytes = bytes; lost = so_far.lost; short = so_far.short }
 
--- a read that gives none is at the end
+-- a read that gives no bytes is at the end
 pub reads-whole : (before between after : Option (List ℕ)) (bytes : List ℕ) → IsReadSoFar before between bytes
     → Loses between after [] → IsAtEnd after → IsReadWhole before after bytes
 reads-whole before between after bytes so_far none ended =
     let all : Loses before after (bytes ++ []) = Loses-join before between after bytes [] so_far.lost none in
     record { lost = subst (Loses before after) (append-nil bytes) all; ended = ended; short = so_far.short }
 
--- one that gives some more
+-- a read that gives some more bytes
 pub reads-more : (before between after : Option (List ℕ)) (bytes more : List ℕ) → IsReadSoFar before between bytes
     → Loses between after more → length bytes + length more < file_limit → IsReadSoFar before after (bytes ++ more)
 reads-more before between after bytes more so_far lost below = record {

@@ -1,4 +1,4 @@
--- What comes of two copies, in a report on groups.
+-- The outcome for two copies, in a report on groups.
 use Rattle.std.proofs.Common.{◌≡◌, ◌≢◌, ℕ, Bool, true, false, List, Option, Some, None, Result, Ok, Err, inl, inr, refl, sym, ap, subst, ◌∙◌, arith, pos, unwrap_or}
 use Rattle.std.specs.Prelude.{is_some, ⊤}
 use Rattle.lei_code.specs.Texts.{Text}
@@ -20,7 +20,7 @@ use Rattle.file_commands.specs.declared.grouping.GroupRefusal.TheVariants as ref
 
 -- ---- what was read
 
--- a head under which a copy in CSV is printed
+-- a head with which a copy in CSV is printed
 some_head : Head
 some_head = record { moment = pos 0; publication = 1; from = 0 }
 
@@ -41,7 +41,7 @@ pub rows_read : (bytes : Text) (sheet : Sheet) (form : Form) (read : CopyRead) �
 rows_read bytes sheet Form.Csv read is = let copy = is.1 some_head some_copy_head in copy.rows_are
 rows_read bytes sheet Form.Json read is = is.2.rows_are
 
--- a head is read in JSON alone
+-- a head is read only in JSON
 has_head : Form → Bool
 has_head Form.Csv = false
 has_head Form.Json = true
@@ -57,7 +57,7 @@ heads_read form lei rr first second is also = head_read lei Sheet.Lei form first
 
 -- ---- two copies
 
--- the rows of two copies are those from which a table is taken
+-- the rows of two copies are those that a table is taken from
 record AreRowsOf (lei rr : Text) (form : Form) (first second : CopyRead) : Type 0 where
   pub copies : Copies lei rr form
   pub first_rows : copies.lei_rows ≡ first.rows
@@ -121,9 +121,9 @@ table_read form lei rr first second table read is =
     (subst (λ rows. table ≡ table_of first.rows rows) (sym read.second_rows)
     (same_table table _ _ is.names_are is.links_are))
 
--- ---- what is to be answered
+-- ---- the required answer
 
--- by groups that were opened
+-- from groups that were opened
 pub reports_by : (who : Text) (form : Form) (lei rr : Text) (first second : CopyRead) (table : GroupTable) (answer : Result Text GroupRefusal)
     → IsCopyRead lei Sheet.Lei form first → IsCopyRead rr Sheet.Rr form second → publication_in first.head ≡ publication_in second.head
     → IsTableOf first.rows second.rows table → IsReportOf table who answer → UnlessNoMemory answer (IsReport who form lei rr answer)
@@ -151,7 +151,7 @@ reports_by who form lei rr first second table answer is also same of_rows done =
     by (Err refusals.LeiUnknown) done = (read.copies, go, subst (λ t. is_known t who ≡ false) at done)
     by (Err refusals.NoMemory) done = tt
 
--- of two copies of other publications
+-- for two copies of different publications
 pub other_publication : (who : Text) (form : Form) (lei rr : Text) (first second : CopyRead) (p q : ℕ)
     → IsCopyRead lei Sheet.Lei form first → IsCopyRead rr Sheet.Rr form second
     → IsRefusal first.head second.head (faults.OtherPublication p q) → IsReport who form lei rr (Err (refusals.OtherPublication p q))
@@ -166,7 +166,7 @@ other_publication who Form.Json lei rr first second p q is also refusal =
       refusal.2,
     )
 
--- an answer that isn't want of memory is the one that is to be given
+-- an answer that isn't lack of memory is the required one
 pub reported : (refusal : GroupRefusal) {P : Type 0} → refusal ≢ refusals.NoMemory → UnlessNoMemory (Err refusal) P → P
 reported refusals.LeiCopyNotRead other is = is
 reported refusals.RrCopyNotRead other is = is

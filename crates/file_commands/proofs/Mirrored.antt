@@ -1,4 +1,4 @@
--- What the command does that keeps a mirror.
+-- What the command that keeps a mirror does.
 use Rattle.std.proofs.Common.{◌≡◌, ◌≢◌, ◌⊎◌, ◌≤◌, ℕ, inl, inr, subst}
 use Rattle.lei_mirror.specs.Mirrors.{MirrorState, empty_mirror}
 use Rattle.line_reading.specs.declared.framing.NoEnd.{NoEnd}
@@ -14,7 +14,7 @@ use Rattle.file_commands.specs.Sides.{Sides}
 use Rattle.file_commands.specs.Status.{end_status, ended_as}
 use Rattle.file_commands.proofs.Serving.{at_status, ended_status, served_to_end}
 
--- queries were served from an empty mirror on
+-- queries were served starting from an empty mirror
 pub mirrored : (before after : Sides) (status : ℕ) (first last : MirrorState) (ended : Ended NoEnd)
     → status ≡ end_status (ended_as ended) → first ≡ empty_mirror
     → Serves MirrorStep mirror_rules input_limit (mirror_progress first before.written) before.left
@@ -39,7 +39,7 @@ pub mirror_status : (before after : Sides) (status : ℕ) → Mirrors before aft
 mirror_status before after status (inl answers) = at_status status _ answers.status_is (ended_status answers.ended)
 mirror_status before after status (inr lacks) = inr (inl lacks.is)
 
--- where nothing failed and memory wasn't wanted, a mirror whose queries are told and short is completed
+-- if nothing failed and memory didn't run out, a mirror whose queries are told and short is completed
 pub completes_mirror : (before after : Sides) (status : ℕ) → status ≢ 3 → status ≢ 4 → status ≢ 6
     → Mirrors before after status → CompletesMirror before after status
 completes_mirror before after status n3 n4 n6 (inl answers) = λ queries told short.

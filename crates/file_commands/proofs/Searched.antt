@@ -1,4 +1,4 @@
--- What the command does that searches the names of a golden copy.
+-- What the command that searches the names of a golden copy does.
 use Rattle.std.proofs.Common.{◌≡◌, ◌≢◌, ◌⊎◌, ◌<◌, ◌≤◌, ℕ, List, length, Option, Some, inl, inr, ap, subst, ◌∙◌, arith}
 use Rattle.lei_code.specs.Texts.{Text}
 use Rattle.register_words.specs.declared.sheets.Form.{Form}
@@ -44,9 +44,9 @@ search_status form before after status (inl reads) = copy_status form reads.copy
 search_status form before after status (inr leaves) =
     at_status status _ leaves.status_is (stop_statuses before.second after.second leaves.stop leaves.left)
 
--- ---- where nothing fails
+-- ---- if nothing fails
 
--- all of told queries were answered
+-- all of the told queries were answered
 answers_all : (form : Form) (queries copy : Text) (before after : Files) (status : ℕ) (read : CopyRead) → IsCopyRead copy Sheet.Lei form read
     → before.first ≡ Some queries → length queries < input_limit → status ≢ 3 → status ≢ 4 → status ≢ 6
     → AnswersFrom form (state_of read) (sides before.first before.written) (sides after.first after.written) status
@@ -57,7 +57,7 @@ answers_all form queries copy before after status read is told short n3 n4 n6 an
     answers.status_is answers.serves in
     record { ok = so.0; read = read; is = is; last = answers.last; answers = so.1 }
 
--- where nothing failed and memory wasn't wanted, a search over a copy that is told and short is completed
+-- if nothing failed and memory didn't run out, a search over a copy that is told and short is completed
 pub completes_search : (form : Form) (before after : Files) (status : ℕ) → status ≢ 3 → status ≢ 4 → status ≢ 6
     → Searches form before after status → CompletesSearch form before after status
 completes_search form before after status n3 n4 n6 (inl reads) = λ queries copy queries_told copy_told queries_short copy_short.

@@ -1,4 +1,4 @@
--- How commands end that serve an input.
+-- How commands that serve an input end.
 use Rattle.std.proofs.Common.{◌≡◌, ◌≢◌, ◌⊎◌, ◌<◌, ◌≤◌, ℕ, ℤ, List, length, Option, Some, inl, inr, refl, subst, ◌∙◌, arith}
 use Rattle.line_reading.specs.declared.framing.NoEnd.{NoEnd}
 use Rattle.request_loop.specs.Frames.{Rules}
@@ -25,7 +25,7 @@ at_status status other is (inl low) = inl (omega (arith, is, low))
 at_status status other is (inr (inl six)) = inr (inl (is ∙ six))
 at_status status other is (inr (inr eight)) = inr (inr (is ∙ eight))
 
--- ---- where nothing fails
+-- ---- if nothing fails
 
 -- all of a told input was answered
 pub served_to_end : {A W P : Type 0} (step : A → W → List ℤ → P → A → Type 0) (rules : Rules W P NoEnd)

@@ -6,7 +6,7 @@ use Rattle.file_commands.specs.declared.status.Stop.{Stop}
 use Rattle.file_commands.specs.declared.status.Stop.TheVariants as stop
 use Rattle.file_commands.specs.Status.{ended_as}
 
--- a read fault comes only where a read failed
+-- a read fault is reported only if a read failed
 pub only_read_fault : (ended : Ended NoEnd) (result : Result (Unit {0}) Stop) → result ≡ ended_as ended
     → IsErrOf result stop.ReadFault → ended ≡ Ended.ReadFault
 only_read_fault Ended.AtEnd result as_ended is = cc
@@ -16,7 +16,7 @@ only_read_fault Ended.WriteFault result as_ended is = cc
 only_read_fault Ended.InputLimit result as_ended is = cc
 only_read_fault Ended.NoMemory result as_ended is = cc
 
--- and a write fault only where a write did
+-- and a write fault only if a write failed
 pub only_write_fault : (ended : Ended NoEnd) (result : Result (Unit {0}) Stop) → result ≡ ended_as ended
     → IsErrOf result stop.WriteFault → ended ≡ Ended.WriteFault
 only_write_fault Ended.AtEnd result as_ended is = cc

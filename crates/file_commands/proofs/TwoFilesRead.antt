@@ -37,7 +37,7 @@ not_to_limit bytes told left is short long =
 
 -- ---- a file that isn't read to its end
 
--- what a file is left for is one of three
+-- the reason for leaving a file is one of three
 pub stops_at : (before after : Option (List ℕ)) (stop : Stop) → IsFileStop before after stop
     → (stop ≡ stops.ReadFault) ⊎ (stop ≡ stops.NoMemory) ⊎ ((stop ≡ stops.InputTooLong) × IsReadToLimit before after)
 stops_at before after stops.Refused is = absurd is
@@ -48,7 +48,7 @@ stops_at before after stops.NoMemory is = inr (inl refl)
 stops_at before after stops.StoreDamaged is = absurd is
 stops_at before after stops.InputTooLong is = inr (inr (refl, is))
 
--- the status is then one of three, and where it is the third, one of the files is too long
+-- the status is then one of three, and if it is the third, one of the files is too long
 left_status : (before after : Files) (stop : Stop) → AreLeft before after stop
     → (stop_status stop ≡ 3) ⊎ (stop_status stop ≡ 6)
     ⊎ ((stop_status stop ≡ 8) × (IsReadToLimit before.first after.first ⊎ IsReadToLimit before.second after.second))
@@ -81,12 +81,12 @@ second_left before after first stop rule whole is unwritten = inr (record {
   unwritten = unwritten;
 })
 
--- a stop that is handed on
+-- a stop that is passed on
 pub stopped_status : (result : Result (Unit {0}) Stop) (stop : Stop) → IsErrAnd result (λ e. e ≡ stop) → end_status result ≡ stop_status stop
 stopped_status (Ok done) stop is = absurd is
 stopped_status (Err e) stop is = ap stop_status is
 
--- ---- what comes of files
+-- ---- the outcome for files
 
 pub files_told : (before after : Files) (first second : List ℕ) (status : ℕ) (rule : Rule) → IsReadWhole before.first after.first first
     → IsReadWhole before.second after.second second → TellsOf rule first second before.written after.written status → DoesWithFiles rule before after status
@@ -127,7 +127,7 @@ files_status rule before after status (inr leaves) =
       | inr (inr eight) ↦ inr (inr (same ∙ eight.0))
     ]
 
--- where nothing failed and memory wasn't wanted, files that are told and short are answered
+-- if nothing failed and memory didn't run out, files that are told and short are answered
 pub completes_files : (rule : Rule) (before after : Files) (status : ℕ) → status ≢ 3 → status ≢ 4 → status ≢ 6
     → DoesWithFiles rule before after status → CompletesFiles rule before after status
 completes_files rule before after status n3 n4 n6 (inl answers) = λ first second first_told second_told first_short second_short.
@@ -155,7 +155,7 @@ completes_files rule before after status n3 n4 n6 (inr leaves) = λ first second
 pub rose_of : {D T : Type 0} (told : D → T) (faults : D → ℕ) (before after : D) → FailsLast told faults before after → Rose (faults before) (faults after)
 rose_of told faults before after fails = subst (λ n. Rose n (faults after)) fails.faultless fails.rose
 
--- where a read of one of two sources failed, the count of one of them rose
+-- if a read of one of two sources failed, the count of one of them rose
 pub one_rose : {S T : Type 0} (left : S → Option (List ℕ)) (faults : S → ℕ) (old new : S) (other_left : T → Option (List ℕ)) (other_faults : T → ℕ) (other_old other_new : T)
     → FailsOneOf left faults old new other_left other_faults other_old other_new → ¬ (Rose (faults old) (faults new)) → ¬ (Rose (other_faults other_old) (other_faults other_new)) → ⊥
 one_rose left faults old new other_left other_faults other_old other_new (inl fails) still other_still = still (rose_of left faults old new fails.0)

@@ -1,4 +1,4 @@
--- What the command writes that patches a golden copy. This project's profile.
+-- The output of the command that patches a golden copy. This project's profile.
 use Rattle.std.specs.Prelude.{◌≡◌, [], ◌∷◌, ◌++◌, codes, decimal, Result, Ok, Err}
 use Rattle.lei_code.specs.Texts.{Text}
 use Rattle.register_words.specs.declared.sheets.Form.{Form}
@@ -17,12 +17,12 @@ apply_refusal (faults.WrongBase publication from) =
 apply_refusal faults.OlderDelta = codes "refused OLDER_DELTA\n"
 apply_refusal faults.NoMemory = []
 
--- What comes of an answer to a copy and a delta: the new copy, or why there is none.
+-- The outcome of an answer to a copy and a delta: the new copy, or why there is none.
 abbrev pub outcome_of : Result Text ApplyFault → Outcome
 outcome_of (Ok copy) = Ok copy
 outcome_of (Err fault) = Err (apply_refusal fault)
 
--- What comes of a copy and a delta of this sheet and form.
+-- The outcome for a copy and a delta of this sheet and form.
 abbrev pub Patches : Sheet → Form → Rule
 Patches sheet form copy delta outcome =
     (answer : Result Text ApplyFault) × IsAnswer copy delta sheet form answer × (outcome ≡ outcome_of answer)

@@ -1,4 +1,4 @@
--- What the commands over a single text write: a line.
+-- The line that the commands over a single text write.
 use Rattle.std.specs.Prelude.{◌≡◌, ℕ, List, [], ◌∷◌, ◌++◌, ◌==◌, ◌⊎◌, length, codes, decimal, if◌then◌else◌, Option, None, Some, Result, MatchResult}
 use Rattle.lei_code.specs.Digits.{digits}
 use Rattle.lei_code.specs.Fault.{fault_of, character_fault}
@@ -7,23 +7,23 @@ use Rattle.lei_code.specs.declared.fault.LeiFault.{LeiFault}
 use Rattle.lei_code.specs.declared.fault.LeiFault.TheVariants.{Length, Character, CheckDigits}
 use Rattle.lei_outside.specs.Told.{Grows, WritesFront}
 
--- The words of a fault, with the position of a character that may not stand there, counted from 1.
+-- The words of a fault, with the position of a character that isn't allowed there, counted from 1.
 abbrev pub fault_words : LeiFault → Text
 fault_words Length = codes "LENGTH"
 fault_words (Character position) = codes "CHARACTER " ++ decimal position
 fault_words CheckDigits = codes "CHECK_DIGITS"
 
--- The line of a text, or of the fault that stands in its way.
+-- The line with a text, or with the fault if there is one.
 abbrev pub line_or : Text → Option LeiFault → Text
 line_or text None = text ++ 10 ∷ []
 line_or text (Some fault) = (codes "refused " ++ fault_words fault) ++ 10 ∷ []
 
--- Whether the text is an LEI, or why it is none.
+-- Whether the text is an LEI, or why it isn't.
 abbrev pub check_line : Text → Text
 check_line text = line_or (codes "valid") (fault_of text)
 
--- Why no check digits are made of a text: it hasn't 18 bytes, or some of them are no characters of an LEI, of which
--- the first is told.
+-- Why no check digits are computed for a text: it doesn't have 18 bytes, or some of them aren't allowed in an LEI, and
+-- the first of these is reported.
 abbrev pub digits_fault : Text → Option LeiFault
 digits_fault text = if length text == 18 then character_fault text else Some Length
 
@@ -31,13 +31,13 @@ digits_fault text = if length text == 18 then character_fault text else Some Len
 abbrev pub digits_line : Text → Text
 digits_line text = line_or (digits text) (digits_fault text)
 
--- The status where a line is written: 0, or 2 where it tells a fault.
+-- The status if a line is written: 0, or 2 if it reports a fault.
 abbrev pub told_status : Option LeiFault → ℕ
 told_status None = 0
 told_status (Some fault) = 2
 
--- How a command that writes this line ends, by its status: the line was written whole; a write failed, or memory was
--- wanted, and a front of the line was written and not all.
+-- How a command that writes this line ends, by its status. The whole line was written. Or a write failed, or memory ran
+-- out, and a front of the line was written but not all of it.
 abbrev pub TellsLine : Option LeiFault → Text → Option (List ℕ) → Option (List ℕ) → ℕ → Type 0
 TellsLine fault line before after status =
     ((status ≡ told_status fault) × Grows before after line)

@@ -4,7 +4,7 @@ use Rattle.lei_outside.specs.Told.{IsAtEnd, Loses}
 use Rattle.file_commands.specs.declared.status.Stop.{Stop}
 use Rattle.file_commands.specs.declared.status.Stop.TheVariants as stops
 
--- The reading of a file ends where 1,073,741,824 bytes were read (1 GiB).
+-- Reading a file ends at 1,073,741,824 bytes (1 GiB).
 abbrev pub file_limit : ℕ
 file_limit = 1_073_741_824
 
@@ -12,26 +12,26 @@ file_limit = 1_073_741_824
 abbrev pub input_limit : ℕ
 input_limit = 4_294_967_296
 
--- These bytes were read, and there the file ends. They are fewer than end a reading.
+-- These bytes were read, and the file ends after them. Their number is below the one at which reading ends.
 pub record IsReadWhole (before after : Option (List ℕ)) (bytes : List ℕ) : Type 0 where
   pub lost : Loses before after bytes
   pub ended : IsAtEnd after
   pub short : length bytes < file_limit
 
--- Fewer bytes were read than end a reading.
+-- The number of bytes read is below the one at which reading ends.
 pub record IsReadShort (before after : Option (List ℕ)) : Type 0 where
   pub bytes : List ℕ
   pub lost : Loses before after bytes
   pub short : length bytes < file_limit
 
--- As many bytes were read as end a reading.
+-- The number of bytes read is the one at which reading ends.
 pub record IsReadToLimit (before after : Option (List ℕ)) : Type 0 where
   pub bytes : List ℕ
   pub lost : Loses before after bytes
   pub long : length bytes ≡ file_limit
 
--- Why a file wasn't read to its end: a read failed, memory was wanted, or the file is too long, exactly where so many
--- bytes were read.
+-- Why a file wasn't read to its end: a read failed, memory ran out, or the file is too long. It is too long exactly if
+-- the number of bytes read is the one at which reading ends.
 abbrev pub IsFileStop : Option (List ℕ) → Option (List ℕ) → Stop → Type 0
 IsFileStop before after stops.Refused = ⊥
 IsFileStop before after stops.ReadFault = IsReadShort before after

@@ -1,4 +1,4 @@
--- What the command writes that reports on groups. This project's profile.
+-- The output of the command that reports on groups. This project's profile.
 use Rattle.std.specs.Prelude.{◌≡◌, ◌≢◌, ◌||◌, ℕ, Bool, true, false, List, [], ◌∷◌, ◌++◌, codes, decimal, is_some, if◌then◌else◌, Result, Ok, Err, map, ⊤}
 use Rattle.std.specs.Str.{bytes_eq}
 use Rattle.lei_code.specs.Texts.{Text}
@@ -16,7 +16,7 @@ use Rattle.file_commands.specs.declared.grouping.GroupRefusal.TheVariants as ref
 
 -- ---- two copies
 
--- A copy of `lei` and one of `rr`, with what stands in them.
+-- A copy of `lei` and one of `rr`, with their contents.
 pub record Copies (lei rr : Text) (form : Form) : Type 0 where
   pub lei_head : Head
   pub lei_wide : Bool
@@ -27,22 +27,22 @@ pub record Copies (lei rr : Text) (form : Form) : Type 0 where
   pub rr_rows : List SheetRow
   pub rr_is : IsCopy rr Sheet.Rr form rr_head rr_wide rr_rows
 
--- In JSON two copies are of one publication. In CSV no head is printed, so nothing is asked.
+-- In JSON two copies have to be from one publication. In CSV no head is printed, so nothing is required.
 abbrev pub GoTogether : Form → Head → Head → Type 0
 GoTogether Form.Csv lei rr = ⊤
 GoTogether Form.Json lei rr = lei.publication ≡ rr.publication
 
--- What a report takes from two copies.
+-- What a report uses from two copies.
 abbrev pub table_of : List SheetRow → List SheetRow → GroupTable
 table_of lei rr = record { names = map named lei; links = map link_of rr }
 
--- ---- on whom
+-- ---- the subject of a report
 
--- All starts are wanted, and not the group of one entity.
+-- The report is on all starts, and not on the group of one entity.
 abbrev pub is_all : Text → Bool
 is_all who = bytes_eq who (codes "ALL")
 
--- A report on this can be made: all are wanted, or the first copy has a row with this LEI.
+-- A report on this can be made: it is on all starts, or the first copy has a row with this LEI.
 abbrev pub is_known : GroupTable → Text → Bool
 is_known table who = is_all who || is_some (name_at table.names who)
 
@@ -50,11 +50,11 @@ is_known table who = is_all who || is_some (name_at table.names who)
 abbrev pub report_text : GroupTable → Text → Text
 report_text table who = if is_all who then disagreement_report table else group_report table who
 
--- ---- what is to be answered
+-- ---- the required answer
 
--- What is to be answered of two files, in this order: that the first is no copy of `lei`, that the second is no copy of
--- `rr`, that they are of two publications, that the first has no row of the entity, or the report. Want of memory is
--- never to be answered.
+-- The required answer for two files, in this order: that the first isn't a copy of `lei`, that the second isn't a copy
+-- of `rr`, that they are from two publications, that the first has no row for the entity, or the report. Lack of memory
+-- is never a required answer.
 abbrev pub IsReport : Text → Form → Text → Text → Result Text GroupRefusal → Type 0
 IsReport who form lei rr (Ok text) =
     (copies : Copies lei rr form) × GoTogether form copies.lei_head copies.rr_head
@@ -70,7 +70,7 @@ IsReport who form lei rr (Err refusals.LeiUnknown) =
     × (is_known (table_of copies.lei_rows copies.rr_rows) who ≡ false)
 IsReport who form lei rr (Err refusals.NoMemory) = ⊥
 
--- What is to be answered if this is taken from two copies that go together, unless memory was wanting.
+-- The required answer if this is taken from two copies that go together, unless memory ran out.
 abbrev pub IsReportOf : GroupTable → Text → Result Text GroupRefusal → Type 0
 IsReportOf table who (Ok text) = (is_known table who ≡ true) × (text ≡ report_text table who)
 IsReportOf table who (Err refusals.LeiCopyNotRead) = ⊥
@@ -79,7 +79,7 @@ IsReportOf table who (Err (refusals.OtherPublication p q)) = ⊥
 IsReportOf table who (Err refusals.LeiUnknown) = is_known table who ≡ false
 IsReportOf table who (Err refusals.NoMemory) = ⊤
 
--- This holds, unless memory was wanting.
+-- This holds, unless memory ran out.
 abbrev pub UnlessNoMemory : Result Text GroupRefusal → Type 0 → Type 0
 UnlessNoMemory (Ok text) P = P
 UnlessNoMemory (Err refusals.LeiCopyNotRead) P = P
@@ -97,12 +97,12 @@ group_refusal (refusals.OtherPublication p q) =
 group_refusal refusals.LeiUnknown = codes "refused LEI_UNKNOWN\n"
 group_refusal refusals.NoMemory = []
 
--- What comes of an answer: the report, or why there is none.
+-- The outcome of an answer: the report, or why there is none.
 abbrev pub outcome_of : Result Text GroupRefusal → Outcome
 outcome_of (Ok text) = Ok text
 outcome_of (Err refusal) = Err (group_refusal refusal)
 
--- What comes of two copies of this form, in a report on this.
+-- The outcome for two copies of this form, in a report on this subject.
 abbrev pub Reports : Text → Form → Rule
 Reports who form lei rr outcome =
     (answer : Result Text GroupRefusal) × IsReport who form lei rr answer × (outcome ≡ outcome_of answer)

@@ -1,4 +1,4 @@
--- What the command does that keeps a mirror of the three tables. This project's profile.
+-- What the command that keeps a mirror of the three tables does. This project's profile.
 use Rattle.std.specs.Prelude.{◌≡◌, ◌<◌, ◌≤◌, ◌⊎◌, ℕ, ℤ, List, length, Some}
 use Rattle.copy_forms.specs.Trails.{IsSound, Trail}
 use Rattle.lei_mirror.specs.Mirrors.{MirrorState, empty_mirror}
@@ -13,21 +13,21 @@ use Rattle.file_commands.specs.Files.{input_limit}
 use Rattle.file_commands.specs.Sides.{LacksMemory, Sides}
 use Rattle.file_commands.specs.Status.{end_status, ended_as}
 
--- Queries were answered from the empty mirror on, by steps of this kind.
+-- Queries were answered starting from the empty mirror, by steps of this kind.
 abbrev pub ServesMirror : (MirrorState → MirrorAsked → List ℤ → QueryReply → MirrorState → Type 0) → Sides → Sides
     → MirrorState → Ended NoEnd → Type 0
 ServesMirror step before after last ended =
     Serves step mirror_rules input_limit (mirror_progress empty_mirror before.written) before.left
     (mirror_progress last after.written) after.left ended
 
--- If all packets of the bytes that were taken are of the trail, each file that was shown is the copy of the publication
--- that was shown then.
+-- If all packets in the bytes that were taken belong to the trail, each file that was shown is the copy of the
+-- publication that was shown at that time.
 abbrev pub ShowsTrail : Trail → Sides → Sides → MirrorState → Ended NoEnd → List ℕ → Type 0
 ShowsTrail trail before after last ended bytes =
     ArePacketsOfTrail trail bytes → ServesMirror (TrailStep trail) before after last ended
 
--- Queries were answered from the empty mirror on, and how that ended says the status. What is shown of a trail holds of
--- each sound one of at most 1,000,000 publications.
+-- Queries were answered starting from the empty mirror, and how that ended gives the status. What is shown of a trail
+-- holds for each sound trail of at most 1,000,000 publications.
 pub record AnswersMirror (before after : Sides) (status : ℕ) : Type 0 where
   pub last : MirrorState
   pub ended : Ended NoEnd
@@ -36,11 +36,11 @@ pub record AnswersMirror (before after : Sides) (status : ℕ) : Type 0 where
   pub follows : (trail : Trail) → IsSound trail → length trail ≤ 1_000_000
       → ShowsTrail trail before after last ended serves.bytes
 
--- What the command does, by its status: queries were answered; or memory was wanted before the first.
+-- What the command does, by its status: queries were answered; or memory ran out before the first query.
 abbrev pub Mirrors : Sides → Sides → ℕ → Type 0
 Mirrors before after status = AnswersMirror before after status ⊎ LacksMemory before after status
 
--- ---- where nothing fails
+-- ---- if nothing fails
 
 -- All queries were answered, with status 0.
 pub record AnswersAllOfMirror (queries : List ℕ) (before after : Sides) (status : ℕ) : Type 0 where

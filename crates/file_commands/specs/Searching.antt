@@ -1,4 +1,4 @@
--- What the command does that searches the names of a golden copy. This project's profile.
+-- What the command that searches the names of a golden copy does. This project's profile.
 use Rattle.std.specs.Prelude.{◌≡◌, ◌<◌, ◌⊎◌, ℕ, List, length, codes, Some, Err}
 use Rattle.lei_code.specs.Texts.{Text}
 use Rattle.lei_outside.specs.Told.{Grows}
@@ -20,19 +20,19 @@ use Rattle.file_commands.specs.declared.status.Stop.{Stop}
 
 -- The first input has the queries, and the second file is the copy.
 
--- The line that says that the file is no copy.
+-- The line that says that the file isn't a copy.
 abbrev pub copy_refusal : Text
 copy_refusal = codes "refused COPY_NOT_READ\n"
 
 -- ---- by the bytes of the copy
 
--- The bytes are no copy: that is written, and no query is read.
+-- The bytes aren't a copy: that is written, and no query is read.
 pub record RefusesCopy (form : Form) (copy : Text) (before after : Sides) (status : ℕ) : Type 0 where
   pub none : IsNoCopy copy Sheet.Lei form
   pub unread : after.left ≡ before.left
   pub tells : TellsOutcome (Err copy_refusal) before.written after.written status
 
--- Queries were answered from this state on, and how that ended says the status.
+-- Queries were answered starting from this state, and how that ended gives the status.
 pub record AnswersFrom (form : Form) (first : SearchState) (before after : Sides) (status : ℕ) : Type 0 where
   pub last : SearchState
   pub ended : Ended NoEnd
@@ -40,7 +40,7 @@ pub record AnswersFrom (form : Form) (first : SearchState) (before after : Sides
   pub serves : Serves (SearchStep form) search_rules input_limit (search_progress first before.written) before.left
       (search_progress last after.written) after.left ended
 
--- The bytes are a copy, and queries were answered from it on.
+-- The bytes are a copy, and queries were answered starting from it.
 abbrev pub AnswersQueries : Form → Text → Sides → Sides → ℕ → Type 0
 AnswersQueries form copy before after status =
     (read : CopyRead) × IsCopyRead copy Sheet.Lei form read × AnswersFrom form (state_of read) before after status
@@ -71,7 +71,7 @@ pub record ReadsCopy (form : Form) (before after : Files) (status : ℕ) : Type 
 abbrev pub Searches : Form → Files → Files → ℕ → Type 0
 Searches form before after status = ReadsCopy form before after status ⊎ LeavesCopy before after status
 
--- ---- where nothing fails
+-- ---- if nothing fails
 
 -- The file is a copy, and all queries were answered, with status 0.
 pub record AnswersAllQueries (form : Form) (queries copy : Text) (before after : Files) (status : ℕ) : Type 0 where
@@ -82,8 +82,8 @@ pub record AnswersAllQueries (form : Form) (queries copy : Text) (before after :
   pub answers : AnswersToEnd (SearchStep form) search_rules (search_progress (state_of read) before.written) queries
       (search_progress last after.written)
 
--- Of queries and a copy that are told and short enough, the file is refused if it is no copy, with status 2, or else all
--- queries are answered.
+-- If queries and a copy are told and short enough, the file is refused with status 2 if it isn't a copy, and otherwise
+-- all queries are answered.
 abbrev pub CompletesSearch : Form → Files → Files → ℕ → Type 0
 CompletesSearch form before after status =
     (queries copy : List ℕ) → before.first ≡ Some queries → before.second ≡ Some copy

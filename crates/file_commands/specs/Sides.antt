@@ -1,7 +1,7 @@
 -- An input of queries, and the output of their replies.
 use Rattle.std.specs.Prelude.{◌≡◌, ℕ, List, Option}
 
--- What the queries have left and what the output has taken, at one time.
+-- The queries that are left and the output so far, at one time.
 pub record Sides : Type 0 where
   pub left : Option (List ℕ)
   pub written : Option (List ℕ)
@@ -10,7 +10,7 @@ pub record Sides : Type 0 where
 abbrev pub sides : Option (List ℕ) → Option (List ℕ) → Sides
 sides left written = record { left = left; written = written }
 
--- Memory was wanted before the first query: nothing is written, and no query is read.
+-- Memory ran out before the first query: nothing is written, and no query is read.
 pub record LacksMemory (before after : Sides) (status : ℕ) : Type 0 where
   pub is : status ≡ 6
   pub unread : after.left ≡ before.left

@@ -10,7 +10,7 @@ use Rattle.line_reading.specs.declared.framing.NoEnd.{NoEnd}
 use Rattle.file_commands.specs.declared.status.Stop.{Stop}
 use Rattle.file_commands.specs.declared.status.Stop.TheVariants as stop
 
--- The status of a command that is stopped so.
+-- The status of a command that stops for this reason.
 abbrev pub stop_status : Stop → ℕ
 stop_status stop.Refused = exit_number ExitStatus.Refused
 stop_status stop.ReadFault = exit_number ExitStatus.ReadFault
@@ -20,17 +20,17 @@ stop_status stop.NoMemory = exit_number ExitStatus.NoMemory
 stop_status stop.StoreDamaged = exit_number ExitStatus.StoreDamaged
 stop_status stop.InputTooLong = exit_number ExitStatus.InputTooLong
 
--- What a fault of the output stops a command as.
+-- The reason for which a fault of the output stops a command.
 abbrev pub stop_of : SinkFault → Stop
 stop_of Failed = stop.WriteFault
 stop_of NoMemory = stop.NoMemory
 
--- The status of a command, which is 0 where nothing stopped it.
+-- The status of a command, which is 0 if nothing stopped it.
 abbrev pub end_status : Result (Unit {0}) Stop → ℕ
 end_status (Ok done) = exit_number ExitStatus.Ok
 end_status (Err stopped) = stop_status stopped
 
--- What a command is stopped as, by how serving its lines ended.
+-- Why a command stops, by how serving its lines ended.
 abbrev pub ended_as : Ended NoEnd → Result (Unit {0}) Stop
 ended_as Ended.AtEnd = Ok (tt {0})
 ended_as (Ended.By end) = elim end [ ]

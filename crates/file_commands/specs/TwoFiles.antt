@@ -1,4 +1,4 @@
--- What a command does that reads two files to their ends, and writes what comes of them. This project's profile.
+-- What a command does that reads two files to their ends and writes the result. This project's profile.
 use Rattle.std.specs.Prelude.{◌≡◌, ◌<◌, ◌⊎◌, ℕ, List, length, Option, Some, Result, Ok, Err}
 use Rattle.lei_code.specs.Texts.{Text}
 use Rattle.lei_outside.specs.Faults.{FailsLast}
@@ -9,11 +9,11 @@ use Rattle.file_commands.specs.declared.status.Stop.{Stop}
 
 -- ---- what is written
 
--- What comes of two files: a text, or the line that says why there is none.
+-- The outcome for two files: a text, or the line that says why there is none.
 abbrev pub Outcome : Type 0
 Outcome = Result Text Text
 
--- The bytes that are written of it.
+-- The bytes that are written for it.
 abbrev pub outcome_text : Outcome → Text
 outcome_text (Ok text) = text
 outcome_text (Err line) = line
@@ -23,18 +23,18 @@ abbrev pub outcome_status : Outcome → ℕ
 outcome_status (Ok text) = 0
 outcome_status (Err line) = 2
 
--- An outcome was written whole; or a write failed, or memory was wanted, and a front of it was written and not all.
+-- The whole outcome was written; or a write failed, or memory ran out, and a front of it was written but not all.
 abbrev pub TellsOutcome : Outcome → Option (List ℕ) → Option (List ℕ) → ℕ → Type 0
 TellsOutcome outcome before after status =
     ((status ≡ outcome_status outcome) × Grows before after (outcome_text outcome))
     ⊎ ((status ≡ 4) × WritesFront before after (outcome_text outcome))
     ⊎ ((status ≡ 6) × WritesFront before after (outcome_text outcome))
 
--- What comes of the bytes of two files, by a rule.
+-- The outcome for the bytes of two files, by a rule.
 abbrev pub Rule : Type 1
 Rule = Text → Text → Outcome → Type 0
 
--- What comes of two files was written; or nothing was, since memory was wanted for it.
+-- The outcome for two files was written; or nothing was written, since memory for it ran out.
 abbrev pub TellsOf : Rule → Text → Text → Option (List ℕ) → Option (List ℕ) → ℕ → Type 0
 TellsOf rule first second before after status =
     ((outcome : Outcome) × rule first second outcome × TellsOutcome outcome before after status)
@@ -42,7 +42,7 @@ TellsOf rule first second before after status =
 
 -- ---- what is read
 
--- What the two files have left and what the output has taken, at one time.
+-- What is left of the two files and the output so far, at one time.
 pub record Files : Type 0 where
   pub first : Option (List ℕ)
   pub second : Option (List ℕ)
@@ -59,7 +59,7 @@ AreLeft before after stop =
     ⊎ ((first : List ℕ) × IsReadWhole before.first after.first first
     × IsFileStop before.second after.second stop)
 
--- A read of one of two sources failed, and nothing was read behind it; no read of the other one failed.
+-- A read of one of two sources failed, and nothing was read after it; no read of the other one failed.
 abbrev pub FailsOneOf : {S T : Type 0} → (S → Option (List ℕ)) → (S → ℕ) → S → S → (T → Option (List ℕ))
     → (T → ℕ) → T → T → Type 0
 FailsOneOf left faults old new other_left other_faults other_old other_new =
@@ -68,7 +68,7 @@ FailsOneOf left faults old new other_left other_faults other_old other_new =
 
 -- ---- how the command ends
 
--- Both files were read to their ends, and what comes of them was written.
+-- Both files were read to their ends, and the outcome was written.
 pub record AnswersFiles (rule : Rule) (before after : Files) (status : ℕ) : Type 0 where
   pub first : List ℕ
   pub second : List ℕ
@@ -87,7 +87,7 @@ pub record LeavesFiles (before after : Files) (status : ℕ) : Type 0 where
 abbrev pub DoesWithFiles : Rule → Files → Files → ℕ → Type 0
 DoesWithFiles rule before after status = AnswersFiles rule before after status ⊎ LeavesFiles before after status
 
--- Files that are told and short enough are read and answered, and what comes of them is written, with status 0 or 2.
+-- Files that are told and short enough are read and answered, and the outcome is written, with status 0 or 2.
 abbrev pub CompletesFiles : Rule → Files → Files → ℕ → Type 0
 CompletesFiles rule before after status =
     (first second : List ℕ) → before.first ≡ Some first → before.second ≡ Some second

@@ -39,7 +39,7 @@ pub fn apply<S: Source, T: Source, W: Sink>(
     tell(alloc, sheet, form, &copy, &delta, out)
 }
 
-// Writes what comes of a copy and a delta.
+// Writes the result for a copy and a delta.
 fn tell<W: Sink>(
     alloc: Global,
     sheet: Sheet,

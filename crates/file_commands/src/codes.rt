@@ -13,7 +13,7 @@ use crate::writing::write_pieces;
 use lei_code::{Lei, LeiFault, check_digits};
 use lei_outside::{Sink, SinkFault};
 
-/// Writes whether the text is an LEI, or why it is none.
+/// Writes whether the text is an LEI, or why it isn't.
 pub fn check<W: Sink>(text: &str, out: &mut W) -> Result<(), Stop>
     ensures tells { TellsLine (fault_of text.now) (check_line text.now)
         (W.written out.old) (W.written out.new) (end_status result) }

@@ -10,10 +10,10 @@ use lei_outside::{Bytes, Failed, NoMemory, Source, SureSource};
 use line_reading::BLOCK;
 use std::alloc::Global;
 
-/// The bytes of a file at which its reading ends. This project's profile.
+/// Reading a file ends at this number of bytes. This project's profile.
 pub const MAX_FILE: usize = 1_073_741_824;
 
-/// A file without bytes, for a command that reads no second one.
+/// A file without bytes, for a command that reads no second file.
 pub fn no_file(alloc: Global) -> SureSource
     ensures { result.left ≡ [] }
 {

@@ -21,20 +21,20 @@ use std::alloc::Global;
 /// Why no report is made.
 #[derive(Clone, Copy)]
 pub enum GroupRefusal {
-    /// The first file is no golden copy of `lei` in this form.
+    /// The first file isn't a golden copy of `lei` in this form.
     LeiCopyNotRead,
-    /// The second file is no golden copy of `rr` in this form.
+    /// The second file isn't a golden copy of `rr` in this form.
     RrCopyNotRead,
-    /// In JSON: the numbers of the publications of the two, which differ.
+    /// In JSON: the numbers of the two publications, which differ.
     OtherPublication(u32, u32),
-    /// The first copy has no row of the entity.
+    /// The first copy has no row for the entity.
     LeiUnknown,
     /// Memory ran out.
     NoMemory,
 }
 
-/// Reads a copy of `lei` and one of `rr` to their ends, and writes the report on the group of an entity, or with `ALL`
-/// in place of its LEI on all starts of relationships; or why there is none.
+/// Reads a copy of `lei` and one of `rr` to their ends, and writes the report on the group of an entity, or why there
+/// is none. With `ALL` instead of an LEI, the report is on all starts of relationships.
 pub fn group<S: Source, T: Source, W: Sink>(
     alloc: Global,
     who: &str,
@@ -59,7 +59,7 @@ pub fn group<S: Source, T: Source, W: Sink>(
     tell(alloc, who, form, &lei, &rr, out)
 }
 
-// Writes what comes of a copy of `lei` and one of `rr`.
+// Writes the result for a copy of `lei` and one of `rr`.
 fn tell<W: Sink>(
     alloc: Global,
     who: &str,
@@ -81,7 +81,7 @@ fn tell<W: Sink>(
     }
 }
 
-// The report by a copy of `lei` and one of `rr`, or why there is none.
+// The report from a copy of `lei` and one of `rr`, or why there is none.
 fn report(
     alloc: Global,
     who: &str,
@@ -108,7 +108,7 @@ fn report(
     }
 }
 
-// The report by groups that are known.
+// The report from groups that are known.
 fn report_by(groups: &Groups, who: &str) -> Result<Bytes, GroupRefusal>
     ensures { IsReportOf groups.now who.now result }
 {

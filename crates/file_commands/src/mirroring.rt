@@ -36,7 +36,7 @@ pub fn mirror<R, S: Source, W: Sink>(
     answer_mirror(rt, &mut server, &mut framing, &mut wire)
 }
 
-// Answers the queries of a wire by an empty mirror, by a framing that has read nothing.
+// Answers the queries of a wire from an empty mirror, with a framing that has read nothing.
 fn answer_mirror<R, S: Source, W: Sink>(
     rt: &R,
     server: &mut MirrorServer,

@@ -23,11 +23,11 @@ use std::marker::Brand;
 use std::sync::ledger::{Blank, Ledger};
 use worker_pool::Steps;
 
-/// The bytes of an input of lines at which a run ends. This project's profile.
+/// A run over lines ends at this number of input bytes. This project's profile.
 pub const MAX_INPUT: usize = 4_294_967_296;
 
-/// Reads a copy of `lei` to its end, and then answers the queries of the input over it; or writes that the file is no
-/// copy.
+/// Reads a copy of `lei` to its end, and then answers the queries of the input over it. If the file isn't a copy, it
+/// writes that instead.
 pub fn search<R, S: Source, T: Source, W: Sink>(
     rt: &R,
     alloc: Global,
@@ -52,7 +52,7 @@ pub fn search<R, S: Source, T: Source, W: Sink>(
     search_in::<Brand, R, S, W>(rt, alloc, form, copy, &mut wire, Blank::new(1))
 }
 
-// Answers the queries of a wire over the copy of `lei` that these bytes are; or writes that they are none. The names
+// Answers the queries of a wire over the copy of `lei` in these bytes, or writes that they aren't a copy. The names
 // that are folded are counted in a ledger that nobody reads.
 fn search_in<L: Ledger, R, S: Source, W: Sink>(
     rt: &R,
@@ -91,7 +91,7 @@ fn search_in<L: Ledger, R, S: Source, W: Sink>(
     answer_queries(rt, &mut searcher, &mut framing, wire)
 }
 
-// Writes that a file is no copy.
+// Writes that a file isn't a copy.
 fn refuse_copy<S: Source, W: Sink>(wire: &mut Duplex<'_, S, W>) -> Result<(), Stop>
     ensures tells { TellsOutcome (Err copy_refusal) (W.written wire.old.out.now) (W.written wire.new.out.now)
         (end_status result) }
@@ -109,7 +109,7 @@ fn refuse_copy<S: Source, W: Sink>(wire: &mut Duplex<'_, S, W>) -> Result<(), St
     Err(Stop::Refused)
 }
 
-// Answers the queries of a wire, by a framing that has read nothing.
+// Answers the queries of a wire, with a framing that has read nothing.
 fn answer_queries<R, L: Ledger, S: Source, W: Sink>(
     rt: &R,
     searcher: &mut Searcher<L>,

@@ -7,7 +7,7 @@ use line_reading::NoEnd;
 use register_words::ExitStatus;
 use request_loop::Ended;
 
-/// Why a command ends with another status than `ExitStatus::Ok`.
+/// Why a command ends with a status other than `ExitStatus::Ok`.
 pub enum Stop {
     Refused,
     ReadFault,
@@ -67,7 +67,7 @@ impl From<NoMemory> for Stop {
     }
 }
 
-/// What a command is stopped as, by how serving its lines ended.
+/// Why a command stops, by how serving its lines ended.
 pub fn ended_as(ended: Ended<NoEnd>) -> Result<(), Stop>
     ensures { result ≡ ended_as ended }
 {
@@ -81,7 +81,7 @@ pub fn ended_as(ended: Ended<NoEnd>) -> Result<(), Stop>
     }
 }
 
-/// The word of a status, as it is told to a person.
+/// The word of a status, for a person.
 pub fn status_text(status: u8) -> &'static str
     ensures { result.now ≡ status_text status }
 {

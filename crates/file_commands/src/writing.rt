@@ -18,7 +18,7 @@ pub fn tell_text<W: Sink>(text: &[u8], out: &mut W) -> Result<(), Stop>
     Ok(write_all(out, text)?)
 }
 
-/// Writes a line that ends in two numbers, of which this is the front.
+/// Writes a line that starts with this front and ends in two numbers.
 pub fn write_numbers<W: Sink>(
     front: &[u8],
     first: u32,
@@ -36,7 +36,7 @@ pub fn write_numbers<W: Sink>(
     write_pieces(out, &[front, first, b" ", second, b"\n"])
 }
 
-/// Writes pieces of a text, one after the other.
+/// Writes pieces of a text, one after another.
 pub fn write_pieces<W: Sink>(out: &mut W, pieces: &[&[u8]]) -> Result<(), SinkFault>
     ensures written { IsSent (W.written out.old) (W.written out.new)
         (flat_map (λ piece. piece.now) pieces.now) result }

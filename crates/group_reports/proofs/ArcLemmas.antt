@@ -1,4 +1,4 @@
--- Arcs and the links that they stand for.
+-- Arcs and the links that they represent.
 use Rattle.std.specs.Prelude.{◌≡◌, ℕ, zero, suc, ◌+◌, ◌<◌, ◌≤◌, Bool, true, false, cond, ◌==◌, ◌&&◌, ◌||◌, List, [], ◌∷◌, ◌++◌, Option, None, Some, drop, find, flat_map, get_or, length, map, option_map, take}
 use Rattle.std.specs.List.{All}
 use Rattle.std.specs.Str.{bytes_eq}
@@ -54,7 +54,7 @@ starts_known (link ∷ links) lei is =
         or_right (bytes_eq lei link.start) (bytes_eq lei link.end || has (flat_map ends_of links) lei)
         (or_right (bytes_eq lei link.end) (has (flat_map ends_of links) lei) (rest later))
 
--- the end of a link that is found is an LEI of the links, and so is its start
+-- the end of a link that is found is one of the links' LEIs, and so is its start
 pub ends_known : (test : LinkKind → Bool) (links : List Link) (lei next : Lei) → end_of test links lei ≡ Some next
     → (has (flat_map ends_of links) lei ≡ true) × (has (flat_map ends_of links) next ≡ true)
 ends_known test [] lei next e = absurd cc
@@ -101,7 +101,7 @@ row_end rows leis i row within here are =
     ∙ (ap (λ l. has (flat_map ends_of (map link_of rows)) l.end) (sym (row_at rows i row within here))
     ∙ end_among (map link_of rows) i (link_of row) (subst (λ n. i < n) (sym (length-map rows link_of)) within)))
 
--- one more row was made an arc
+-- one more row was made into an arc
 pub links_push : (leis : List Lei) (rows : List SheetRow) (i : ℕ) (row : SheetRow) (made after : List Arc) (arc : Arc) → i < length rows
     → row ≡ get_or rows i row → map (link_at leis) made ≡ map link_of (take i rows) → after ≡ made ++ arc ∷ [] → link_at leis arc ≡ link_of row
     → map (link_at leis) after ≡ map link_of (take (i + 1) rows)
@@ -112,7 +112,7 @@ links_push leis rows i row made after arc within here so_far is one =
     ∙ (ap (λ x. map link_of (take i rows) ++ x ∷ []) (one ∙ ap link_of here)
     ∙ (sym (map-append link_of (take i rows) (get_or rows i row ∷ [])) ∙ ap (map link_of) (sym (take_more rows i row within))))))
 
--- of an LEI that is in no link none is found
+-- for an LEI that is in no link none is found
 pub none_known : (test : LinkKind → Bool) (links : List Link) (lei : Lei) → has (leis_of links) lei ≡ false → end_of test links lei ≡ None
 none_known test links lei unknown = by (end_of test links lei) refl
   where

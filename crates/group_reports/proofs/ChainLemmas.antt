@@ -29,7 +29,7 @@ is-this root o e = ap (is_this root) e ∙ own_lei root
 pub starts-has : (links : List Link) (lei : Lei) → has (starts links) lei ≡ has (map (λ link. link.start) links) lei
 starts-has links lei = in_order-has (map (λ link. link.start) links) lei
 
--- who has a direct parent is a start
+-- an entity with a direct parent is a start
 pub direct-start : (links : List Link) (lei next : Lei) → direct links lei ≡ Some next → has (map (λ link. link.start) links) lei ≡ true
 direct-start [] lei next e = absurd cc
 direct-start (link ∷ links) lei next e = by (λ is. direct-start links lei next is) (is_direct link.kind && bytes_eq lei link.start) refl e
@@ -70,7 +70,7 @@ module _ (links : List Link) where
       by None is e = absurd cc
       by (Some next) is e = record { next = next; step = is; rest = e }
 
-  -- so many entities of a walk, from its first on
+  -- this many entities of a walk, starting with the first
   abbrev path : ℕ → Lei → List Lei
   path zero lei = []
   path (suc k) lei = lei ∷ path k (lei_or lei (direct links lei))
@@ -122,7 +122,7 @@ module _ (links : List Link) where
         by : OnPath k y → has (map (λ link. link.start) links) y ≡ true
         by on = from_first on.left on.some on.leads
 
-    -- the walk leads to the root with so many steps, and with no fewer
+    -- the walk leads to the root in this many steps, and not in fewer
     pub record IsLeast (lei : Lei) (k : ℕ) : Type 0 where
       pub leads : up links lei k ≡ Some root
       pub first : (j : ℕ) → j < k → up links lei j ≡ Some root → ⊥
@@ -153,7 +153,7 @@ module _ (links : List Link) where
             let few : on.left ≤ k = on.few in
             absurd (least.first on.left (omega (arith, few)) on.leads)
 
-    -- so a walk with no fewer steps has no more of them than there are links
+    -- so a walk that needs this many steps has at most as many as there are links
     pub least-few : (k : ℕ) (lei : Lei) → IsLeast lei k → k ≤ length links
     least-few k lei least =
         subst (λ n. n ≤ length links) (path-length k lei)

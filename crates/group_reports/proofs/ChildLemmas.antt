@@ -1,4 +1,4 @@
--- Children of places, one after the other.
+-- Children of places, one after another.
 use Rattle.std.specs.Prelude.{◌≡◌, ℕ, zero, suc, ◌+◌, ◌-◌, ◌<◌, ◌≤◌, Bool, true, false, not, cond, ◌==◌, ◌&&◌, ◌||◌, List, ◌∷◌, Option, None, Some, find, length}
 use Rattle.std.specs.BTreeSet.{insert_key}
 use Rattle.std.specs.List.{range_with_len}
@@ -53,7 +53,7 @@ module _ (parents : List (Option ℕ)) where
 
   -- ---- the index of children
 
-  -- the children from a place on are linked
+  -- the children at a place and after it are linked
   pub record LinkedFrom (child : ℕ) (firsts nexts : List (Option ℕ)) : Type 0 where
     pub first_count : length firsts ≡ length parents
     pub next_count : length nexts ≡ length parents
@@ -151,7 +151,7 @@ module _ (parents : List (Option ℕ)) where
     abbrev pub is_wanted : ℕ → Bool
     is_wanted place = not (place == root) && is_child parents parent place
 
-    -- with the children from a place on these are all
+    -- together with the children at a place and after it these are all
     pub record AddsFrom (left : Option ℕ) (before now : List ℕ) : Type 0 where
       pub from : ℕ
       pub left_is : left ≡ child_from parents parent from
@@ -287,7 +287,7 @@ no_more_so : (a b : Bool) → b ≡ false → (a || b) ≡ a
 no_more_so true b none = refl
 no_more_so false b none = none
 
--- a place was put, since it isn't the root
+-- a place was added, since it isn't the root
 pub has_put : (place root : ℕ) (before after : List ℕ) → after ≡ insert_key nat_cmp before place → (place == root) ≡ false
     → (other : ℕ) → has_place after other ≡ (has_place before other || (other == place && not (place == root)))
 has_put place root before after is isnt other =

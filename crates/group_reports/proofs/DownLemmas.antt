@@ -27,7 +27,7 @@ unmapped f [] none = refl
 unmapped f (x ∷ xs) none = absurd (let long : suc (length (map f xs)) ≡ 0 = ap length none in omega (arith, long))
 
 module _ (links : List Link) (root : Lei) where
-  -- the members down to a level were made, the level is known, and with those below it they are all
+  -- the members down to a level were made, the level is known, and together with those below it they are all
   pub record Down (made : List Member) (test : Lei → Bool) (steps : ℕ) : Type 0 where
     pub all :
         made ++ map (member_of links root) (flat_map (members_at links root) (range_with_len (steps + 1) (length links - steps)))

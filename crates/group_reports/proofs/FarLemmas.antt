@@ -53,7 +53,7 @@ module _ (parents : List (Option ℕ)) where
     each = λ place inside. each place inside ∙ ap (end_by parents place) (leads.leads.each place inside);
   }
 
--- ---- the same of LEIs
+-- ---- the same for LEIs
 
 module _ (links : List Link) (leis : List Lei) (parents : List (Option ℕ)) (finds : Finds leis parents (direct links)) where
   stay_within : (place : ℕ) → place < length leis → stay parents place < length leis

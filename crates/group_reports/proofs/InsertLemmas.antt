@@ -1,4 +1,4 @@
--- Which keys a set has after one more was put.
+-- Which keys a set has after one more was added.
 use Rattle.std.specs.Prelude.{◌≡◌, Bool, true, false, ◌||◌, List, [], ◌∷◌}
 use Rattle.std.specs.BTreeSet.{insert_key}
 use Rattle.std.specs.declared.cmp.Ordering.{Ordering}

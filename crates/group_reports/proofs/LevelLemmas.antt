@@ -106,7 +106,7 @@ module _ (links : List Link) (root : Lei) where
           least.first j (omega (arith, before))
           (sym (ap (option_and_then (λ x. up links x j)) step) ∙ (sym (up-first links lei j) ∙ e))
 
-  -- whose direct parent is at one depth is at the next
+  -- an entity whose direct parent is at one depth is at the next
   next-member : (d : ℕ) (test : Lei → Bool) → ((lei : Lei) → test lei ≡ has (level_at d) lei) → (lei : Lei)
       → is_next links root test lei ≡ is_member_at links root (suc d) lei
   next-member d test is_level lei = both_ways (is_next links root test lei) (is_member_at links root (suc d) lei) there back
@@ -150,7 +150,7 @@ module _ (links : List Link) (root : Lei) where
           (sym (depth-is links root (depth links root lei) d parts.1))
       by others false is = others
 
-  -- a depth without members has none after it
+  -- a depth without members is followed by none
   none_next : (d : ℕ) → members_at links root (suc d) ≡ [] → members_at links root (suc (suc d)) ≡ []
   none_next d none =
       sym (next_members (suc d) (has (level_at (suc d))) (λ lei. refl))

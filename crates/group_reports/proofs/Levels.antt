@@ -4,7 +4,7 @@ use Rattle.std.specs.Str.{bytes_eq}
 use Rattle.lei_code.specs.Texts.{Lei}
 use Rattle.group_reports.specs.Links.{Link, direct}
 
--- An LEI is there, and it passes a test.
+-- There is an LEI, and it passes a test.
 abbrev pub is_in : (Lei → Bool) → Option Lei → Bool
 is_in test None = false
 is_in test (Some lei) = test lei

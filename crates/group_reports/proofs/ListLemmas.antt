@@ -1,4 +1,4 @@
--- Lists of LEIs: which are among them, and that none is twice.
+-- Lists of LEIs: which are among them, and that none is there twice.
 use Rattle.std.specs.Prelude.{◌≡◌, ℕ, zero, suc, ◌+◌, ◌<◌, ◌≤◌, Bool, true, false, cond, ◌||◌, List, [], ◌∷◌, ◌++◌, Option, None, Some, filter, find, flat_map, fold, get_or, length, map}
 use Rattle.std.specs.BTreeSet.{insert_key}
 use Rattle.std.specs.Cmp.{IsEquivalence}
@@ -50,7 +50,7 @@ has xs y = is_member bytes_eq xs y
 abbrev put : List Lei → Lei → List Lei
 put leis lei = insert_key (slice_cmp nat_cmp) leis lei
 
--- ---- in order: the same ones
+-- ---- in order: the same LEIs
 
 tied_leis : (k x : Lei) → slice_cmp nat_cmp k x ≡ Equal → k ≡ x
 tied_leis k x is = same_lei k x (sym (is_eq-slice_cmp k x) ∙ ap is_eq is)
@@ -141,7 +141,7 @@ pub not_among : (x : Lei) (ys : List Lei) → AllByRecursion (λ y. bytes_eq x y
 not_among x [] all = refl
 not_among x (y ∷ ys) all = ap (λ b. b || has ys x) all.0 ∙ not_among x ys all.1
 
--- ---- the same ones in order
+-- ---- the same LEIs in order
 
 absent : (x : Lei) (ys : List Lei) → AllByRecursion (λ y. slice_cmp nat_cmp x y ≡ Less) ys → has ys x ≡ false
 absent x ys all = not_among x ys (less-apart x ys all)
@@ -150,7 +150,7 @@ absent_before : (x y : Lei) (ys : List Lei) → slice_cmp nat_cmp x y ≡ Less �
     → has (y ∷ ys) x ≡ false
 absent_before x y ys is all = absent x (y ∷ ys) (is, all_below x y ys is all)
 
--- of lists in order one is determined by what is in it
+-- a list in order is determined by its members
 pub same_in_order : (xs ys : List Lei) → IsStrictlySortedBy (slice_cmp nat_cmp) xs → IsStrictlySortedBy (slice_cmp nat_cmp) ys
     → ((z : Lei) → has xs z ≡ has ys z) → xs ≡ ys
 same_in_order [] [] first second same = refl
@@ -367,7 +367,7 @@ finds p from (suc n) k low high is =
       is = ap (λ b. cond b (Some from) (find p (range_with_len (from + 1) n))) isnt ∙ (others more).is;
     }
 
--- ---- a list of what each stands for
+-- ---- a list of what each one represents
 
 pub get_or-map : {X Y : Type 0} (f : X → Y) (xs : List X) (i : ℕ) (d : Y) (e : X) → i < length xs → get_or (map f xs) i d ≡ f (get_or xs i e)
 get_or-map f [] i d e within = absurd (omega (arith, within))

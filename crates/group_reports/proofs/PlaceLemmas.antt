@@ -97,7 +97,7 @@ below_has count (x ∷ xs) y below among =
 abbrev pub AreLess : List Lei → Lei → ℕ → Type 0
 AreLess leis lei low = (j : ℕ) → j < low → slice_cmp nat_cmp (at leis j) lei ≡ Less
 
--- those from a place on are greater
+-- those at a place and after it are greater
 abbrev pub AreMore : List Lei → Lei → ℕ → Type 0
 AreMore leis lei high = (j : ℕ) → high ≤ j → j < length leis → slice_cmp nat_cmp lei (at leis j) ≡ Less
 
@@ -138,7 +138,7 @@ module _ (leis : List Lei) (order : AreInOrder leis) where
       by (inr (inl before)) = apart (λ e. omega (arith, before, e))
       by (inr (inr after)) = apart (λ e. omega (arith, after, e))
 
-  -- ---- a search by halves
+  -- ---- a binary search
 
   pub more_from : (lei : Lei) (middle : ℕ) → slice_cmp nat_cmp lei (at leis middle) ≡ Less → AreMore leis lei middle
   more_from lei middle is j after within = by (cases_order middle j)

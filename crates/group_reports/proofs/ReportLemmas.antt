@@ -33,7 +33,7 @@ member_below count members i d below within =
     subst (λ place. place < count) (get_or-map (λ m. m.place) members i 0 d within)
     (below i 0 (subst (λ n. i < n) (sym (length-map members (λ m. m.place))) within))
 
--- the lines of disagreements, and the line that counts them
+-- the lines of disagreements, and the line with their number
 pub counted_lines : (links : List Link) (leis : List Lei) (old lines out number : Text) (count : ℕ)
     → lines ≡ old ++ flat_map (disagreement_line links) (filter (disagrees links) leis) → count ≡ length (filter (disagrees links) leis)
     → number ≡ decimal count → out ≡ lines ++ line (codes "disagreements") (number ∷ []) → out ≡ old ++ disagreement_lines links leis
@@ -48,7 +48,7 @@ leis_of : (links : List Link) (root : Lei) (leis : List Lei) → map (λ member.
 leis_of links root [] = refl
 leis_of links root (lei ∷ leis) = ap (λ l. lei ∷ l) (leis_of links root leis)
 
--- the parts of a report, one after the other
+-- the parts of a report, one after another
 pub report_of_parts : (table : GroupTable) (root : Lei) (first second third out : Text) (made : List Member) (count : ℕ) (entities : List Lei)
     → first ≡ root_line table.names root → second ≡ first ++ flat_map (member_line table) made → third ≡ second ++ members_line count
     → out ≡ third ++ disagreement_lines table.links entities → made ≡ all_members table.links root → count ≡ length made

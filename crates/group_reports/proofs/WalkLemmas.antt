@@ -1,4 +1,4 @@
--- Walks up along direct parents, and where they end.
+-- Walks up along direct parents, and their ends.
 use Rattle.std.specs.Prelude.{◌≡◌, ℕ, zero, suc, ◌+◌, ◌-◌, ◌<◌, ◌≤◌, Bool, true, false, cond, ◌&&◌, List, length, Option, None, Some, find, is_some, is_none, option_and_then}
 use Rattle.std.specs.List.{range_with_len}
 use Rattle.std.proofs.Common.{refl, sym, ap, ◌∙◌, ◌⊎◌, inl, inr, arith}
@@ -33,14 +33,14 @@ module _ (links : List Link) where
       ap (up links lei) (let same : j ≡ (j - k) + k = omega (arith, after) in same)
       ∙ gone_on lei k (j - k) gone
 
-  -- the walk ended before so many steps
+  -- the walk ended after fewer steps than this
   pub record Ended (lei : Lei) (m : ℕ) (end : Lei) : Type 0 where
     pub steps : ℕ
     pub before : steps < m
     pub leads : up links lei steps ≡ Some end
     pub over : direct links end ≡ None
 
-  -- where so many steps lead, which stay at the end of the walk
+  -- where this many steps lead; at the end of the walk, steps stay there
   abbrev pub Far : Lei → ℕ → Lei → Type 0
   Far lei m end = (up links lei m ≡ Some end) ⊎ Ended lei m end
 
@@ -53,7 +53,7 @@ module _ (links : List Link) where
   far_step lei m end (Some next) step (inr ended) =
       let never : None ≡ Some next = sym ended.over ∙ step in absurd cc
 
-  -- ---- the ultimate parent as it is computed
+  -- ---- the computed ultimate parent
 
   module _ (lei : Lei) where
     -- without a direct parent there is none
@@ -63,7 +63,7 @@ module _ (links : List Link) where
         (none_found (λ k. ends_after links lei k) 1 (length links)
         (λ k low high. ap (λ o. is_some o && is_none (up links lei (suc k))) (gone_at lei 1 k low none)))
 
-    -- nor if the walk goes on after as many steps as there are links
+    -- nor if the walk continues after as many steps as there are links
     pub top_around : (end next : Lei) (m : ℕ) → length links ≤ m → Far lei m end → direct links end ≡ Some next → top links lei ≡ None
     top_around end next m enough (inr ended) step = let never : None ≡ Some next = sym ended.over ∙ step in absurd cc
     top_around end next m enough (inl at) step =
@@ -83,7 +83,7 @@ module _ (links : List Link) where
             let never : None ≡ Some next = sym (gone_at lei (suc k) (suc m) (omega (arith, high, enough)) is) ∙ further in
             absurd cc
 
-    -- or else it is where the walk ends
+    -- otherwise it is the end of the walk
     pub top_end : (end next : Lei) (m : ℕ) → Far lei m end → direct links lei ≡ Some next → direct links end ≡ None → top links lei ≡ Some end
     top_end end next m far step over = by (least far)
       where

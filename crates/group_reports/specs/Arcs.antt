@@ -1,4 +1,4 @@
--- Arcs: links whose LEIs are known by their places.
+-- Arcs: links whose LEIs are identified by their places.
 use Rattle.std.specs.Prelude.{◌≡◌, ◌<◌, ◌==◌, ◌&&◌, ℕ, Bool, false, List, Option, find, length, option_map}
 use Rattle.lei_code.specs.Texts.{Lei}
 use Rattle.group_reports.specs.declared.arcs.Arc.{Arc}
@@ -6,7 +6,7 @@ use Rattle.group_reports.specs.declared.kinds.LinkKind.{LinkKind}
 use Rattle.group_reports.specs.Links.{Link, is_direct, is_ultimate}
 use Rattle.group_reports.specs.Places.{at, step}
 
--- The link that an arc stands for.
+-- The link that an arc represents.
 abbrev pub link_at : List Lei → Arc → Link
 link_at leis arc = record { start = at leis arc.start; kind = arc.kind; end = at leis arc.end }
 
@@ -14,13 +14,13 @@ link_at leis arc = record { start = at leis arc.start; kind = arc.kind; end = at
 abbrev pub IsWithin : ℕ → Arc → Type 0
 IsWithin count arc = (arc.start < count) × (arc.end < count)
 
--- A kind is the one that is wanted, of a direct or of an ultimate parent.
+-- A kind is the wanted one, for a direct or an ultimate parent.
 abbrev pub is_of : LinkKind → LinkKind → Bool
 is_of LinkKind.Direct kind = is_direct kind
 is_of LinkKind.Ultimate kind = is_ultimate kind
 is_of LinkKind.Other kind = false
 
--- Where the first arc of a kind that starts at a place ends.
+-- The end of the first arc of a kind that starts at a place.
 abbrev pub first_end : List Arc → LinkKind → ℕ → Option ℕ
 first_end arcs kind place = option_map (λ arc. arc.end) (find (λ arc. is_of kind arc.kind && place == arc.start) arcs)
 

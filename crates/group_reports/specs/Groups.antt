@@ -1,5 +1,5 @@
--- Groups: who belongs to an entity, by walks from each entity up along direct parents. Copies come from outside, so
--- walks may come back to where they were. This project's profile.
+-- Groups: which entities belong to an entity, by walks from each entity up along direct parents. Copies come from
+-- outside, so walks may come back to an earlier entity. This project's profile.
 use Rattle.std.specs.Prelude.{◌≡◌, ℕ, zero, suc, ◌==◌, ◌&&◌, not, is_none, is_some, Bool, false, List, [], ◌∷◌, Option, None, Some, filter, find, flat_map, fold, length, map, option_and_then}
 use Rattle.std.specs.BTreeSet.{insert_key}
 use Rattle.std.specs.Cmp.Lexicographic.{slice_cmp}
@@ -9,46 +9,47 @@ use Rattle.std.specs.Str.{bytes_eq}
 use Rattle.lei_code.specs.Texts.{Lei}
 use Rattle.group_reports.specs.Links.{Link, direct, reported}
 
--- The different ones of the LEIs, in byte order.
+-- The LEIs without repetitions, in byte order.
 abbrev pub in_order : List Lei → List Lei
 in_order leis = fold (insert_key (slice_cmp nat_cmp)) [] leis
 
 -- ---- walks up
 
--- What stands so many steps above an entity: no step leads to itself, and each further one to the direct parent.
+-- The entity this many steps above an entity: no step leads to the entity itself, and each further one to the direct
+-- parent.
 abbrev pub up : List Link → Lei → ℕ → Option Lei
 up links lei zero = Some lei
 up links lei (suc k) = option_and_then (direct links) (up links lei k)
 
--- A chain of direct parents leads from an entity to another one, however long it is.
+-- A chain of direct parents leads from one entity to another, however long it is.
 abbrev pub Leads : List Link → Lei → Lei → Type 0
 Leads links lei root = (k : ℕ) × (up links lei k ≡ Some root)
 
--- The numbers of steps that walks take: up to the number of rows. A longer walk meets no one else.
+-- The numbers of steps that walks take: up to the number of rows. A longer walk reaches no further entity.
 abbrev pub steps : List Link → List ℕ
 steps links = range_with_len 1 (length links)
 
--- An LEI is there, and it is this one.
+-- There is an LEI, and it is this one.
 abbrev pub is_this : Lei → Option Lei → Bool
 is_this root None = false
 is_this root (Some lei) = bytes_eq root lei
 
--- The walk up ends after so many steps.
+-- The walk up ends after this many steps.
 abbrev pub ends_after : List Link → Lei → ℕ → Bool
 ends_after links lei k = is_some (up links lei k) && is_none (up links lei (suc k))
 
--- Where the walk up ends: the ultimate parent as it is computed. There is none without a direct parent, and none if the
--- walk comes back to where it was.
+-- The end of the walk up: the computed ultimate parent. There is none if there is no direct parent, or if the walk
+-- comes back to an earlier entity.
 abbrev pub top : List Link → Lei → Option Lei
 top links lei = option_and_then (up links lei) (find (ends_after links lei) (steps links))
 
 -- ---- members
 
--- How deep an entity is below a root: the least number of steps that lead to it, if any lead there.
+-- The depth of an entity below a root: the least number of steps that lead to the root, if any lead there.
 abbrev pub depth : List Link → Lei → Lei → Option ℕ
 depth links root lei = find (λ k. is_this root (up links lei k)) (steps links)
 
--- A depth is there, and it is this one.
+-- There is a depth, and it is this one.
 abbrev pub is_depth : ℕ → Option ℕ → Bool
 is_depth d None = false
 is_depth d (Some k) = k == d
@@ -57,7 +58,7 @@ is_depth d (Some k) = k == d
 abbrev pub starts : List Link → List Lei
 starts links = in_order (map (λ link. link.start) links)
 
--- An entity other than the root is this deep below it.
+-- An entity other than the root is at this depth below it.
 abbrev pub is_member_at : List Link → Lei → ℕ → Lei → Bool
 is_member_at links root d lei = not (bytes_eq root lei) && is_depth d (depth links root lei)
 
@@ -75,11 +76,11 @@ group links root = in_order (root ∷ members links root)
 
 -- ---- disagreements
 
--- Both are missing, or both are there and the same.
+-- Both are missing, or both are there and equal.
 abbrev pub is_same : Option Lei → Option Lei → Bool
 is_same None other = is_none other
 is_same (Some lei) other = is_this lei other
 
--- The ultimate parent that is reported for an entity and the one that is computed differ.
+-- The reported and the computed ultimate parent of an entity differ.
 abbrev pub disagrees : List Link → Lei → Bool
 disagrees links lei = not (is_same (reported links lei) (top links lei))

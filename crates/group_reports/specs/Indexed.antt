@@ -11,8 +11,8 @@ pub record LinkTable : Type 0 where
   pub links : List Link
   pub leis : List Lei
 
--- These are the number of the links, the LEIs in them, the places at which they start, and for each place those of the
--- parents: the direct one, the ultimate one that is reported, and the one that is computed.
+-- These are the number of the links, the LEIs in them, the places that they start at, and for each place those of its
+-- parents: the direct one, the reported ultimate one, and the computed ultimate one.
 pub record IsIndexed (links : List Link) (count : ℕ) (leis : List Lei) (starts : List ℕ) (parents ultimates tops : List (Option ℕ)) : Type 0 where
   pub counted : count ≡ length links
   pub leis_are : leis ≡ leis_of links

@@ -24,7 +24,7 @@ kind_of_type text =
     else if bytes_eq text (codes "IS_ULTIMATELY_CONSOLIDATED_BY") then LinkKind.Ultimate
     else LinkKind.Other
 
--- The same of a type and a status.
+-- The same for a type and a status.
 abbrev pub kind_by : Text → Text → LinkKind
 kind_by text status = if bytes_eq status (codes "ACTIVE") then kind_of_type text else LinkKind.Other
 
@@ -42,7 +42,7 @@ link_of row = record { start = text_at row.texts 1; kind = kind_of row; end = te
 abbrev pub Name : Type 0
 Name = Text × Text
 
--- They are the first and the second text of the row.
+-- The key and the name are the first and the second text of the row.
 abbrev pub named : SheetRow → Name
 named row = (text_at row.texts 1, text_at row.texts 2)
 
@@ -51,17 +51,17 @@ pub record GroupTable : Type 0 where
   pub names : List Name
   pub links : List Link
 
--- They are those of these rows, of `lei` and of `rr`.
+-- The table is that of these rows, of `lei` and of `rr`.
 pub record IsTableOf (lei rr : List SheetRow) (table : GroupTable) : Type 0 where
   pub names_are : table.names ≡ map named lei
   pub links_are : table.links ≡ map link_of rr
 
--- The number of the publication of a copy, which is known in JSON alone.
+-- The number of the publication of a copy, which is known only in JSON.
 abbrev pub publication_in : Option Head → Option ℕ
 publication_in head = option_map (λ head. head.publication) head
 
--- Why two copies don't go together: they are of two publications, with the numbers of both. Of want of memory nothing is
--- said.
+-- Why two copies don't go together: they are from two publications, and the numbers of both are given. This says
+-- nothing of lack of memory.
 abbrev pub IsRefusal : Option Head → Option Head → GroupFault → Type 0
 IsRefusal lei rr (faults.OtherPublication p q) =
     (publication_in lei ≡ Some p) × (publication_in rr ≡ Some q) × (p ≢ q)
@@ -81,12 +81,12 @@ is_ultimate LinkKind.Direct = false
 is_ultimate LinkKind.Ultimate = true
 is_ultimate LinkKind.Other = false
 
--- The direct parent of an entity, if it has one: the end of the first link that names one. Links stand in the order of
+-- The direct parent of an entity, if it has one: the end of the first link that names one. Links are in the order of
 -- the keys of their rows.
 abbrev pub direct : List Link → Lei → Option Lei
 direct links lei = option_map (λ link. link.end) (find (λ link. is_direct link.kind && bytes_eq lei link.start) links)
 
--- The ultimate parent that is reported for an entity, if one is: the end of the first link that names one.
+-- The reported ultimate parent of an entity, if one is reported: the end of the first link that names one.
 abbrev pub reported : List Link → Lei → Option Lei
 reported links lei = option_map (λ link. link.end) (find (λ link. is_ultimate link.kind && bytes_eq lei link.start) links)
 

@@ -1,4 +1,4 @@
--- Names of entities as they are kept: the LEIs in byte order, and the names beside them.
+-- Names of entities as they are kept: the LEIs in byte order, and the names alongside.
 use Rattle.std.specs.Prelude.{◌≡◌, List, length}
 use Rattle.lei_code.specs.Texts.{Lei, Text}
 use Rattle.group_reports.specs.Places.{AreInOrder}

@@ -1,4 +1,4 @@
--- Places: LEIs in byte order, and what links say of them by their places.
+-- Places: LEIs in byte order, and what links say of them, by place.
 use Rattle.std.specs.Prelude.{◌≡◌, ◌<◌, ◌≤◌, ◌+◌, ◌-◌, ◌==◌, ℕ, zero, suc, Bool, false, if◌then◌else◌, is_none, is_some, List, [], ◌∷◌, Option, None, Some, find, flat_map, fold, get_or, length, option_map, unwrap_or, ⊤}
 use Rattle.std.specs.BTreeSet.{insert_key}
 use Rattle.std.specs.Cmp.Lexicographic.{slice_cmp}
@@ -17,7 +17,7 @@ use Rattle.group_reports.specs.Links.{Link}
 abbrev pub ends_of : Link → List Lei
 ends_of link = link.start ∷ link.end ∷ []
 
--- The LEIs at which links start or end, each once and in byte order.
+-- The LEIs that links start or end at, each once and in byte order.
 abbrev pub leis_of : List Link → List Lei
 leis_of links = in_order (flat_map ends_of links)
 
@@ -25,22 +25,22 @@ leis_of links = in_order (flat_map ends_of links)
 abbrev pub AreInOrder : List Lei → Type 0
 AreInOrder leis = IsStrictlySortedBy (slice_cmp nat_cmp) leis
 
--- The LEI at a place, places counted from 0.
+-- The LEI at a place; places are counted from 0.
 abbrev pub at : List Lei → ℕ → Lei
 at leis place = get_or leis place []
 
--- The same of a place that may be missing.
+-- The same for a place that may be missing.
 abbrev pub at_some : List Lei → Option ℕ → Option Lei
 at_some leis place = option_map (at leis) place
 
--- A place that was found is that of this LEI, and if none was, the LEI isn't there.
+-- If a place was found, it is that of this LEI, and if none was, the LEI isn't there.
 abbrev pub IsPlaceOf : List Lei → Lei → Option ℕ → Type 0
 IsPlaceOf leis lei None = is_member bytes_eq leis lei ≡ false
 IsPlaceOf leis lei (Some place) = (place < length leis) × (at leis place ≡ lei)
 
 -- ---- steps up
 
--- Where the step up from a place leads, if there is one.
+-- The place that the step up from a place leads to, if there is one.
 abbrev pub step : List (Option ℕ) → ℕ → Option ℕ
 step parents place = get_or parents place None
 
@@ -49,11 +49,11 @@ abbrev pub IsBelow : ℕ → Option ℕ → Type 0
 IsBelow count None = ⊤
 IsBelow count (Some place) = place < count
 
--- Each step leads to a place again.
+-- Each step leads to a place within the list.
 abbrev pub LeadsWithin : List (Option ℕ) → Type 0
 LeadsWithin parents = (place : ℕ) → IsBelow (length parents) (step parents place)
 
--- A list says of the LEI at each place what a definition says of it.
+-- A list gives for the LEI at each place what a definition says of that LEI.
 pub record Finds (leis : List Lei) (places : List (Option ℕ)) (meaning : Lei → Option Lei) : Type 0 where
   pub counted : length places ≡ length leis
   pub within : LeadsWithin places
@@ -61,34 +61,34 @@ pub record Finds (leis : List Lei) (places : List (Option ℕ)) (meaning : Lei �
 
 -- ---- many steps up
 
--- A step up, or none at the end of the walk.
+-- A step up, which stays at the end of the walk.
 abbrev pub stay : List (Option ℕ) → ℕ → ℕ
 stay parents place = unwrap_or (step parents place) place
 
--- So many of these.
+-- This many such steps.
 abbrev pub stays : List (Option ℕ) → ℕ → ℕ → ℕ
 stays parents zero place = place
 stays parents (suc k) place = stay parents (stays parents k place)
 
--- A list says of each place where so many steps lead.
+-- A list gives for each place where this many steps lead.
 pub record LeadsBy (parents : List (Option ℕ)) (steps : ℕ) (far : List ℕ) : Type 0 where
   pub counted : length far ≡ length parents
   pub within : (place : ℕ) → place < length parents → get_or far place 0 < length parents
   pub each : (place : ℕ) → place < length parents → get_or far place 0 ≡ stays parents steps place
 
--- The same of a number of steps that is at least this one.
+-- The same for some number of steps that is at least this one.
 pub record LeadsFar (parents : List (Option ℕ)) (least : ℕ) (far : List ℕ) : Type 0 where
   pub steps : ℕ
   pub enough : least ≤ steps
   pub leads : LeadsBy parents steps far
 
--- Where a walk up ends of which it is known where many steps lead: nowhere if no step leads up at first, or if one still
--- does after them.
+-- The end of a walk up, given the place that many steps lead to: none if no step leads up from the start, or if one
+-- still leads up from that place.
 abbrev pub end_by : List (Option ℕ) → ℕ → ℕ → Option ℕ
 end_by parents place far =
     if is_none (step parents place) then None else if is_some (step parents far) then None else Some far
 
--- A list says of each place where the walk up from it ends.
+-- A list gives for each place the end of the walk up from it.
 pub record FindsTops (parents : List (Option ℕ)) (least : ℕ) (tops : List (Option ℕ)) : Type 0 where
   pub steps : ℕ
   pub enough : least ≤ steps
@@ -107,11 +107,11 @@ is_at place (Some other) = other == place
 abbrev pub is_child : List (Option ℕ) → ℕ → ℕ → Bool
 is_child parents parent child = is_at parent (step parents child)
 
--- The first child of a parent from a place on.
+-- The first child of a parent, at a place or after it.
 abbrev pub child_from : List (Option ℕ) → ℕ → ℕ → Option ℕ
 child_from parents parent place = find (is_child parents parent) (range_with_len place (length parents - place))
 
--- The first child of each place, and of each child the next one of its parent.
+-- The first child of each place, and for each child the next one of its parent.
 pub record FindsChildren (parents firsts nexts : List (Option ℕ)) : Type 0 where
   pub first_count : length firsts ≡ length parents
   pub next_count : length nexts ≡ length parents
@@ -120,7 +120,7 @@ pub record FindsChildren (parents firsts nexts : List (Option ℕ)) : Type 0 whe
 
 -- ---- places that may be missing
 
--- Both are missing, or both are there and the same.
+-- Both are missing, or both are there and equal.
 abbrev pub are_same : Option ℕ → Option ℕ → Bool
 are_same None other = is_none other
 are_same (Some place) None = false
@@ -141,6 +141,6 @@ has_some places (Some place) = has_place places place
 abbrev pub AreBelow : ℕ → List ℕ → Type 0
 AreBelow count places = All (λ place. place < count) places
 
--- The different ones of the places, in order.
+-- The places without repetitions, in order.
 abbrev pub places_in_order : List ℕ → List ℕ
 places_in_order places = fold (insert_key nat_cmp) [] places

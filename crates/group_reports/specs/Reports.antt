@@ -6,19 +6,19 @@ use Rattle.group_reports.specs.Groups.{disagrees, group, members, starts, top, u
 use Rattle.group_reports.specs.Links.{GroupTable, Link, Name, name_at, reported}
 use Rattle.group_reports.specs.Listings.{Member, all_members}
 
--- A word with the space before it.
+-- A word preceded by a space.
 abbrev pub after_space : Text → Text
 after_space word = 32 ∷ word
 
--- A line of a first word and others.
+-- A line with a first word and others.
 abbrev pub line : Text → List Text → Text
 line first others = first ++ (flat_map after_space others ++ 10 ∷ [])
 
--- A word that may be missing: a hyphen then.
+-- A word, or a hyphen if it is missing.
 abbrev pub or_hyphen : Option Text → Text
 or_hyphen word = unwrap_or word (codes "-")
 
--- The legal name of an entity. It is missing if the entity has no row, and if the row has no text there.
+-- The legal name of an entity. It is missing if the entity has no row, or if the row has no text there.
 abbrev pub name_of : List Name → Lei → Option Text
 name_of names lei = option_and_then present (name_at names lei)
 
@@ -38,18 +38,18 @@ member_line table member =
 abbrev pub member_lines : GroupTable → Lei → Text
 member_lines table root = flat_map (member_line table) (all_members table.links root)
 
--- The line that counts the members.
+-- The line with the number of members.
 abbrev pub members_line : ℕ → Text
 members_line count = line (codes "members") (decimal count ∷ [])
 
 -- ---- disagreements
 
--- The line of an entity that disagrees: the ultimate parent that is reported, and the one that is computed.
+-- The line of an entity that disagrees: the reported ultimate parent, and the computed one.
 abbrev pub disagreement_line : List Link → Lei → Text
 disagreement_line links lei =
     line (codes "DISAGREES") (lei ∷ or_hyphen (reported links lei) ∷ or_hyphen (top links lei) ∷ [])
 
--- The lines of those of some entities that disagree, and a line that counts them.
+-- The lines of those entities that disagree, and a line with their number.
 abbrev pub disagreement_lines : List Link → List Lei → Text
 disagreement_lines links leis =
     flat_map (disagreement_line links) (filter (disagrees links) leis)

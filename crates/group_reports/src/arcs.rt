@@ -38,7 +38,7 @@ pub fn arcs_of(alloc: Global, places: &Places, rows: &[Row]) -> Result<Vec<Arc>,
     Ok(made)
 }
 
-// The arc of a row.
+// The arc for a row.
 fn arc_of(places: &Places, row: &Row) -> Arc
     requires row { row.now.sheet ≡ DeclaredSheet.Rr }
     requires start { is_member bytes_eq places.now (text_at row.now.texts 1) ≡ true }
@@ -55,7 +55,7 @@ fn arc_of(places: &Places, row: &Row) -> Arc
     }
 }
 
-// The place of an LEI that is there.
+// The place of an LEI that is known to be there.
 fn place_of(places: &Places, lei: &str) -> usize
     requires { is_member bytes_eq places.now lei.now ≡ true }
     ensures within { result < length places.now }
@@ -67,7 +67,7 @@ fn place_of(places: &Places, lei: &str) -> usize
     }
 }
 
-/// For each place below a count, where the first arc of a kind that starts there ends.
+/// For each place below a count, the end of the first arc of a kind that starts there.
 pub fn first_ends(
     alloc: Global,
     count: usize,
@@ -88,7 +88,7 @@ pub fn first_ends(
     Ok(ends)
 }
 
-// Whether a kind is the one that is wanted, of a direct or of an ultimate parent.
+// Whether a kind is the wanted one, for a direct or an ultimate parent.
 fn is_of(wanted: LinkKind, kind: LinkKind) -> bool
     ensures { result ≡ spec_arcs.is_of wanted kind }
 {

@@ -13,7 +13,7 @@ use std::cmp::Ordering;
 use std::collections::BTreeSet;
 use std::marker::Model;
 
-/// The LEI of an entity, which in a copy may be any text. Contracts see its bytes, and entities compare by them.
+/// The LEI of an entity, which may be any text in a copy. Contracts see its bytes, and entities compare by them.
 #[derive(Debug, Drop)]
 pub struct Entity {
     lei: Text,
@@ -28,7 +28,7 @@ impl Model for Entity {
 }
 
 impl Entity {
-    /// An entity in memory of its own.
+    /// An entity in its own memory.
     pub fn copy_of(alloc: Global, lei: &str) -> Result<Self, NoMemory>
         ensures { IfOk result (λ entity. entity ≡ lei.now) }
     {
@@ -37,7 +37,7 @@ impl Entity {
         })
     }
 
-    /// Its LEI, lent.
+    /// Its LEI, borrowed.
     pub fn as_str(&self) -> &str
         ensures { result.now ≡ self.now }
     {
@@ -83,7 +83,7 @@ impl Ord for Entity {
     }
 }
 
-/// Puts an entity among others that are in byte order, unless it is there.
+/// Adds an entity to others that are in byte order, unless it is already there.
 pub fn add(alloc: Global, entities: &mut BTreeSet<Entity>, lei: &str) -> Result<(), NoMemory>
     ensures { OnOk result (entities.new.keys ≡ insert_key (slice_cmp nat_cmp) entities.old.keys lei.now) }
 {

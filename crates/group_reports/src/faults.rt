@@ -1,4 +1,4 @@
-//! Why no groups are opened, and why none is reported.
+//! Why no groups are opened, and why no group is reported.
 ghost use Rattle.std.specs.Prelude.{◌≡◌};
 ghost use Rattle.group_reports.specs.declared.faults.GroupFault.TheVariants as opening;
 ghost use Rattle.group_reports.specs.declared.faults.ReportFault.TheVariants as reporting;
@@ -9,7 +9,7 @@ use std::alloc::{AllocError, AllocFailed};
 /// Why two copies aren't taken together.
 #[derive(Clone, Copy, Debug, PartialEq, Eq)]
 pub enum GroupFault {
-    /// In JSON: the number of the publication of `lei`, and the other one of `rr`.
+    /// In JSON: the number of the publication of `lei`, and the different one of `rr`.
     OtherPublication(u32, u32),
     /// Memory ran out.
     NoMemory,
@@ -34,7 +34,7 @@ impl From<AllocError> for GroupFault {
 /// Why no group is reported.
 #[derive(Clone, Copy, Debug, PartialEq, Eq)]
 pub enum ReportFault {
-    /// The copy of `lei` has no row of the root.
+    /// The copy of `lei` has no row for the root.
     LeiUnknown,
     /// Memory ran out.
     NoMemory,

@@ -4,7 +4,7 @@ ghost use Rattle.group_reports.specs.Places.{AreInOrder, IsPlaceOf};
 use copy_csv::Texts;
 use std::cmp::Ordering;
 
-/// The place of an LEI among others in byte order, places counted from 0, if it is there.
+/// The place of an LEI among others in byte order, counted from 0, if it is there.
 pub fn find(leis: &Texts, lei: &str) -> Option<usize>
     requires { AreInOrder leis.now }
     ensures { IsPlaceOf leis.now lei.now result }

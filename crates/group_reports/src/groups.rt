@@ -17,8 +17,8 @@ use lei_outside::{Bytes, NoMemory};
 use std::alloc::Global;
 use std::marker::Model;
 
-/// Who belongs to whom by a golden copy of `lei` and one of `rr`. Contracts see the LEI and the name of each row of
-/// `lei`, and each row of `rr` as a link.
+/// Which entity belongs to which group, by a golden copy of `lei` and one of `rr`. Contracts see the LEI and the name
+/// of each row of `lei`, and each row of `rr` as a link.
 #[derive(Drop)]
 pub struct Groups {
     alloc: Global,
@@ -35,7 +35,7 @@ impl Model for Groups {
 }
 
 impl Groups {
-    /// The groups of a copy of `lei` and one of `rr` that were read, in one form.
+    /// The groups of a copy of `lei` and one of `rr` that were read, both in the same form.
     pub fn open(alloc: Global, lei: &CopyRead, rr: &CopyRead) -> Result<Self, GroupFault>
         requires lei { AreRows DeclaredSheet.Lei lei.now.rows }
         requires rr { AreRows DeclaredSheet.Rr rr.now.rows }
@@ -54,8 +54,8 @@ impl Groups {
         })
     }
 
-    /// The report on the group of an entity: who belongs to it by direct parents, and where the reported ultimate
-    /// parent of it or of a member differs.
+    /// The report on the group of an entity: which entities belong to it by direct parents, and where the reported
+    /// ultimate parent of the entity or of a member differs.
     pub fn report(&self, who: &str) -> Result<Bytes, ReportFault>
         ensures text { IfOk result (λ bytes. bytes ≡ spec.group_report self.now who.now) }
         ensures known { OnOk result (IsSome (name_at self.now.names who.now)) }
@@ -71,7 +71,7 @@ impl Groups {
         Ok(bytes)
     }
 
-    /// The disagreements of all entities at which a relationship starts.
+    /// The disagreements of all entities that a relationship starts at.
     #[tactic(auto, unfolding(crate::specs::Reports::disagreement_report))]
     pub fn disagreements(&self) -> Result<Bytes, NoMemory>
         ensures { IfOk result (λ bytes. bytes ≡ spec.disagreement_report self.now) }

@@ -9,7 +9,7 @@ pub enum LinkKind {
     Direct,
     /// The end is its ultimate parent.
     Ultimate,
-    /// The relationship isn't ACTIVE, or it is of another type.
+    /// The relationship isn't ACTIVE, or it has another type.
     Other,
 }
 

@@ -7,7 +7,8 @@ ghost use Rattle.group_reports.specs.Groups.{Leads, members};
 ghost use Rattle.group_reports.specs.Links.{Link};
 
 /// An entity other than the root is a member exactly if a chain of direct parents leads from it to the root, however
-/// long the chain is. The root is no member, and none is one twice. Walks may come back to where they were.
+/// long the chain is. The root isn't a member, and no entity is a member twice. Walks may come back to an earlier
+/// entity.
 pub fn members_are_those_with_a_chain()
     ensures chain { (links : Items Link) (root lei : Lei) → lei ≢ root
         → Contains (members links root) lei ↔ Leads links lei root }

@@ -1,4 +1,4 @@
-//! Reports on groups: who belongs to an entity by direct parents, and where reported ultimate parents differ.
+//! Reports on groups: which entities belong to an entity by direct parents, and where reported ultimate parents differ.
 #![tactic(auto)]
 
 mod arcs;

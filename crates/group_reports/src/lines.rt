@@ -4,7 +4,7 @@ ghost use Rattle.group_reports.specs.Reports as spec;
 
 use lei_outside::NoMemory;
 
-/// Puts a line of a first word and others.
+/// Appends a line with a first word and others.
 pub fn put_line(out: &mut Vec<u8>, first: &str, others: &[&str]) -> Result<(), NoMemory>
     ensures { OnOk result
         (out.new.items ≡ out.old.items ++ spec.line first.now (map (λ word. word.now) others.now)) }
@@ -15,7 +15,7 @@ pub fn put_line(out: &mut Vec<u8>, first: &str, others: &[&str]) -> Result<(), N
     Ok(())
 }
 
-// Puts words, each with the space before it.
+// Appends words, each preceded by a space.
 fn put_words(out: &mut Vec<u8>, words: &[&str]) -> Result<(), NoMemory>
     ensures { OnOk result
         (out.new.items ≡ out.old.items ++ flat_map spec.after_space (map (λ word. word.now) words.now)) }
@@ -26,7 +26,7 @@ fn put_words(out: &mut Vec<u8>, words: &[&str]) -> Result<(), NoMemory>
     Ok(())
 }
 
-// Puts a word with the space before it.
+// Appends a word, preceded by a space.
 fn put_word(out: &mut Vec<u8>, word: &str) -> Result<(), NoMemory>
     ensures { OnOk result (out.new.items ≡ out.old.items ++ spec.after_space word.now) }
 {

@@ -19,18 +19,18 @@ use std::collections::BTreeSet;
 use std::marker::Model;
 use std::snapshot::Snapshot;
 
-/// What reports need of links. Each LEI is known by its place. Contracts see the list of the links, in the order of the
-/// keys of their rows, and the list of the LEIs.
+/// What reports need of links. Each LEI is identified by its place. Contracts see the list of the links, in the order
+/// of the keys of their rows, and the list of the LEIs.
 #[derive(Drop)]
 pub struct Links {
     // The rows that they were read from. It takes no bytes.
     rows: Snapshot<List<Row>>,
     count: usize,
     places: Places,
-    // Where links start.
+    // The places that links start at.
     starts: Vec<usize>,
     tree: Tree,
-    // The ultimate parents that are reported, and those that are computed.
+    // The reported ultimate parents, and the computed ones.
     ultimates: Vec<Option<usize>>,
     tops: Vec<Option<usize>>,
 }
@@ -73,7 +73,7 @@ impl Links {
         })
     }
 
-    /// How many they are.
+    /// The number of links.
     pub fn len(&self) -> usize
         ensures { result ≡ length self.now.links }
     {
@@ -97,7 +97,7 @@ impl Links {
         self.places.lei(place)
     }
 
-    /// The places at which links start, in order.
+    /// The places that links start at, in order.
     pub fn starts(&self) -> &[usize]
         ensures leis { map (at self.now.leis) result.now ≡ groups.starts self.now.links }
         ensures below { AreBelow (length self.now.leis) result.now }
@@ -121,7 +121,7 @@ impl Links {
         self.lei_of(self.tree.parents()[place])
     }
 
-    /// The ultimate parent that is reported for an entity, if one is.
+    /// The reported ultimate parent of an entity, if one is reported.
     pub fn reported(&self, place: usize) -> Option<&str>
         requires { place < length self.now.leis }
         ensures { option_map (λ end. end.now) result ≡ spec.reported self.now.links (at self.now.leis place) }
@@ -129,7 +129,7 @@ impl Links {
         self.lei_of(self.ultimates[place])
     }
 
-    /// The ultimate parent of an entity as it is computed, if there is one.
+    /// The computed ultimate parent of an entity, if there is one.
     pub fn top(&self, place: usize) -> Option<&str>
         requires { place < length self.now.leis }
         ensures { option_map (λ end. end.now) result ≡ groups.top self.now.links (at self.now.leis place) }
@@ -137,7 +137,7 @@ impl Links {
         self.lei_of(self.tops[place])
     }
 
-    /// Whether the ultimate parent that is reported for an entity isn't the one that is computed.
+    /// Whether the reported ultimate parent of an entity isn't the computed one.
     pub fn disagrees(&self, place: usize) -> bool
         requires { place < length self.now.leis }
         ensures { result ≡ groups.disagrees self.now.links (at self.now.leis place) }
@@ -157,7 +157,7 @@ impl Links {
     }
 }
 
-// Whether both are missing, or both are there and the same.
+// Whether both are missing, or both are there and equal.
 fn is_same(one: Option<usize>, other: Option<usize>) -> bool
     ensures { result ≡ are_same one other }
 {
@@ -168,7 +168,7 @@ fn is_same(one: Option<usize>, other: Option<usize>) -> bool
     }
 }
 
-// The places at which arcs start, each once and in order.
+// The places that arcs start at, each once and in order.
 fn starts_of(alloc: Global, arcs: &[Arc]) -> Result<Vec<usize>, NoMemory>
     ensures { IfOk result (λ starts. starts.items ≡ places_in_order (map (λ arc. arc.start) arcs.now)) }
 {

@@ -56,7 +56,7 @@ impl Names {
         Some(self.texts.text(place + 1))
     }
 
-    /// The name of an entity, or a hyphen if it is missing.
+    /// The name of an entity, or a hyphen if there is none.
     pub fn or_hyphen(&self, lei: &str) -> &str
         ensures { result.now ≡ spec_or_hyphen (name_of self.now lei.now) }
     {
@@ -70,7 +70,7 @@ impl Names {
     }
 }
 
-// The texts of rows of `lei` at a place.
+// The texts at one position of the rows of `lei`.
 fn texts_of(alloc: Global, rows: &[Row], place: usize) -> Result<Texts, NoMemory>
     requires rows { All (IsRowOf DeclaredSheet.Lei) rows.now }
     requires first { 1 ≤ place }
@@ -86,7 +86,7 @@ fn texts_of(alloc: Global, rows: &[Row], place: usize) -> Result<Texts, NoMemory
     Ok(texts)
 }
 
-/// An LEI, or a hyphen if it is missing.
+/// An LEI, or a hyphen if there is none.
 pub fn or_hyphen<'a>(lei: Option<&'a str>) -> &'a str
     ensures { result.now ≡ spec_or_hyphen (option_map (λ lei. lei.now) lei.entry) }
 {

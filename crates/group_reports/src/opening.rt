@@ -5,7 +5,7 @@ ghost use Rattle.group_reports.specs.Links as spec;
 use crate::faults::GroupFault;
 use copy_csv::Head;
 
-/// Whether two copies go together: of two heads the publication is the same.
+/// Whether two copies go together: if both have a head, they must have the same publication.
 pub fn check(lei: &Option<Head>, rr: &Option<Head>) -> Result<(), GroupFault>
     requires { is_some lei.now ≡ is_some rr.now }
     ensures ok { OnOk result (spec.publication_in lei.now ≡ spec.publication_in rr.now) }

@@ -17,8 +17,8 @@ use std::alloc::Global;
 use std::collections::BTreeSet;
 use std::marker::Model;
 
-/// LEIs in one piece of memory, each once and in byte order. Each is known by its place, places counted from 0.
-/// Contracts see the list of them.
+/// LEIs in one piece of memory, each once and in byte order. Each is identified by its place, counted from 0. Contracts
+/// see the list of them.
 #[derive(Drop)]
 pub struct Places {
     leis: Texts,
@@ -37,7 +37,7 @@ impl Model for Places {
 }
 
 impl Places {
-    /// The LEIs at which rows of `rr` start or end.
+    /// The LEIs that rows of `rr` start or end at.
     pub fn of(alloc: Global, rows: &[Row]) -> Result<Self, NoMemory>
         requires { All (IsRowOf DeclaredSheet.Rr) rows.now }
         ensures { IfOk result (λ places. places ≡ leis_of (map spec.link_of rows.now)) }
@@ -51,7 +51,7 @@ impl Places {
         })
     }
 
-    /// How many they are.
+    /// The number of LEIs.
     pub fn len(&self) -> usize
         ensures { result ≡ length self.now }
     {
@@ -76,7 +76,7 @@ impl Places {
     }
 }
 
-// Puts the two LEIs of a row among others.
+// Adds the two LEIs of a row to others.
 fn add_ends(alloc: Global, entities: &mut BTreeSet<Entity>, row: &Row) -> Result<(), NoMemory>
     requires { row.now.sheet ≡ DeclaredSheet.Rr }
     ensures { OnOk result (entities.new.keys

@@ -11,7 +11,7 @@ use crate::listing::Placed;
 use crate::names::{Names, or_hyphen};
 use lei_outside::NoMemory;
 
-/// Puts the line of a root.
+/// Appends the line of a root.
 pub fn put_root(out: &mut Vec<u8>, names: &Names, root: &str) -> Result<(), NoMemory>
     ensures { OnOk result (out.new.items ≡ out.old.items ++ spec.root_line names.now root.now) }
 {
@@ -19,7 +19,7 @@ pub fn put_root(out: &mut Vec<u8>, names: &Names, root: &str) -> Result<(), NoMe
     Ok(())
 }
 
-/// Puts the lines of members.
+/// Appends the lines of members.
 pub fn put_members(
     out: &mut Vec<u8>,
     names: &Names,
@@ -37,7 +37,7 @@ pub fn put_members(
     Ok(())
 }
 
-// Puts the line of a member.
+// Appends the line of a member.
 fn put_member(
     out: &mut Vec<u8>,
     names: &Names,
@@ -57,7 +57,7 @@ fn put_member(
     Ok(())
 }
 
-/// Puts the line that counts members.
+/// Appends the line with the number of members.
 pub fn put_members_line(out: &mut Vec<u8>, count: usize) -> Result<(), NoMemory>
     ensures { OnOk result (out.new.items ≡ out.old.items ++ spec.members_line count) }
 {
@@ -66,7 +66,7 @@ pub fn put_members_line(out: &mut Vec<u8>, count: usize) -> Result<(), NoMemory>
     Ok(())
 }
 
-/// Puts the lines of those of some entities that disagree, and the line that counts them.
+/// Appends the lines of those entities that disagree, and the line with their number.
 pub fn put_disagreements(out: &mut Vec<u8>, links: &Links, places: &[usize]) -> Result<(), NoMemory>
     requires { AreBelow (length links.now.leis) places.now }
     ensures { OnOk result (out.new.items ≡ out.old.items
@@ -78,7 +78,7 @@ pub fn put_disagreements(out: &mut Vec<u8>, links: &Links, places: &[usize]) -> 
     Ok(())
 }
 
-// Puts the lines of those that disagree, and counts them.
+// Appends the lines of those that disagree, and counts them.
 fn put_disagreeing(out: &mut Vec<u8>, links: &Links, places: &[usize]) -> Result<usize, NoMemory>
     requires { AreBelow (length links.now.leis) places.now }
     ensures out { OnOk result (out.new.items ≡ out.old.items ++ flat_map (spec.disagreement_line links.now.links)
@@ -97,7 +97,7 @@ fn put_disagreeing(out: &mut Vec<u8>, links: &Links, places: &[usize]) -> Result
     Ok(count)
 }
 
-// Puts the line of an entity that disagrees.
+// Appends the line of an entity that disagrees.
 fn put_disagreement(out: &mut Vec<u8>, links: &Links, place: usize) -> Result<(), NoMemory>
     requires { place < length links.now.leis }
     ensures { OnOk result (out.new.items ≡ out.old.items

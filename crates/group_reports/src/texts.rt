@@ -34,7 +34,7 @@ pub fn group_text(
     Ok(Bytes::from(out))
 }
 
-/// The report on an entity at which no link starts or ends.
+/// The report on an entity that no link starts or ends at.
 #[tactic(auto, unfolding(crate::specs::Reports::group_report))]
 pub fn lone_text(alloc: Global, names: &Names, links: &Links, who: &str) -> Result<Bytes, NoMemory>
     requires { is_member bytes_eq (leis_of links.now.links) who.now ≡ false }

@@ -1,4 +1,4 @@
-//! Where walks up along direct parents end.
+//! The ends of walks up along direct parents.
 ghost use Rattle.std.specs.Prelude.{◌≡◌, ◌<◌, get_or, length, map, IfOk};
 ghost use Rattle.std.specs.List.{All};
 ghost use Rattle.group_reports.specs.Places.{FindsTops, LeadsBy, LeadsFar, LeadsWithin, end_by, stay, step};
@@ -6,8 +6,8 @@ ghost use Rattle.group_reports.specs.Places.{FindsTops, LeadsBy, LeadsFar, Leads
 use lei_outside::NoMemory;
 use std::alloc::Global;
 
-/// For each place where the walk up from it ends, if it has a parent and the walk doesn't come back to where it was.
-/// No walk that ends takes more steps than `longest`.
+/// For each place the end of the walk up from it, if it has a parent and the walk doesn't come back to an earlier
+/// place. No walk that ends takes more steps than `longest`.
 pub fn tops_of(
     alloc: Global,
     parents: &[Option<usize>],
@@ -24,7 +24,7 @@ pub fn tops_of(
     Ok(tops)
 }
 
-// Where a walk up ends, of which it is known where many steps lead.
+// The end of a walk up, given the place that many steps lead to.
 fn end_of(parents: &[Option<usize>], place: usize, far: usize) -> Option<usize>
     requires place { place < length parents.now }
     requires far { far < length parents.now }
@@ -36,7 +36,8 @@ fn end_of(parents: &[Option<usize>], place: usize, far: usize) -> Option<usize>
     Some(far)
 }
 
-// Where at least so many steps lead, which stay at the end of a walk. Each round takes twice as many as the one before.
+// The place that at least this many steps lead to from each place; at the end of a walk, steps stay there. Each round
+// doubles the number of steps.
 fn far_up(alloc: Global, parents: &[Option<usize>], least: usize) -> Result<Vec<usize>, NoMemory>
     requires { LeadsWithin parents.now }
     ensures { IfOk result (λ far. LeadsFar parents.now least far.items) }
@@ -50,7 +51,7 @@ fn far_up(alloc: Global, parents: &[Option<usize>], least: usize) -> Result<Vec<
     Ok(far)
 }
 
-// Where one step leads, which stays at the end of a walk.
+// The place that one step leads to from each place; at the end of a walk, the step stays there.
 fn once_up(alloc: Global, parents: &[Option<usize>]) -> Result<Vec<usize>, NoMemory>
     requires { LeadsWithin parents.now }
     ensures { IfOk result (λ far. LeadsBy parents.now 1 far.items) }
@@ -62,7 +63,7 @@ fn once_up(alloc: Global, parents: &[Option<usize>]) -> Result<Vec<usize>, NoMem
     Ok(far)
 }
 
-// Where twice as many steps lead.
+// The place that twice as many steps lead to.
 fn twice(alloc: Global, far: &[usize]) -> Result<Vec<usize>, NoMemory>
     requires { All (λ place. place < length far.now) far.now }
     ensures { IfOk result (λ further. further.items ≡ map (λ place. get_or far.now place 0) far.now) }

@@ -17,7 +17,7 @@ pub struct Tree {
     parents: Vec<Option<usize>>,
     // The first child of each place.
     firsts: Vec<Option<usize>>,
-    // After each child the next one of its parent.
+    // For each child, the next child of the same parent.
     nexts: Vec<Option<usize>>,
 }
 
@@ -34,7 +34,7 @@ impl Model for Tree {
 }
 
 impl Tree {
-    /// The tree of these parents, which are places below their number.
+    /// The tree of these parents, each of which is a place below their number.
     pub fn of(alloc: Global, parents: Vec<Option<usize>>) -> Result<Self, NoMemory>
         requires { LeadsWithin parents.items }
         ensures { IfOk result (λ tree. tree ≡ parents.items) }
@@ -100,7 +100,7 @@ impl Tree {
     }
 }
 
-// Puts a place among others that are in order, unless it is the root or it is there.
+// Adds a place to others that are in order, unless it is the root or already there.
 fn add_other(places: &mut BTreeSet<usize>, place: usize, root: usize) -> Result<(), NoMemory>
     ensures has { OnOk result ((other : ℕ) → has_place places.new.keys other
         ≡ (has_place places.old.keys other || (other == place && not (place == root)))) }
@@ -114,7 +114,7 @@ fn add_other(places: &mut BTreeSet<usize>, place: usize, root: usize) -> Result<
     Ok(())
 }
 
-/// Puts a place among others that are in order, unless it is there.
+/// Adds a place to others that are in order, unless it is already there.
 pub fn add_place(places: &mut BTreeSet<usize>, place: usize) -> Result<(), NoMemory>
     ensures { OnOk result (places.new.keys ≡ insert_key nat_cmp places.old.keys place) }
 {

@@ -1,4 +1,4 @@
--- What was read of bytes stays when bytes follow.
+-- What was read of bytes stays the same if more bytes follow.
 use Rattle.std.proofs.Common.{◌≡◌, ◌≢◌, ◌⊎◌, ℕ, ◌+◌, ◌-◌, ◌≤◌, ◌<◌, List, [], ◌++◌, length, take, drop, Bool, true, false, refl, sym, ap, subst, ◌∙◌, inl, inr, arith, append-nil, append_assoc, length-append, length-drop}
 use Rattle.std.specs.Prelude.{nat_le, nat_lt, slice_range, if◌then◌else◌}
 use Rattle.std.specs.Str.{IsUtf8}
@@ -20,9 +20,9 @@ true_or_false : (b : Bool) → (b ≡ true) ⊎ (b ≡ false)
 true_or_false true = inl refl
 true_or_false false = inr refl
 
--- ---- a head, when bytes follow
+-- ---- a head, if more bytes follow
 
--- a part of the bytes stays
+-- a part of the bytes stays the same
 pub range_more : (bytes more : List ℕ) (start end : ℕ) → start ≤ end → end ≤ length bytes
     → slice_range (bytes ++ more) start end ≡ slice_range bytes start end
 range_more bytes more start end ordered within =
@@ -53,9 +53,9 @@ tells_more bytes more head HeadRead.More tells = absurd tells
 tells_more bytes more head (HeadRead.Bad fault) tells = tells
 tells_more bytes more head (HeadRead.Whole read) tells = (tells.0, head_more bytes more head read tells.1)
 
--- ---- the front, when bytes follow
+-- ---- the front, if more bytes follow
 
--- the front of more bytes goes on from that of fewer, and not at all where it is full
+-- the front of more bytes continues that of fewer, and is the same if that is full
 pub record GoesOn (n : ℕ) (bytes more : List ℕ) : Type 0 where
   pub tail : List ℕ
   pub is : take n (bytes ++ more) ≡ take n bytes ++ tail
@@ -78,11 +78,11 @@ goes_on_by n bytes more (inr few) =
 goes_on : (n : ℕ) (bytes more : List ℕ) → GoesOn n bytes more
 goes_on n bytes more = goes_on_by n bytes more (true_or_false (nat_le n (length bytes)))
 
--- no head begins so, whatever follows
+-- no head starts like this, whatever follows
 never_more : (front tail : List ℕ) → NeverHasRequest front → NeverHasRequest (front ++ tail)
 never_more front tail never further = subst HasNoRequest (sym (append_assoc front tail further)) (never (tail ++ further))
 
--- what isn't there yet stays away where all bytes are there that count
+-- what isn't there yet stays absent if all bytes that count are there
 stays_away : (front tail bytes more : List ℕ) (read : HeadRead) → (8192 ≤ length bytes → tail ≡ []) → length bytes ≤ length more → read ≢ HeadRead.More → HasNoRequest front → MayBecomeRequest front → read ≡ unfinished_read (length bytes) → (nat_lt (length bytes) 8192 ≡ true) ⊎ (nat_lt (length bytes) 8192 ≡ false) → IsFrontRead (front ++ tail) more read
 stays_away front tail bytes more read full grows other none may is (inl few) =
     absurd (other (is ∙ ap (λ b. if b then HeadRead.More else HeadRead.Bad Refusal.HeadTooLong) few))
@@ -97,14 +97,14 @@ stays_away front tail bytes more read full grows other none may is (inr many) =
       long ∙ sym (ap (λ b. if b then HeadRead.More else HeadRead.Bad Refusal.HeadTooLong) enough_more),
     )
 
--- what was read of a front stays
+-- what was read of a front stays the same
 front_more : (front tail bytes more : List ℕ) (read : HeadRead) → (8192 ≤ length bytes → tail ≡ []) → read ≢ HeadRead.More → IsFrontRead front bytes read → IsFrontRead (front ++ tail) (bytes ++ more) read
 front_more front tail bytes more read full other (inl (none, may, is)) = stays_away front tail bytes (bytes ++ more) read full (omega (arith, length-append bytes more)) other none may is (true_or_false (nat_lt (length bytes) 8192))
 front_more front tail bytes more read full other (inr (inl (never, is))) = inr (inl (never_more front tail never, is))
 front_more front tail bytes more read full other (inr (inr (head, rest, reads, tells))) =
     inr (inr (head, rest ++ tail, ReadsRequest-append front head rest tail reads, tells_more bytes more head read tells))
 
--- what was read of a head stays when bytes follow
+-- what was read of a head stays the same if more bytes follow
 pub read_more : (bytes more : List ℕ) (read : HeadRead) → read ≢ HeadRead.More → IsHeadRead bytes read → IsHeadRead (bytes ++ more) read
 read_more bytes more read other is =
     let on = goes_on 8192 bytes more in
@@ -118,7 +118,7 @@ pub target_text : (front : List ℕ) (spans : List HeaderSpan) (found : RequestS
     → IsUtf8 (slice_range front found.path.start found.path.end)
 target_text front spans found (head, at) = subst (λ (l : List ℕ). IsUtf8 l) (sym at.path) at.reads.0.target_text
 
--- what the head tells in the front, it tells in the bytes
+-- what the head says in the front, it says in the bytes
 pub front_read : (bytes front : List ℕ) (spans : List HeaderSpan) (found : RequestSpans) (read : HeadRead) → front ≡ take 8192 bytes
     → IsRequestOf front spans found → ((head : RequestHead) → IsRequestAt front spans found head → Tells front head read)
     → IsHeadRead bytes read

@@ -10,7 +10,7 @@ use Rattle.std.proofs.lemmas.Str.Parse.{IsNumeralModel, numerals_by_value, tells
 own : IsNumeralModel (λ ds. all_ascii_digits ds ≡ true) (digits_value 10)
 own = numerals_by_value _ tells_all_ascii_digits
 
--- ten digits are read as the number that they write
+-- up to ten digits are read as the number that they write
 pub ten_read : {E : Type 0} (bs : List ℕ) (r : Result ℕ E) → ParsesUnsigned 64 10 bs r → all_ascii_digits bs ≡ true → 0 < length bs → length bs ≤ 10 → r ≡ Ok (digits_value 10 bs)
 ten_read bs r parses digits some few = parse_gives own 64 bs r parses digits some (omega (arith, digits_value_short own bs 10 digits few))
 

@@ -1,4 +1,4 @@
--- What is read of bytes, and what stays of it when bytes follow.
+-- What is read of bytes, and what stays the same of it if more bytes follow.
 use Rattle.std.proofs.Common.{◌≡◌, ◌⊎◌, ℕ, ◌+◌, ◌≤◌, List, ◌∷◌, ◌++◌, length, take, drop, Bool, true, false, refl, sym, ap, ◌∙◌, subst, inl, inr, arith, length-append, length-drop}
 use Rattle.std.specs.Prelude.{nat_le, nat_lt, if◌then◌else◌}
 use Rattle.std.specs.List.{flat_map}
@@ -30,7 +30,7 @@ head_in other HeadRead.More = other
 head_in other (HeadRead.Bad fault) = other
 head_in other (HeadRead.Whole head) = head
 
--- a whole request stands at the front of the bytes
+-- the bytes start with a complete request
 pub record Whole (bytes : List ℕ) (head : Head) : Type 0 where
   pub read : IsHeadRead bytes (HeadRead.Whole head)
   pub fits : size_of head ≤ length bytes
@@ -115,7 +115,7 @@ bad_of_read bytes fault (HeadRead.Whole found, is, same) =
 
 -- ---- a head that was read
 
--- a whole head stands at the front of the bytes
+-- the bytes start with a complete head
 pub record Found (bytes : List ℕ) (head : Head) : Type 0 where
   pub printed : RequestHead
   pub is : IsHead bytes printed head
@@ -129,7 +129,7 @@ found_of bytes head (inl (none, may, is)) = absurd (false≢true (sym (ap is_who
 found_of bytes head (inr (inl (never, is))) = absurd (false≢true (sym (ap is_whole is)))
 found_of bytes head (inr (inr (printed, rest, reads, tells))) = record { printed = printed; is = tells.1 }
 
--- its target stays when bytes follow
+-- its target stays the same if more bytes follow
 pub target_more : (bytes more : List ℕ) (head : Head) → IsHeadRead bytes (HeadRead.Whole head)
     → target_in (bytes ++ more) head ≡ target_in bytes head
 target_more bytes more head read =
@@ -149,7 +149,7 @@ body_more bytes more head fits =
     ap (take head.body) (drop-append-le head.size bytes more (omega (arith, fits)))
     ∙ take-append-le head.body (drop head.size bytes) more within
 
--- and what the whole request asks
+-- and what the complete request asks
 pub asked_more : (bytes more : List ℕ) (head : Head) → IsRead bytes (HeadRead.Whole head)
     → asked_in (bytes ++ more) head ≡ asked_in bytes head
 asked_more bytes more head read =

@@ -1,4 +1,4 @@
--- Heads take more bytes than they have headers, so room for the headers of any head is never wanting.
+-- Heads have more bytes than headers, so room for the headers of any head never runs out.
 use Rattle.std.proofs.Common.{◌≡◌, ℕ, ◌*◌, ◌<◌, ◌≤◌, List, [], ◌∷◌, ◌++◌, length, All, sym, ap, subst, arith, length-append}
 use Rattle.std.proofs.lemmas.List.{append-nil}
 use Rattle.std.proofs.lemmas.List.Elements.{All-head, All-tail}
@@ -16,12 +16,12 @@ use Rattle.httparse.specs.declared.Status.TheVariants.{Complete}
 use Rattle.httparse.specs.declared.spans.HeaderSpan.{HeaderSpan}
 use Rattle.httparse.specs.declared.spans.RequestSpans.{RequestSpans}
 
--- a line end has a byte
+-- a line end has at least one byte
 end_some : (e : LineEnd) → 1 ≤ length (print_end e)
 end_some crlf = omega arith
 end_some lf = omega arith
 
--- a field has three bytes or more
+-- a field has at least three bytes
 field_some : (f : Field) → IsField f → 3 ≤ length (print_field f)
 field_some f is = omega (arith, is.name.0, end_some f.end, length-append f.name (58 ∷ (f.raw ++ print_end f.end)), length-append f.raw (print_end f.end), length-append f.name (58 ∷ f.raw), length-append (f.name ++ 58 ∷ f.raw) (print_end f.end))
 
@@ -59,7 +59,7 @@ roomy front few exceeds =
       exceeds.5,
     )
 
--- a head that is there has too many headers, where each head does that begins so
+-- a head that is there has too many headers, if each head that starts like this does
 pub crowded_here : (front : List ℕ) (h : RequestHead) (rest : List ℕ) → RequestOverflows 32 front → ReadsRequest front h rest → 32 < length h.fields
 crowded_here front h rest many reads = many [] h rest (subst (λ (l : List ℕ). ReadsRequest l h rest) (sym (append-nil front)) reads)
 
@@ -67,6 +67,6 @@ crowded_here front h rest many reads = many [] h rest (subst (λ (l : List ℕ).
 pub too_many : (h : RequestHead) → 32 < length h.fields → fault_of h ≡ Some Refusal.HeadTooLong
 too_many h many = grind (arith, nat_tests)
 
--- what is said of a whole answer holds of its spans
+-- what is said of a complete answer holds for its spans
 pub whole : (front : List ℕ) (headers : List HeaderSpan) (s : Status RequestSpans) (spans : RequestSpans) → s ≡ Complete spans → IfComplete {E = Error} (Ok s) (IsRequestOf front headers) → IsRequestOf front headers spans
 whole front headers s spans is given = subst (λ (t : Status RequestSpans). IfComplete {E = Error} (Ok t) (IsRequestOf front headers)) is given

@@ -15,7 +15,7 @@ read_in (Ok scan) place old new (Err error) ok inserts = absurd (false≢true ok
 read_in (Err error) place old new (Ok done) ok inserts = inserts.0
 read_in (Err error) place old new (Err other) ok inserts = absurd (false≢true ok)
 
--- the routes with the one that was inserted
+-- the routes together with the one that was inserted
 pub inserted : (route : List ℕ) (place : Place) (old new : Routes) (r : Result (Unit {0}) InsertError) → is_ok r ≡ true → InsertsRead (parse_route route) place old new r → new ≡ with_route route place old
 unfolding with_route
 inserted route place old new r ok inserts = read_in (parse_route route) place old new r ok inserts

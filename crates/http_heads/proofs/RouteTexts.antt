@@ -1,4 +1,4 @@
--- The words of a path that is ASCII are texts.
+-- The words of an ASCII path are texts.
 use Rattle.std.proofs.Common.{◌≡◌, ◌⊎◌, ℕ, zero, suc, ◌-◌, ◌<◌, List, [], ◌∷◌, take, drop, length, Bool, true, false, cond, ◌==◌, ltb, leb, ◌&&◌, Option, Some, None, All, refl, subst, inl, inr, arith}
 use Rattle.std.specs.Char.{is_ascii}
 use Rattle.std.specs.List.{list_all}
@@ -15,7 +15,7 @@ use Rattle.matchit.specs.Seek.{first, has_slash, longest_suffix, or_else, own, p
 use Rattle.http_heads.specs.Routes.{Routes, routes, with_route}
 use Rattle.http_heads.specs.declared.routes.Place.{Place}
 
--- ---- what holds of each route of a router holds of the one that a path has
+-- ---- what holds for each route of a router holds for the one that a path has
 
 abbrev pub AllKeys : {K : Type 0} → (K → Type 0) → RowsOf K → Type 0
 AllKeys P [] = Unit {0}
@@ -112,7 +112,7 @@ part_text bytes start end is =
     part_by (leb start end && leb end (length bytes)) (take (end - start) (drop start bytes))
     (IsAscii-take (drop start bytes) (end - start) (IsAscii-drop bytes start is))
 
--- what the parameters of a route of ASCII take from a path of ASCII are texts
+-- what the parameters of an ASCII route take from an ASCII path are texts
 pub walk_texts : (pattern text path : List ℕ) (names : List (ℕ × ℕ)) (token at : ℕ) → IsAscii text → IsAscii path
     → AllText (walk pattern text path names token at)
 walk_texts pattern text path [] token at plain is = tt

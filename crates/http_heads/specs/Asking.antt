@@ -18,18 +18,18 @@ use Rattle.http_heads.specs.declared.routes.Place.{Place}
 abbrev pub Words : Type 0
 Words = List (List ℕ × List ℕ)
 
--- The words that the parameters of its route took from a path. No word of a request has another character than those of
--- ASCII, so a path with one has no words.
+-- The words that the parameters of its route took from a path. The words of a request consist of ASCII characters only,
+-- so a path with any other character has no words.
 abbrev pub words_by : RouteOf Place → List ℕ → Words
 words_by route path =
     if list_all is_ascii path then walk route.pattern route.text path route.names 0 0 else []
 
 infixl 10 ◌>>=◌
--- What is made of a value, where there is one.
+-- What is made of a value, if there is one.
 abbrev pub ◌>>=◌ : {A B : Type 0} → Option A → (A → Option B) → Option B
 o >>= f = option_and_then f o
 
--- ---- what the words ask, where each of them is what it has to be
+-- ---- what the words ask, if each of them is what it has to be
 
 -- The issuer and the number of an upload.
 abbrev pub key_in : Words → Option (Lei × ℕ)
@@ -52,7 +52,7 @@ unfoldable pub upload_in : Words → List ℕ → Option Request
 upload_in words body =
     option_map (λ key. Request.Upload (record { office = key.0; number = key.1; body = body })) (key_in words)
 
--- To say what was answered to an upload.
+-- To show the answer to an upload.
 unfoldable pub kept_in : Words → Option Request
 kept_in words = option_map (λ key. Request.Kept key.0 key.1) (key_in words)
 
@@ -97,11 +97,11 @@ abbrev pub asks : Option Request → Asked
 asks None = Asked.Refuse Refusal.Path
 asks (Some request) = Asked.Ask request
 
--- The place has other methods: these.
+-- The place has only these other methods.
 abbrev pub other_method : Allowed → Asked
 other_method allowed = Asked.Refuse (Refusal.Method allowed)
 
--- What a method asks at a place, with the words of the path, and with a body, of which only an upload makes use.
+-- What a method asks at a place, with the words of the path, and with a body, which only an upload uses.
 abbrev pub asked_at : Place → Method → Words → List ℕ → Asked
 asked_at Place.Issuer Method.Put words body = asks (accredit_in words)
 asked_at Place.Issuer Method.Get words body = other_method Allowed.Put

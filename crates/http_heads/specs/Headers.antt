@@ -8,11 +8,11 @@ use Rattle.httparse.specs.Grammar.{trim_ows}
 use Rattle.http_heads.specs.declared.headers.ContentLength.{ContentLength}
 use Rattle.http_heads.specs.declared.headers.HeaderFacts.{HeaderFacts}
 
--- A header: its name, and its value without the white space around it.
+-- A header: its name, and its value without the whitespace around it.
 abbrev pub Header : Type 0
 Header = List ℕ × List ℕ
 
--- Two texts are one, but for the case of ASCII letters.
+-- Two texts are equal, apart from ASCII case.
 abbrev pub are_alike : List ℕ → List ℕ → Bool
 are_alike first second = bytes_eq (map to_ascii_lowercase first) (map to_ascii_lowercase second)
 
@@ -20,7 +20,7 @@ are_alike first second = bytes_eq (map to_ascii_lowercase first) (map to_ascii_l
 abbrev pub has_name : List ℕ → Header → Bool
 has_name name header = are_alike header.0 name
 
--- The values of the headers of this name, in order.
+-- The values of the headers with this name, in order.
 abbrev pub values_of : List ℕ → List Header → List (List ℕ)
 values_of name headers = map (λ header. header.1) (filter (has_name name) headers)
 
@@ -38,8 +38,8 @@ length_in value =
     if nat_le 1 (length value) && nat_le (length value) 10 && all_ascii_digits value then Some
     (digits_value 10 value) else None
 
--- The length that one value and all others state together: their one number. Where one of them states none, or two
--- state different numbers, it is wrong.
+-- The length that one value and all others state together: the number that all state. If one of them states none, or
+-- two state different numbers, it is wrong.
 abbrev pub joint_length : Option ℕ → ContentLength → ContentLength
 joint_length None others = ContentLength.Wrong
 joint_length (Some number) ContentLength.Absent = ContentLength.Bytes number
@@ -47,7 +47,7 @@ joint_length (Some number) (ContentLength.Bytes other) =
     if number == other then ContentLength.Bytes number else ContentLength.Wrong
 joint_length (Some number) ContentLength.Wrong = ContentLength.Wrong
 
--- The length that the values state together. Where there are none, it is absent.
+-- The length that the values state together. If there are none, it is absent.
 abbrev pub length_of_values : List (List ℕ) → ContentLength
 length_of_values [] = ContentLength.Absent
 length_of_values (value ∷ values) = joint_length (length_in value) (length_of_values values)
@@ -58,7 +58,8 @@ content_length headers = length_of_values (values_of (codes "content-length") he
 
 -- ---- Connection
 
--- One of the parts of a value is `close`: it is cut at commas, and spaces and tabs at both ends of a part don't count.
+-- One of the parts of a value is `close`: the value is cut at commas, and spaces and tabs at both ends of a part don't
+-- count.
 abbrev pub has_close : List ℕ → Bool
 has_close value = list_any (λ part. are_alike (trim_ows part) (codes "close")) (slice_split (λ byte. byte == 44) value)
 
@@ -70,7 +71,7 @@ is_close header = has_name (codes "connection") header && has_close header.1
 abbrev pub asks_to_close : List Header → Bool
 asks_to_close headers = list_any is_close headers
 
--- ---- all of it
+-- ---- all headers
 
 -- What the headers say.
 abbrev pub header_facts : List Header → HeaderFacts

@@ -1,4 +1,4 @@
--- What is read of the head of a request (RFC 9112), by the grammar of `httparse`. The limits and the order of the
+-- What is read from the head of a request (RFC 9112), by the grammar of `httparse`. The limits and the order of the
 -- refusals are this project's profile.
 use Rattle.std.specs.Prelude.{◌≡◌, ◌⊎◌, ◌≤◌, ℕ, ◌==◌, Bool, false, true, ◌||◌, List, length, map, take, slice_range, nat_lt, codes, if◌then◌else◌, Option, None, Some}
 use Rattle.std.specs.Str.{IsUtf8, bytes_eq}
@@ -14,7 +14,7 @@ use Rattle.http_heads.specs.declared.headers.HeaderFacts.{HeaderFacts}
 use Rattle.http_heads.specs.declared.routes.Method.{Method}
 use Rattle.http_heads.specs.declared.routes.Place.{Place}
 
--- The method, as far as a route can know it.
+-- The method, if it is one that routes distinguish.
 abbrev pub method_of : List ℕ → Method
 method_of name =
     if bytes_eq name (codes "PUT") then Method.Put
@@ -24,32 +24,32 @@ method_of name =
 abbrev pub headers_of : RequestHead → List Header
 headers_of head = map name_and_value head.fields
 
--- A head asks to close: its version is 1.0, or a header asks it.
+-- A head asks to close: its version is 1.0, or a header asks for it.
 abbrev pub is_last : RequestHead → Bool
 is_last head = head.minor == 0 || asks_to_close (headers_of head)
 
--- How many bytes the body has.
+-- The number of bytes in the body.
 abbrev pub body_length : ContentLength → ℕ
 body_length (ContentLength.Bytes number) = number
 body_length ContentLength.Absent = 0
 body_length ContentLength.Wrong = 0
 
--- What is refused of a stated length: a wrong one, and one of more than 4,194,304 bytes.
+-- The refusal for a stated length: a wrong one, or one of more than 4,194,304 bytes.
 abbrev pub fault_of_length : ContentLength → Option Refusal
 fault_of_length ContentLength.Absent = None
 fault_of_length (ContentLength.Bytes number) = if nat_lt 4194304 number then Some Refusal.TooLong else None
 fault_of_length ContentLength.Wrong = Some Refusal.Head
 
--- What is refused of the headers: first that they say how the body is coded.
+-- The refusal for the headers. That they say how the body is coded comes first.
 abbrev pub fault_of_headers : HeaderFacts → Option Refusal
 fault_of_headers facts = if facts.coded then Some Refusal.LengthRequired else fault_of_length facts.body
 
--- The head is one of an upload, which needs a length, and states none.
+-- The head belongs to an upload, which needs a length, and states none.
 abbrev pub lacks_length : Method → Option Place → ContentLength → Bool
 lacks_length Method.Put (Some Place.Upload) ContentLength.Absent = true
 lacks_length _ _ _ = false
 
--- What is refused where the headers aren't.
+-- The refusal for a missing length of an upload, if the headers aren't refused.
 abbrev pub fault_of_upload : Method → Option Place → ContentLength → Option Refusal
 fault_of_upload method place body = if lacks_length method place body then Some
     Refusal.LengthRequired else None
@@ -59,12 +59,13 @@ abbrev pub first_fault : Option Refusal → Option Refusal → Option Refusal
 first_fault None second = second
 first_fault (Some fault) second = Some fault
 
--- Why a head of so many headers at most is refused: for what its headers say, or for the length that an upload lacks.
+-- Why a head with at most the allowed number of headers is refused: for what they say, or for a missing length of an
+-- upload.
 abbrev pub fault_by : HeaderFacts → Method → Option Place → Option Refusal
 fault_by facts method place = first_fault (fault_of_headers facts) (fault_of_upload method place facts.body)
 
--- Why a whole head is refused, the first that applies: it has more than 32 headers; what these say; or it is one of an
--- upload without a length.
+-- Why a complete head is refused, the first that applies: it has more than 32 headers; what the headers say; or it
+-- belongs to an upload without a length.
 abbrev pub fault_of : RequestHead → Option Refusal
 fault_of head =
     if nat_lt 32 (length head.fields) then Some Refusal.HeadTooLong
@@ -82,25 +83,25 @@ pub record IsHead (bytes : List ℕ) (head : RequestHead) (read : Head) : Type 0
   pub size : read.size ≡ length (print_request head)
   pub fits : read.size ≤ length bytes
 
--- What is answered tells this whole head: that it is refused, and why, or what it says.
+-- The reading reports this complete head: that it is refused, and why, or what it says.
 abbrev pub Tells : List ℕ → RequestHead → HeadRead → Type 0
 Tells bytes head HeadRead.More = ⊥
 Tells bytes head (HeadRead.Bad fault) = fault_of head ≡ Some fault
 Tells bytes head (HeadRead.Whole read) = (fault_of head ≡ None) × IsHead bytes head read
 
--- What is answered of so many bytes, the first of which have no whole head and may have one later: 8,192 bytes have to
+-- The reading of this many bytes, the first of which have no complete head and may have one later: 8,192 bytes have to
 -- be enough.
 abbrev pub unfinished_read : ℕ → HeadRead
 unfinished_read size = if nat_lt size 8192 then HeadRead.More else HeadRead.Bad Refusal.HeadTooLong
 
--- What is answered of bytes with this front: the head isn't there yet; or no head begins so; or what the head tells
--- that is there.
+-- The reading of bytes with this front: the head isn't complete yet; or no head starts like this; or what the head
+-- there says.
 abbrev pub IsFrontRead : List ℕ → List ℕ → HeadRead → Type 0
 IsFrontRead front bytes read =
     (HasNoRequest front × MayBecomeRequest front × (read ≡ unfinished_read (length bytes)))
     ⊎ ((NeverHasRequest front × (read ≡ HeadRead.Bad Refusal.Head))
     ⊎ ((head : RequestHead) × (rest : List ℕ) × ReadsRequest front head rest × Tells bytes head read))
 
--- What is answered of bytes at whose front a head is looked for, within the first 8,192.
+-- The reading of bytes with a head at the front, which is looked for within the first 8,192.
 abbrev pub IsHeadRead : List ℕ → HeadRead → Type 0
 IsHeadRead bytes read = IsFrontRead (take 8192 bytes) bytes read

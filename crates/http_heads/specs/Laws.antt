@@ -5,14 +5,14 @@ use Rattle.matchit.specs.Router.{RouteOf}
 use Rattle.matchit.specs.Rows.{param_token}
 use Rattle.http_heads.specs.declared.routes.Place.{Place}
 
--- A route: what its path is made of, the names of its parameters in order, and the place to which it leads. In the path
--- a byte stands for itself, and 256 for a parameter, which takes one byte or more of a path, and no slash.
+-- A route: the parts of its path, the names of its parameters in order, and the place that it leads to. In the path a
+-- byte means itself, and 256 means a parameter, which takes one or more bytes of a path, and no slash.
 pub record RouteRow : Type 0 where
   pub path : List ℕ
   pub names : List (List ℕ)
   pub place : Place
 
--- A route of a router, written so.
+-- A route of a router, written as a row.
 abbrev pub row_of : List ℕ × RouteOf Place → RouteRow
 row_of route = record {
   path = route.0;
@@ -20,11 +20,11 @@ row_of route = record {
   place = route.1.value;
 }
 
--- A row of these.
+-- A row with these parts.
 abbrev pub route_row : List ℕ → List (List ℕ) → Place → RouteRow
 route_row path names place = record { path = path; names = names; place = place }
 
--- A parameter, which is the rest of a path or goes on with this.
+-- A parameter, followed by the rest of a path.
 abbrev pub param : List ℕ → List ℕ
 param rest = param_token ∷ rest
 

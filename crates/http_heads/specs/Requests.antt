@@ -1,4 +1,4 @@
--- The whole requests that bytes begin with: heads, each with the body of its stated length.
+-- The complete requests at the start of bytes: heads, each with a body of the stated length.
 use Rattle.std.specs.Prelude.{◌≡◌, ℕ, ◌+◌, List, length, take, drop, nat_le, slice_range, if◌then◌else◌}
 use Rattle.register_words.specs.declared.request.Asked.{Asked}
 use Rattle.http_heads.specs.Asking.{asked_of}
@@ -6,29 +6,29 @@ use Rattle.http_heads.specs.Heads.{IsHeadRead}
 use Rattle.http_heads.specs.declared.head.Head.{Head}
 use Rattle.http_heads.specs.declared.head.HeadRead.{HeadRead}
 
--- The length of a whole request.
+-- The length of a complete request.
 abbrev pub size_of : Head → ℕ
 size_of head = head.size + head.body
 
--- What is read of so many bytes whose head says this: a request is whole once its body is there.
+-- What is read of this many bytes whose head says this: a request is complete once its body is there.
 abbrev pub with_body : ℕ → HeadRead → HeadRead
 with_body size HeadRead.More = HeadRead.More
 with_body size (HeadRead.Bad fault) = HeadRead.Bad fault
 with_body size (HeadRead.Whole head) = if nat_le (size_of head) size then HeadRead.Whole head
     else HeadRead.More
 
--- What is read at the front of bytes: a whole request; or a head that is refused; or more bytes are needed.
+-- What is read at the front of bytes: a complete request; or a head that is refused; or more bytes are needed.
 abbrev pub IsRead : List ℕ → HeadRead → Type 0
 IsRead bytes read = (found : HeadRead) × IsHeadRead bytes found × (read ≡ with_body (length bytes) found)
 
--- The target of a head that stands at the front of the bytes.
+-- The target of a head at the front of the bytes.
 abbrev pub target_in : List ℕ → Head → List ℕ
 target_in bytes head = slice_range bytes head.target.start head.target.end
 
--- The body of a request that stands at the front of the bytes.
+-- The body of a request at the front of the bytes.
 abbrev pub body_in : List ℕ → Head → List ℕ
 body_in bytes head = take head.body (drop head.size bytes)
 
--- What the whole request at the front of the bytes asks.
+-- What the complete request at the front of the bytes asks.
 abbrev pub asked_in : List ℕ → Head → Asked
 asked_in bytes head = asked_of head.method (target_in bytes head) (body_in bytes head)

@@ -1,4 +1,4 @@
--- The heads of responses (RFC 9112). Which headers stand in one, and in which order, is this project's profile.
+-- The heads of responses (RFC 9112). Which headers a head has, and in which order, is this project's profile.
 use Rattle.std.specs.Prelude.{ℕ, List, [], ◌∷◌, Bool, ◌&&◌, codes, decimal, nat_le, nat_lt, if◌then◌else◌, unwrap_or, Option, None, Some}
 use Rattle.std.specs.List.{flat_map}
 use Rattle.http.specs.StatusCode.{reason_phrase}
@@ -6,7 +6,7 @@ use Rattle.http_heads.specs.declared.responses.Content.{Content}
 use Rattle.http_heads.specs.declared.responses.Response.{Response}
 use Rattle.register_words.specs.declared.reply.Allowed.{Allowed}
 
--- The phrase of a status code of three digits (RFC 9110), where it has one.
+-- The phrase of a status code of three digits (RFC 9110), if it has one.
 abbrev pub phrase_of : ℕ → List ℕ
 phrase_of code = if nat_le 100 code && nat_lt code 1000 then unwrap_or (reason_phrase code) [] else []
 
@@ -16,14 +16,14 @@ type_of Content.Json = codes "application/json"
 type_of Content.Csv = codes "text/csv"
 type_of Content.Plain = codes "text/plain"
 
--- The methods of a route, as a header that begins with a line end.
+-- The methods of a route, as a header that starts with a line end.
 abbrev pub allow_header : Option Allowed → List ℕ
 allow_header None = []
 allow_header (Some Allowed.Put) = codes "\r\nallow: PUT"
 allow_header (Some Allowed.Get) = codes "\r\nallow: GET"
 allow_header (Some Allowed.GetPut) = codes "\r\nallow: GET, PUT"
 
--- That the connection is closed behind the response, as such a header.
+-- The header, written the same way, that the connection is closed after the response.
 abbrev pub close_header : Bool → List ℕ
 close_header closes = if closes then codes "\r\nconnection: close" else []
 

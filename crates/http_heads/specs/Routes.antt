@@ -1,5 +1,4 @@
--- The routes of requests, by what `matchit` says of a router, and the places to which they lead. This project's
--- profile.
+-- The routes of requests, by what `matchit` says of a router, and the places that they lead to. This project's profile.
 use Rattle.std.specs.Prelude.{ℕ, ◌==◌, List, [], codes, Option, option_map, Result, Ok, Err}
 use Rattle.std.specs.List.{before_first}
 use Rattle.matchit.specs.Order.{placed}
@@ -14,12 +13,12 @@ use Rattle.http_heads.specs.declared.routes.Place.{Place}
 abbrev pub Routes : Type 0
 Routes = RowsOf (RouteOf Place)
 
--- The routes with one more, as it was read.
+-- The routes with one more, in the form in which it was read.
 abbrev pub with_read : Result Scan InsertError → Place → Routes → Routes
 with_read (Ok route) place routes = placed (route.pattern, route_from route place) routes
 with_read (Err error) place routes = routes
 
--- The routes with the one of this text.
+-- The routes with one added for this text.
 unfoldable pub with_route : List ℕ → Place → Routes → Routes
 with_route text place routes = with_read (parse_route text) place routes
 
@@ -34,7 +33,7 @@ routes =
     (with_route (codes "/v1/issuers/{lou}/uploads/{number}") Place.Upload
     (with_route (codes "/v1/issuers/{lou}") Place.Issuer []))))))
 
--- The path of a target: what stands before its first `?`. It isn't decoded.
+-- The path of a target: what precedes its first `?`. It isn't decoded.
 abbrev pub path_of : List ℕ → List ℕ
 path_of target = before_first (λ byte. byte == 63) target
 
@@ -42,6 +41,6 @@ path_of target = before_first (λ byte. byte == 63) target
 abbrev pub route_of : List ℕ → Option (RouteOf Place)
 route_of path = first routes path
 
--- The place that a path has, where it has a route.
+-- The place of a path, if it has a route.
 abbrev pub place_of : List ℕ → Option Place
 place_of path = option_map (λ route. route.value) (route_of path)

@@ -37,7 +37,7 @@ impl<'k, 'v> Model for Words<'k, 'v> {
 }
 
 impl<'k, 'v> Words<'k, 'v> {
-    // The words of a route and a path that are ASCII.
+    // The words of a route and a path, if the path is ASCII.
     fn of(params: Params<'k, 'v>) -> Words<'k, 'v>
         requires text { list_all is_ascii params.text.now ≡ true }
         requires path { list_all is_ascii params.path.now ≡ true }
@@ -47,7 +47,7 @@ impl<'k, 'v> Words<'k, 'v> {
         Words { params }
     }
 
-    // The word that the parameter of this name took.
+    // The word that the parameter with this name took.
     fn get(&self, name: &str) -> Option<&'v [u8]>
         ensures { option_map (λ word. word.now) result ≡ named name.now self.now }
     {
@@ -64,8 +64,8 @@ fn is_ascii(text: &str) -> bool
     text.bytes().all(|byte| byte.is_ascii())
 }
 
-/// What a method asks of a target, with this body, of which only an upload makes use. Its one error is want of memory
-/// for the body of an upload.
+/// What a method asks of a target, with this body, which only an upload uses. The only error is lack of memory for the
+/// body of an upload.
 pub fn asked_of(
     alloc: Global,
     router: &Router<Place>,

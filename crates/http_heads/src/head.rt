@@ -14,25 +14,25 @@ use httparse::{Error, Status};
 use matchit::Router;
 use register_words::Refusal;
 
-/// A head has to be whole within so many bytes. This project's profile.
+/// A head must be complete within this many bytes. This project's profile.
 pub const MAX_HEAD: usize = 8_192;
 
-/// A head has at most so many headers. This project's profile.
+/// A head has at most this many headers. This project's profile.
 const MAX_HEADERS: usize = 32;
 
-/// A body has at most so many bytes. This project's profile.
+/// A body has at most this many bytes. This project's profile.
 const MAX_BODY: usize = 4_194_304;
 
-// Room for the headers of any head, since a header has three bytes or more.
+// Room for the headers of any head, since a header has at least three bytes.
 const ROOM: usize = 2_731;
 
 /// What a head says that isn't refused.
 #[derive(Clone, Copy, Debug, PartialEq, Eq)]
 pub struct Head {
     pub method: Method,
-    /// Where the target lies.
+    /// The position of the target.
     pub target: Span,
-    /// The length of the head, where the body begins.
+    /// The length of the head, and so the offset of the body.
     pub size: usize,
     /// The length of the body, at most 4,194,304.
     pub body: usize,
@@ -40,10 +40,10 @@ pub struct Head {
     pub last: bool,
 }
 
-/// What is read at the front of some bytes.
+/// What is read at the front of the bytes.
 #[derive(Clone, Copy, Debug, PartialEq, Eq)]
 pub enum HeadRead {
-    /// The head isn't whole yet.
+    /// The head isn't complete yet.
     More,
     /// The head is refused, and nothing after it is read.
     Bad(Refusal),
@@ -65,7 +65,7 @@ pub fn read_head(router: &Router<Place>, bytes: &[u8]) -> HeadRead
     }
 }
 
-/// Reads the request at the front of the bytes: with `Whole` its body is there. It takes no memory.
+/// Reads the request at the front of the bytes: `Whole` means that its body is there. It takes no memory.
 pub fn read_whole(router: &Router<Place>, bytes: &[u8]) -> HeadRead
     requires { router.now ≡ routes }
     ensures { IsRead bytes.now result }
@@ -74,7 +74,7 @@ pub fn read_whole(router: &Router<Place>, bytes: &[u8]) -> HeadRead
     with_body(bytes.len(), head)
 }
 
-/// What is read of so many bytes whose head says this.
+/// What is read of this many bytes whose head says this.
 pub fn with_body(size: usize, read: HeadRead) -> HeadRead
     ensures { result ≡ with_body size read }
 {
@@ -95,7 +95,7 @@ fn if_there(size: usize, head: Head) -> HeadRead
     }
 }
 
-// The bytes within which a head has to be whole.
+// The bytes that must contain the complete head.
 fn front_of(bytes: &[u8]) -> &[u8]
     ensures front { result.now ≡ take 8192 bytes.now }
     ensures few { length result.now ≤ 8192 }
@@ -116,7 +116,7 @@ fn unfinished_read(size: usize) -> HeadRead
     }
 }
 
-// What is answered of bytes with this front, whose head has too many headers, if it has one.
+// The reading of bytes with this front, whose head, if it has one, has too many headers.
 fn overfull_front(front: &[u8], bytes: &[u8]) -> HeadRead
     requires few { length front.now ≤ 8192 }
     requires many { RequestOverflows 32 front.now }
@@ -130,7 +130,7 @@ fn overfull_front(front: &[u8], bytes: &[u8]) -> HeadRead
     }
 }
 
-// What a whole head tells that has room for its headers.
+// The reading of a complete head that has room for its headers.
 fn head_found(
     router: &Router<Place>,
     front: &[u8],
@@ -158,7 +158,7 @@ fn head_found(
     }
 }
 
-// Why a head is refused that has as many headers as it may have.
+// Why a head that has no more headers than allowed is refused.
 fn fault_by(
     router: &Router<Place>,
     facts: HeaderFacts,

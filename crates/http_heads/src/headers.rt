@@ -13,7 +13,7 @@ use httparse::spans::HeaderSpan;
 pub enum ContentLength {
     /// There are none.
     Absent,
-    /// The body has so many bytes.
+    /// The body has this many bytes.
     Bytes(usize),
     /// One of them isn't 1 to 10 digits, or two of them differ.
     Wrong,
@@ -29,7 +29,7 @@ pub struct HeaderFacts {
     pub closes: bool,
 }
 
-// What the headers say that lie at these places of the front.
+// What the headers at these positions of the front say.
 pub fn read_headers(front: &[u8], headers: &[HeaderSpan]) -> HeaderFacts
     requires { All (IsHeaderWithin (length front.now)) headers.now }
     ensures { result ≡ header_facts (map (header_bytes front.now) headers.now) }
@@ -46,7 +46,7 @@ pub fn read_headers(front: &[u8], headers: &[HeaderSpan]) -> HeaderFacts
     facts
 }
 
-// What a header says, and those after it.
+// What a header says, together with those after it.
 fn with_header(name: &[u8], value: &[u8], facts: HeaderFacts) -> HeaderFacts
     ensures { (others : List Header) → facts ≡ header_facts others
         → result ≡ header_facts ((name.now, value.now) ∷ others) }

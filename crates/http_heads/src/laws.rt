@@ -1,11 +1,11 @@
-//! What the words of the crates `http` and `matchit` come to here. Each of these is proved, and none does anything.
+//! What the texts of the crates `http` and `matchit` amount to here. Each law is proved, and its function does nothing.
 ghost use Rattle.std.specs.Prelude.{◌≡◌, codes, map};
 ghost use Rattle.http_heads.specs.Laws.{row_of, rows_in_order};
 ghost use Rattle.http_heads.specs.Responses.{phrase_of};
 ghost use Rattle.http_heads.specs.Routes.{routes};
 
-/// The phrases of the status codes that the register answers with are those of RFC 9110, but for 413, which has the
-/// phrase of RFC 7231, 431, which RFC 6585 adds, and 507, which RFC 4918 adds.
+/// The phrases of the status codes that the register answers with are those of RFC 9110, with three exceptions: 413 has
+/// the phrase of RFC 7231, 431 is added by RFC 6585, and 507 by RFC 4918.
 pub fn phrases_are_standard()
     ensures ok { phrase_of 200 ≡ codes "OK" }
     ensures created { phrase_of 201 ≡ codes "Created" }
@@ -21,7 +21,7 @@ pub fn phrases_are_standard()
     ensures insufficient_storage { phrase_of 507 ≡ codes "Insufficient Storage" }
 {}
 
-/// The router has these paths, each with the names of its parameters and the place to which it leads, and no others.
+/// The router has these paths, each with the names of its parameters and the place that it leads to, and no others.
 #[tactic(auto, unfolding(crate::specs::Routes::routes, crate::specs::Routes::with_route, matchit::proofs::OnLiterals::matchit_on_literals))]
 pub fn routes_have_these_paths()
     ensures { map row_of routes ≡ rows_in_order }

@@ -1,4 +1,4 @@
-//! Requests and responses of HTTP, but for what a connection does: the heads of requests and which are refused, what a
+//! HTTP requests and responses, apart from what a connection does: the heads of requests and which are refused, what a
 //! request asks, and the heads of responses.
 #![tactic(auto)]
 

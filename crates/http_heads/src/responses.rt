@@ -7,7 +7,7 @@ use http::StatusCode;
 use lei_outside::NoMemory;
 use register_words::Allowed;
 
-/// What the text of a response is.
+/// The kind of text in a response.
 #[derive(Clone, Copy, Debug, PartialEq, Eq)]
 pub enum Content {
     Json,
@@ -19,18 +19,18 @@ pub enum Content {
 /// What the head of a response says.
 #[derive(Clone, Copy, Debug, PartialEq, Eq)]
 pub struct Response {
-    /// The status code, after those of HTTP (RFC 9110).
+    /// The status code, following HTTP (RFC 9110).
     pub code: u16,
     pub content: Content,
     /// The number of bytes of the text.
     pub size: usize,
-    /// The methods of the route, where the request's method is another.
+    /// The methods of the route, if the request has another method.
     pub allow: Option<Allowed>,
     /// Whether the connection is closed after the response.
     pub closes: bool,
 }
 
-/// Puts the head of a response after what is there. After an `Err` a part of it may have been put.
+/// Appends the head of a response. After an `Err` a part of it may have been appended.
 pub fn put_head(out: &mut Vec<u8>, response: &Response) -> Result<(), NoMemory>
     ensures { OnOk result (out.new.items ≡ out.old.items ++ response_head response.now) }
 {

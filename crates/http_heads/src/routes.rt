@@ -1,4 +1,4 @@
-//! The routes of requests, and the places to which they lead.
+//! The routes of requests, and the places that they lead to.
 ghost use Rattle.std.specs.Prelude.{◌≡◌, IfOk, OnOk};
 ghost use Rattle.http_heads.specs.Routes.{path_of, place_of, routes, with_route};
 
@@ -6,7 +6,7 @@ use lei_outside::NoMemory;
 use matchit::Router;
 use std::alloc::Global;
 
-/// The method of a request (RFC 9110), as far as a route can know it.
+/// The method of a request (RFC 9110), if it is one that routes distinguish.
 #[derive(Clone, Copy, Debug, PartialEq, Eq)]
 pub enum Method {
     Put,
@@ -26,7 +26,7 @@ pub enum Place {
     Status,
 }
 
-/// The router of all routes. Its one error is want of memory.
+/// The router of all routes. The only error is lack of memory.
 pub fn router(alloc: Global) -> Result<Router<Place>, NoMemory>
     ensures { IfOk result (λ router. router ≡ routes) }
 {
@@ -70,7 +70,7 @@ pub fn path_of(target: &str) -> &str
     }
 }
 
-/// The place that a path has, where it has a route.
+/// The place of a path, if it has a route.
 pub fn place_of(router: &Router<Place>, path: &str) -> Option<Place>
     requires { router.now ≡ routes }
     ensures { result ≡ place_of path.now }

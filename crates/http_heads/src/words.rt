@@ -1,16 +1,16 @@
-//! Words of headers, without regard to the case of ASCII letters.
+//! Words of headers, without regard to ASCII case.
 ghost use Rattle.std.specs.Prelude.{◌≡◌, codes, reverse};
 ghost use Rattle.httparse.specs.Grammar.{skip_ows, trim_ows};
 ghost use Rattle.http_heads.specs.Headers.{are_alike, has_close};
 
-// Whether two texts are one, but for the case of ASCII letters.
+// Whether two texts are equal, apart from ASCII case.
 pub fn are_alike(first: &[u8], second: &[u8]) -> bool
     ensures { result ≡ are_alike first.now second.now }
 {
     first.eq_ignore_ascii_case(second)
 }
 
-// The bytes from the first that is no space or tab.
+// The bytes starting with the first that isn't a space or tab.
 fn without_front(bytes: &[u8]) -> &[u8]
     ensures { result.now ≡ skip_ows bytes.now }
 {
@@ -24,7 +24,7 @@ fn without_front(bytes: &[u8]) -> &[u8]
     rest
 }
 
-// The bytes up to the last that is no space or tab.
+// The bytes up to the last that isn't a space or tab.
 fn without_end(bytes: &[u8]) -> &[u8]
     ensures { result.now ≡ reverse (skip_ows (reverse bytes.now)) }
 {

@@ -15,7 +15,7 @@ use Rattle.issuer_http.specs.Serving.{CompletesBy, ServesBy, input_limit}
 use Rattle.issuer_http.specs.declared.ended.Ended.{Ended}
 use Rattle.issuer_http.proofs.Offices.{frame_asked}
 
--- requests fit a caller, of whom something more may be known
+-- requests fit a caller, even if something more is known of the caller
 pub http_fits_caller : (Known : Type 0) → Known → Fits (λ asked. MayBeAsked asked × Known) AskTurn http_rules
 http_fits_caller Known known =
     caller_fits Known http_rules known frame_asked (λ bytes want is. cc) (λ meant read is. is) (λ asked reply is. absurd is)
@@ -29,7 +29,7 @@ caller_serves before after left left_now ended (end, is, serves) = record {
   grew = session_grew before.who after.who;
 }
 
--- the same where the pass comes back
+-- the same if the pass is returned
 pub comes_back : (before : any.Progress HallPass) (who back : HallPass) (given : Option (List ℤ)) (written left left_now : Option (List ℕ)) (ended : Ended)
     → back ≡ who → ServesCaller before left (any.progress who given written) left_now ended
     → ServesCaller before left (any.progress back given written) left_now ended
@@ -42,7 +42,7 @@ pub completes_back : (before : any.Progress HallPass) (who back : HallPass) (giv
 completes_back before who back given written bytes ended same completes =
     subst (λ (p : HallPass). CompletesBy AskTurn ended before bytes (any.progress p given written)) (sym same) completes
 
--- there was no memory to begin with
+-- memory ran out at the start
 unbegun_call : (at : any.Progress HallPass) (left : Option (List ℕ)) → ServesCaller at left at left Ended.NoMemory
 unbegun_call at left = caller_serves at at left left Ended.NoMemory (
   loop.NoMemory,

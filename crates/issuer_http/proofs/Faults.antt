@@ -25,7 +25,7 @@ write_end loop.Ended.WriteFault is = refl
 write_end loop.Ended.InputLimit is = cc
 write_end loop.Ended.NoMemory is = cc
 
--- what a session's end tells of its link is told by how serving ended
+-- what a session's end says of its link follows from how serving ended
 pub reports : {D T : Type 0} (told : D → T) (reads writes : D → ℕ) (before after : D) (end : loop.Ended HttpEnd) (ended : Ended)
     → ended ≡ ended_of end → (end ≡ loop.Ended.ReadFault → FailsLast told reads before after)
     → (¬ (end ≡ loop.Ended.ReadFault) → reads after ≡ reads before)
@@ -39,7 +39,7 @@ reports told reads writes before after end ended is read unread write unwritten 
   no_write_fault = λ none. unwritten (λ at. none (is ∙ ap ended_of at));
 }
 
--- neither side of the link was asked
+-- neither direction of the link was used
 pub unasked : (reads writes : ℕ) → ReportsFaults Ended.NoMemory reads reads writes writes
 unasked reads writes = record {
   read_fault = λ failed. cc;

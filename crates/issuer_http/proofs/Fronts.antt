@@ -16,7 +16,7 @@ use Rattle.issuer_http.specs.Frames.{IsAwaited, end_of, holds_so, http_rules, re
 use Rattle.issuer_http.specs.declared.ended.HttpEnd.{HttpEnd}
 use Rattle.http_heads.proofs.Reading.{bad_of, head_more, head_some, read_of, waits_of, whole_of}
 
--- this is read at the front of bytes of which all are held
+-- this is read at the front of bytes that are all held
 abbrev pub Reads : Option Head → List ℕ → Front Asked HttpEnd → Type 0
 Reads awaited held front = ReadsFront http_rules (holds_so awaited) [] held held front
 
@@ -31,7 +31,7 @@ awaited_more : (held more : List ℕ) (awaited : Option Head) → IsAwaited held
 awaited_more held more None is = tt
 awaited_more held more (Some head) is = head_more held more head is
 
--- no request is whole
+-- no request is complete
 pub reads_more : (held : List ℕ) (awaited : Option Head) → IsRead held HeadRead.More → IsAwaited held awaited
     → Reads awaited held (Front.More 0)
 reads_more held awaited read is = record {
@@ -41,7 +41,7 @@ reads_more held awaited read is = record {
   waits = refl;
 }
 
--- the body isn't whole
+-- the body isn't complete
 pub reads_head : (held : List ℕ) (head : Head) → IsHeadRead held (HeadRead.Whole head)
     → nat_le (size_of head) (length held) ≡ false → Reads (Some head) held (Front.More 0)
 reads_head held head read less = reads_more held (Some head) (waits_of held head read less) read
@@ -62,7 +62,7 @@ reads_refusal held awaited fault want read awaits is =
       waits = refl;
     })
 
--- a request is whole
+-- a request is complete
 pub reads_request : (held : List ℕ) (head : Head) (asked : Asked) (ends : Option HttpEnd) → IsHeadRead held (HeadRead.Whole head)
     → nat_le (size_of head) (length held) ≡ true → (asked ≡ asked_in held head) ⊎ ReadsAs (asked_in held head) asked
     → ends ≡ end_of head.last

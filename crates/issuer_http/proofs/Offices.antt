@@ -25,7 +25,7 @@ frame_asked bytes want rest (inl (head, read, is, after)) =
 frame_asked bytes want rest (inr (fault, read, is, after)) =
     let M : Want Asked HttpEnd → Type 0 = λ w. MayBeAsked w.asked in subst M (sym is) (refusal_asked bytes fault read)
 
--- so requests fit whoever has an office, of whom something more may be known
+-- so requests fit anyone who has an office, even if something more is known
 pub http_fits : {A : Type 0} (Known : Type 0) (part : A → CountedOffice) → Known
     → Fits (λ asked. MayBeAsked asked × Known) (StepsBy part) http_rules
 http_fits Known part known =
@@ -33,7 +33,7 @@ http_fits Known part known =
 
 -- ---- what serving does
 
--- of an office: what is true of the replies of any session
+-- for an office: what holds for the replies of any session
 serves_office : (before after : Progress) (left left_now : Option (List ℕ)) (ended : Ended)
     → ServesBy OfficeStep before left after left_now ended → Serves before left after left_now ended
 serves_office before after left left_now ended serves = record {
@@ -43,7 +43,7 @@ serves_office before after left left_now ended serves = record {
   exact = office_exact before.who after.who;
 }
 
--- by the steps of whoever has one
+-- by the steps of anyone who has an office
 pub office_serves : {A : Type 0} (part : A → CountedOffice) (before after : any.Progress A) (left left_now : Option (List ℕ))
     (ended : Ended) → ServesBy (StepsBy part) before left after left_now ended
     → Serves (progress_of part before) left (progress_of part after) left_now ended
@@ -65,7 +65,7 @@ office_completes part before after ended bytes (end, is, completes) = (
       bytes completes,
 )
 
--- there was no memory to begin with
+-- memory ran out at the start
 pub unbegun : (at : Progress) (left : Option (List ℕ)) → Serves at left at left Ended.NoMemory
 unbegun at left = serves_office at at left left Ended.NoMemory (
   loop.NoMemory,

@@ -31,7 +31,7 @@ use Rattle.lei_office.specs.Faults.{keeper_faults}
 use Rattle.lei_office.proofs.Counting.{not_503}
 use Rattle.http_heads.proofs.Reading.{bad_of_read}
 
--- ---- what is asked has a number in its range, and a refusal of the reader tells no fault of the keeper
+-- ---- what is asked has a number in its range, and a refusal by the reader reports no fault of the keeper
 
 abbrev pub AsksInRange : Asked → Type 0
 AsksInRange (Refuse refusal) = keeper_faults (Words refusal ∷ []) ≡ 0
@@ -135,7 +135,7 @@ range_asked (Asks request) is = is
 pub request_asked : (bytes : List ℕ) (head : Head) → MayBeAsked (asked_in bytes head)
 request_asked bytes head = range_asked (asked_in bytes head) (in_range bytes head)
 
--- ---- a head that is refused tells no fault of the keeper
+-- ---- a head that is refused reports no fault of the keeper
 
 abbrev NoKeeperFault : Option Refusal → Type 0
 NoKeeperFault None = Unit {0}

@@ -15,7 +15,7 @@ use Rattle.register_words.specs.declared.reply.Allowed.{Allowed}
 use Rattle.request_loop.specs.Wires.{IsSent}
 use Rattle.issuer_http.specs.Responses.{content_of, methods_in, response_bytes}
 
--- what is said of an Ok, where the result is no Err
+-- what holds for an Ok, if the result isn't an Err
 pub ok_of : {T E : Type 0} (P : Type 0) (result : Result T E) → is_err result ≡ false → OnOk result P → P
 ok_of P (Ok done) is said = said
 ok_of P (Err fault) is said = cc

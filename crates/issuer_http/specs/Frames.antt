@@ -17,21 +17,21 @@ use Rattle.issuer_http.specs.declared.ended.HttpEnd.{HttpEnd}
 abbrev pub end_of : Bool → Option HttpEnd
 end_of last = if last then Some HttpEnd.Closed else None
 
--- What the whole request at the front of the bytes wants: what it asks, and whether its connection ends with the
+-- What the complete request at the front of the bytes wants: what it asks, and whether its connection ends with the
 -- answer.
 abbrev pub want_of : List ℕ → Head → Want Asked HttpEnd
 want_of bytes head = record { asked = asked_in bytes head; ends = end_of head.last }
 
--- A head that is refused wants its refusal, with which the connection ends.
+-- A head that is refused wants its refusal, and the connection ends with it.
 abbrev pub refusal_want : Refusal → Want Asked HttpEnd
 refusal_want fault = record { asked = Asked.Refuse fault; ends = Some HttpEnd.BadHead }
 
--- The bytes after the whole request at the front.
+-- The bytes after the complete request at the front.
 abbrev pub after_request : List ℕ → Head → List ℕ
 after_request bytes head = drop (size_of head) bytes
 
--- At the front of the bytes stands a whole request, which wants this, and these bytes stand after it; or a head that is
--- refused, which wants this, and of which no byte is taken.
+-- The bytes start with a complete request, which wants this, and these bytes follow it. Or they start with a head that
+-- is refused, which wants this, and no byte of it is taken.
 abbrev pub IsFrame : List ℕ → Option (Want Asked HttpEnd) → List ℕ → Type 0
 IsFrame bytes None rest = ⊥
 IsFrame bytes (Some want) rest =
@@ -39,12 +39,12 @@ IsFrame bytes (Some want) rest =
     × (rest ≡ after_request bytes head))
     ⊎ ((fault : Refusal) × IsRead bytes (HeadRead.Bad fault) × (want ≡ refusal_want fault) × (rest ≡ bytes))
 
--- There are no bytes, or they begin a request that isn't whole yet.
+-- There are no bytes, or they are the start of a request that isn't complete yet.
 abbrev pub NeedsMore : List ℕ → Type 0
 NeedsMore bytes = (bytes ≡ []) ⊎ IsRead bytes HeadRead.More
 
--- The frames of a connection. Bytes that begin a request want nothing where the input ends with them, and a response
--- tells whether the connection ends after it.
+-- The frames of a connection. Bytes that are only the start of a request want nothing if the input ends with them, and
+-- a response says whether the connection ends after it.
 abbrev pub http_rules : Rules Asked Reply HttpEnd
 http_rules = record {
   whole = IsFrame;
@@ -57,11 +57,11 @@ http_rules = record {
 
 -- ---- inside
 
--- Where the head of the request at the front of the bytes was read, it says this.
+-- If the head of the request at the front of the bytes was read, it says this.
 abbrev pub IsAwaited : List ℕ → Option Head → Type 0
 IsAwaited bytes None = Unit {0}
 IsAwaited bytes (Some head) = IsHeadRead bytes (HeadRead.Whole head)
 
--- The bytes since the last frame are held, and where the head of the next was read, it says this.
+-- The bytes since the last frame are held, and if the head of the next frame was read, it says this.
 abbrev pub holds_so : Option Head → List ℕ → List ℕ → Type 0
 holds_so awaited held bytes = (held ≡ bytes) × IsAwaited held awaited

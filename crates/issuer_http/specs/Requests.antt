@@ -1,4 +1,4 @@
--- What is told of the request that bytes begin with. This project's profile.
+-- What is reported of the request at the start of bytes. This project's profile.
 use Rattle.std.specs.Prelude.{◌≡◌, ℕ, List}
 use Rattle.register_words.specs.Readings.{MayWantMemory}
 use Rattle.http_heads.specs.Requests.{IsRead, asked_in, size_of}
@@ -6,17 +6,17 @@ use Rattle.http_heads.specs.declared.head.Head.{Head}
 use Rattle.http_heads.specs.declared.head.HeadRead.{HeadRead}
 use Rattle.issuer_http.specs.declared.requests.HttpRead.{HttpRead}
 
--- What is answered of bytes of which this is read.
+-- The answer for bytes that are read like this.
 abbrev pub answer_of : List ℕ → HeadRead → HttpRead
 answer_of bytes HeadRead.More = HttpRead.More
 answer_of bytes (HeadRead.Bad fault) = HttpRead.Bad fault
 answer_of bytes (HeadRead.Whole head) = HttpRead.One (asked_in bytes head) (size_of head) head.last
 
--- The answer tells what is read at the front of the bytes: a whole request; or a head that is refused; or that more
--- bytes are needed.
+-- The answer reports what is read at the front of the bytes: a complete request; or a head that is refused; or that
+-- more bytes are needed.
 abbrev pub IsNext : List ℕ → HttpRead → Type 0
 IsNext bytes answer = (read : HeadRead) × IsRead bytes read × (answer ≡ answer_of bytes read)
 
--- At the front of the bytes stands a whole upload.
+-- The bytes start with a complete upload.
 abbrev pub WantsBody : List ℕ → Type 0
 WantsBody bytes = (head : Head) × IsRead bytes (HeadRead.Whole head) × MayWantMemory (asked_in bytes head)

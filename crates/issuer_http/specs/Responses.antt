@@ -1,4 +1,4 @@
--- Replies as responses of HTTP (RFC 9112). This project's profile.
+-- Replies as HTTP responses (RFC 9112). This project's profile.
 use Rattle.std.specs.Prelude.{ℕ, Bool, List, ◌++◌, length, Option, Some, None}
 use Rattle.http_heads.specs.Responses.{response_head}
 use Rattle.http_heads.specs.declared.responses.Content.{Content}
@@ -11,17 +11,17 @@ use Rattle.register_words.specs.declared.reply.Refusal.TheVariants as refusals
 use Rattle.register_words.specs.declared.reply.Reply.{Reply}
 use Rattle.register_words.specs.declared.reply.Reply.TheVariants as replies
 
--- What the text of a kind is.
+-- The content that a kind of text is.
 abbrev pub content_of : Kind → Content
 content_of Kind.Json = Content.Json
 content_of Kind.Csv = Content.Csv
 
--- What the text of a reply is: a refusal is plain words.
+-- The content that the text of a reply is: a refusal is plain words.
 abbrev pub content_in : Reply → Content
 content_in (replies.Text code kind text) = content_of kind
 content_in (replies.Words refusal) = Content.Plain
 
--- Where the request's method is none of its route, the methods of the route.
+-- If the request's route doesn't have its method, the methods of the route.
 abbrev pub methods_in : Refusal → Option Allowed
 methods_in (refusals.Method allowed) = Some allowed
 methods_in refusals.TooLong = None
@@ -43,12 +43,12 @@ methods_in refusals.Head = None
 methods_in refusals.HeadTooLong = None
 methods_in refusals.LengthRequired = None
 
--- The same of a reply.
+-- The same for a reply.
 abbrev pub methods_of : Reply → Option Allowed
 methods_of (replies.Text code kind text) = None
 methods_of (replies.Words refusal) = methods_in refusal
 
--- What the head of the response to a reply says. It tells whether the connection is closed after it.
+-- What the head of the response to a reply says, including whether the connection is closed after it.
 abbrev pub response_to : Bool → Reply → Response
 response_to last reply = record {
   code = reply_status_code reply;

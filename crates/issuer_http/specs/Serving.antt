@@ -19,11 +19,11 @@ use Rattle.issuer_http.specs.Frames.{http_rules}
 use Rattle.issuer_http.specs.declared.ended.Ended.{Ended}
 use Rattle.issuer_http.specs.declared.ended.HttpEnd.{HttpEnd}
 
--- A connection is served until 1,073,741,824 bytes (1 GiB) were taken. This project's profile.
+-- A connection is served until it has taken 1,073,741,824 bytes (1 GiB). This project's profile.
 abbrev pub input_limit : ℕ
 input_limit = 1_073_741_824
 
--- How serving ends, by the words of any session: at the end of the input a connection is closed, too.
+-- How serving ends, by the words of any session: at the end of the input a connection counts as closed, too.
 abbrev pub ended_of : loop.Ended HttpEnd → Ended
 ended_of loop.Ended.AtEnd = Ended.Closed
 ended_of (loop.Ended.By HttpEnd.Closed) = Ended.Closed
@@ -34,17 +34,17 @@ ended_of loop.Ended.InputLimit = Ended.InputLimit
 ended_of loop.Ended.NoMemory = Ended.NoMemory
 
 -- A read of the link failed exactly if serving ended with a read fault, and a write exactly if it ended with a write
--- fault. The counts of failed reads and of failed writes are each given before serving and after it.
+-- fault. The counts of failed reads and of failed writes are each given before and after serving.
 pub record ReportsFaults (ended : Ended) (reads reads_now writes writes_now : ℕ) : Type 0 where
   pub read_fault : ended ≡ Ended.ReadFault → Rose reads reads_now
   pub no_read_fault : ¬ (ended ≡ Ended.ReadFault) → reads_now ≡ reads
   pub write_fault : ended ≡ Ended.WriteFault → Rose writes writes_now
   pub no_write_fault : ¬ (ended ≡ Ended.WriteFault) → writes_now ≡ writes
 
--- ---- whoever answers
+-- ---- anyone who answers
 
--- What serving does where these are the steps of who answers: it takes bytes from the link, answers the requests that
--- they are, and ends.
+-- What serving does if these are the steps of the answerer: it takes bytes from the link, answers the requests in them,
+-- and ends.
 abbrev pub ServesBy : {A : Type 0} → (A → Asked → List ℤ → Reply → A → Type 0) → any.Progress A
     → Option (List ℕ)
     → any.Progress A → Option (List ℕ) → Ended → Type 0
@@ -52,9 +52,9 @@ ServesBy step before left after left_now ended =
     (end : loop.Ended HttpEnd) × (ended ≡ ended_of end)
     × any.Serves step http_rules input_limit before left after left_now end
 
--- What comes of a link that has these bytes left, where neither of its sides fails and memory is never wanting: they
--- were all taken, and all whole requests answered, or those up to the first that asks to close or whose head is
--- refused; or they are as many as end a connection.
+-- The result for a link with these bytes left, if neither of its directions fails and memory never runs out. All bytes
+-- were taken, and all complete requests answered, or those up to the first that asks to close or whose head is refused.
+-- Or the bytes are so many that they end a connection.
 abbrev pub CompletesBy : {A : Type 0} → (A → Asked → List ℤ → Reply → A → Type 0) → Ended
     → any.Progress A → List ℕ
     → any.Progress A → Type 0
@@ -64,8 +64,8 @@ CompletesBy step ended before bytes after =
 
 -- ---- an office
 
--- How far serving has come: the office with what its keeper tells and the keeper's count, the moments that the clock
--- has given, and the bytes that were written. For a device that doesn't tell it, `None` stands.
+-- The progress of serving: the office with what its keeper tells and the keeper's count, the moments that the clock has
+-- given, and the bytes that were written. `None` means a device that doesn't tell it.
 abbrev pub Progress : Type 0
 Progress = any.Progress CountedOffice
 
@@ -77,10 +77,10 @@ progress office kept faults given written = record {
   written = written;
 }
 
--- What serving does over an office. If the keeper tells its tables afterwards, it told them before. Whatever session
--- leads from the office before to the one after: no more of its replies are KEEPER_FAULT than calls of the keeper have
--- failed; and where none failed and memory was never wanting, they are the replies that the requests and the moments
--- determine.
+-- What serving does over an office. If the keeper tells its tables afterwards, it told them before. The following holds
+-- for any session that leads from the office before to the office after. At most as many of its replies are
+-- KEEPER_FAULT as calls of the keeper have failed. If none failed and memory never ran out, the replies are those that
+-- the requests and the moments determine.
 pub record Serves (before : Progress) (left : Option (List ℕ)) (after : Progress) (left_now : Option (List ℕ))
     (ended : Ended) : Type 0 where
   pub serves : ServesBy OfficeStep before left after left_now ended
@@ -93,6 +93,6 @@ pub record Serves (before : Progress) (left : Option (List ℕ)) (after : Progre
       → ¬ (Rose before.who.faults after.who.faults) → ¬ (Contains replies (Words NoMemory))
       → replies ≡ replies_to before.who.office asks moments
 
--- What comes of a link that doesn't fail, over an office.
+-- The result for a link that doesn't fail, over an office.
 abbrev pub Completes : Ended → Progress → List ℕ → Progress → Type 0
 Completes ended before bytes after = CompletesBy OfficeStep ended before bytes after

@@ -18,10 +18,9 @@ use std::alloc::Global;
 use std::sync::Wait;
 use std::thread::Threads;
 
-/// Serves one connection: reads requests from the link, has the caller put them to the office of its hall one
-/// after the other, each in one turn, and writes the response to each before the next is put. The clock is
-/// asked for one moment for each request that is put to the office, after its bytes were read. The pass comes
-/// back.
+/// Serves one connection: reads requests from the link, has the caller put them to the office of its hall one after
+/// another, each in one turn, and writes the response to each before the next is put. For each request that is put to
+/// the office, the clock gives one moment, after the request's bytes were read. The pass is returned.
 pub fn serve_connection<R: Threads + Wait + Sync, K: Keeper, G: Gate, L: Link, C: Clock>(
     rt: &R,
     alloc: Global,
@@ -50,7 +49,7 @@ pub fn serve_connection<R: Threads + Wait + Sync, K: Keeper, G: Gate, L: Link, C
     }
 }
 
-/// The same by a router that was made before, as for all connections of a server, for a caller that is lent.
+/// The same with a router that was made before, as for all connections of a server, for a borrowed caller.
 pub fn serve_caller<R: Threads + Wait + Sync, K: Keeper, G: Gate, L: Link, C: Clock>(
     rt: &R,
     alloc: Global,

@@ -1,6 +1,6 @@
 //! How serving a connection ends.
 
-/// Why a connection isn't served any further.
+/// Why serving a connection ended.
 #[derive(Clone, Copy, Debug, PartialEq, Eq)]
 pub enum Ended {
     /// The input ended, or a request that asks to close was answered.
@@ -11,7 +11,7 @@ pub enum Ended {
     WriteFault,
     /// A head was refused, and that was answered.
     BadHead,
-    /// 1,073,741,824 bytes were taken.
+    /// The connection took 1,073,741,824 bytes.
     InputLimit,
     /// Memory ran out.
     NoMemory,

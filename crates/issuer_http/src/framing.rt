@@ -18,8 +18,8 @@ use matchit::Router;
 use request_loop::{Framing, Front, Want, Wire};
 use std::alloc::Global;
 
-/// Reads the requests of a connection, and writes the responses. It keeps the head of a request whose body isn't whole
-/// yet.
+/// Reads the requests of a connection, and writes the responses. It keeps the head of a request whose body isn't
+/// complete yet.
 #[derive(Drop)]
 pub struct HttpFraming<'r> {
     reader: RequestReader<'r>,
@@ -29,7 +29,7 @@ pub struct HttpFraming<'r> {
 }
 
 impl<'r> HttpFraming<'r> {
-    /// No head was read yet.
+    /// No head has been read yet.
     pub fn new(alloc: Global, router: &'r Router<Place>) -> Self
         requires { router.now ≡ routes }
         ensures { result.awaited ≡ None }
@@ -52,7 +52,7 @@ impl<'r> HttpFraming<'r> {
         }
     }
 
-    // What the request at the front of the bytes wants, whose head says this. It waits for its body.
+    // What the request at the front of the bytes wants, if its head says this. It waits for its body.
     fn request_of(&mut self, held: &[u8], head: Head) -> Front<Asked, HttpEnd>
         requires { IsHeadRead held.now (HeadRead.Whole head) }
         ensures { ReadsFront http_rules (holds_so self.new.awaited) [] held.now held.now result }
@@ -68,15 +68,15 @@ impl<'r> HttpFraming<'r> {
     }
 }
 
-// Whether so many bytes have the whole request.
+// Whether this many bytes contain the complete request.
 fn is_there(head: &Head, size: usize) -> bool
     ensures { result ≡ nat_le (size_of head.now) size }
 {
     head.size <= size && head.body <= size - head.size
 }
 
-// What the whole request at the front of the bytes asks, whose body is copied once. Where there is no memory for that,
-// its refusal.
+// What the complete request at the front of the bytes asks. Its body is copied once. If memory for that runs out, the
+// refusal.
 fn read_or_refused(reader: RequestReader<'_>, bytes: &[u8], head: &Head) -> Asked
     requires routes { reader.router.now ≡ routes }
     requires read { IsRead bytes.now (HeadRead.Whole head.now) }

@@ -1,4 +1,4 @@
-//! The register over HTTP: the requests that bytes begin with, the responses to them, and a connection that is served
+//! The register over HTTP: the requests at the start of bytes, the responses to them, and a connection that is served
 //! alone.
 #![tactic(auto)]
 

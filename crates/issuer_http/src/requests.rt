@@ -1,4 +1,4 @@
-//! The requests that bytes begin with.
+//! The requests at the start of bytes.
 ghost use Rattle.std.specs.Prelude.{◌≡◌, ◌≤◌, length, IfOk, OnErr};
 ghost use Rattle.register_words.specs.Readings.{MayWantMemory};
 ghost use Rattle.http_heads.specs.Requests.{IsRead, asked_in, body_in, size_of};
@@ -13,21 +13,21 @@ use lei_outside::NoMemory;
 use matchit::Router;
 use std::alloc::Global;
 
-/// What is read at the front of some bytes.
+/// What is read at the front of bytes.
 #[derive(Debug, PartialEq, Eq, Drop)]
 pub enum HttpRead {
-    /// No request is whole yet.
+    /// No request is complete yet.
     More,
-    /// A whole request: what it asks, or the refusal that is its reply; how many bytes it takes; and whether the
+    /// A complete request: what it asks, or the refusal that is its reply; the number of its bytes; and whether the
     /// connection is to be closed after the answer.
     One {
         asked: Asked,
         used: usize,
         last: bool,
     },
-    /// A head is refused. That is answered, and nothing after it is read.
+    /// A head is refused. The refusal is answered, and nothing after it is read.
     Bad(Refusal),
-    /// There was no memory to read it.
+    /// Memory to read the request ran out.
     NoMemory,
 }
 
@@ -41,7 +41,7 @@ pub fn next_request(alloc: Global, bytes: &[u8]) -> HttpRead
     }
 }
 
-/// The same by a router that was made before. Memory is taken for the body of an upload alone.
+/// The same with a router that was made before. Only the body of an upload takes memory.
 pub fn next_head(alloc: Global, router: &Router<Place>, bytes: &[u8]) -> HttpRead
     requires { router.now ≡ routes }
     ensures read { ¬ (result ≡ OutOfMemory) → IsNext bytes.now result }
@@ -54,7 +54,7 @@ pub fn next_head(alloc: Global, router: &Router<Place>, bytes: &[u8]) -> HttpRea
     }
 }
 
-// What is read of bytes with this whole request at their front.
+// What is read of bytes with this complete request at their front.
 fn whole(reader: RequestReader<'_>, bytes: &[u8], head: &Head) -> HttpRead
     requires routes { reader.router.now ≡ routes }
     requires read { IsRead bytes.now (HeadRead.Whole head.now) }
@@ -78,8 +78,8 @@ pub struct RequestReader<'r> {
     pub router: &'r Router<Place>,
 }
 
-/// What the whole request at the front of the bytes asks. Its one error is want of memory for the body of an upload,
-/// which is copied once.
+/// What the complete request at the front of the bytes asks. The only error is lack of memory for the body of an
+/// upload, which is copied once.
 pub fn asked_in(reader: RequestReader<'_>, bytes: &[u8], head: &Head) -> Result<Asked, NoMemory>
     requires routes { reader.router.now ≡ routes }
     requires read { IsRead bytes.now (HeadRead.Whole head.now) }
@@ -91,7 +91,7 @@ pub fn asked_in(reader: RequestReader<'_>, bytes: &[u8], head: &Head) -> Result<
     asked_of(reader.alloc, reader.router, head.method, target, body)
 }
 
-// The body of the whole request at the front of the bytes.
+// The body of the complete request at the front of the bytes.
 fn body_in<'a>(bytes: &'a [u8], head: &Head) -> &'a [u8]
     requires { size_of head.now ≤ length bytes.now }
     ensures { result.now ≡ body_in bytes.now head.now }

@@ -1,4 +1,4 @@
-//! Replies as responses of HTTP, sent to a link.
+//! Replies as HTTP responses, sent to a link.
 ghost use Rattle.std.specs.Prelude.{◌≡◌, ◌++◌, [], length, OnOk, IsErrOf};
 ghost use Rattle.http_heads.specs.Responses.{response_head};
 ghost use Rattle.lei_outside.specs.Count.{Rose};
@@ -14,10 +14,11 @@ use lei_outside::{Link, NoMemory, SinkFault};
 use request_loop::{Wire, send_piece};
 use std::alloc::Global;
 
-/// A text of more bytes is sent from where it lies, and one of at most so many together with its head.
+/// A text with more bytes is sent from its place in memory. A text with at most this many is sent together with its
+/// head.
 const COPY: usize = 16_384;
 
-/// Memory in which responses are put together, one after the other.
+/// Memory in which responses are assembled, one after another.
 #[derive(Drop)]
 pub struct Scratch {
     head: Vec<u8>,
@@ -25,7 +26,7 @@ pub struct Scratch {
 }
 
 impl Scratch {
-    /// No memory yet.
+    /// No memory is taken yet.
     pub fn new(alloc: Global) -> Self {
         Scratch {
             head: Vec::new(alloc),
@@ -34,7 +35,7 @@ impl Scratch {
     }
 }
 
-/// Sends the response to a reply, and says in it whether the connection is closed after it.
+/// Sends the response to a reply, which says whether the connection is closed after it.
 pub fn send_response<L: Link>(
     link: &mut L,
     scratch: &mut Scratch,

@@ -18,12 +18,12 @@ use request_loop::{Answers, Ended as SessionEnd, Intake, serve};
 use std::alloc::Global;
 use std::thread::Threads;
 
-/// The bytes of a connection at which it ends. This project's profile.
+/// A connection ends when it has taken this many bytes. This project's profile.
 pub const MAX_INPUT: usize = 1_073_741_824;
 
-/// Serves one connection: reads requests from the link, puts them to the office one after the other, and writes the
-/// response to each before the next is put. The clock is asked for one moment for each request that is put to the
-/// office, after its bytes were read.
+/// Serves one connection: reads requests from the link, puts them to the office one after another, and writes the
+/// response to each before the next is put. For each request that is put to the office, the clock gives one moment,
+/// after the request's bytes were read.
 pub fn serve_alone<R: Threads + Sync, K: Keeper, L: Link, C: Clock>(
     rt: &R,
     alloc: Global,
@@ -54,7 +54,7 @@ pub fn serve_alone<R: Threads + Sync, K: Keeper, L: Link, C: Clock>(
     }
 }
 
-/// The same by a router that was made before, as for all connections of a server.
+/// The same with a router that was made before, as for all connections of a server.
 pub fn serve_with<R: Threads + Sync, K: Keeper, L: Link, C: Clock>(
     rt: &R,
     alloc: Global,
@@ -114,7 +114,7 @@ pub fn serve_by<R, A: Answers<R, Asked = Asked, Reply = Reply>, L: Link, C: Cloc
     ended_of(end)
 }
 
-// How a connection ends whose session ends so.
+// How a connection ends if its session ends like this.
 fn ended_of(end: SessionEnd<HttpEnd>) -> Ended
     ensures { result ≡ ended_of end }
 {

@@ -26,7 +26,7 @@ five_columns _ a b c d e len p q r s t = absurd (omega arith)
 text_same : (a b : List ℕ) → ◌≡◌ {A = Value} (Text a) (Text b) → a ≡ b
 text_same a b e = ap bytes e
 
--- texts that aren't the parts of a name are those of none
+-- texts that aren't the parts of a name belong to no name
 pub no_parts : (v w : Value) (lei rest name : List ℕ) → v ≡ Text lei → w ≡ Text rest
     → (AreParts lei rest → ⊥) → v ≡ Text (lei_of name) → w ≡ Text (rest_of name) → ⊥
 no_parts v w lei rest name p q never r s =

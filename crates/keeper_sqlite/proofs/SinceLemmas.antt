@@ -1,4 +1,4 @@
--- What a keeper tells since it adopted its connection.
+-- What a keeper tells, after it adopted its connection.
 use Rattle.std.proofs.Common.{◌≡◌, ◌⊎◌, inl, inr, Bool, true, false, not, cond, Option, Some, None, is_some, IfSome, Ok, Err, Result, OnOk, IsTrue, refl, sym, ap, subst, ◌∙◌, arith, true≢false}
 use Rattle.sqlite_trees.proofs.Doubt.{clean_of, no_doubt}
 use Rattle.sqlite.specs.State.{State, HasCleanDisk}
@@ -55,10 +55,10 @@ is_some_of o t e = ap is_some e
 one_some : (s t : KeptTables) → ◌≡◌ {A = Option KeptTables} (Some s) (Some t) → s ≡ t
 one_some s t e = cc
 
--- ---- once the connection told its tables
+-- ---- if the connection told its tables
 
 module _ (adopted old new : State) (was : IsTrue (is_some (told_in adopted))) (on : KeepsOn adopted old) where
-  -- what is told of an open connection whose disk is clean
+  -- what an open connection with a clean disk told
   told_old : HasCleanDisk old → IsTrue old.is_open
       → (t : KeptTables) × (told_in old ≡ Some t) × (told_by old.now.schema old.now.trees ≡ Some t)
   told_old clean live =
@@ -128,7 +128,7 @@ pub steady_leaves : (adopted old new : State) → KeepsOn adopted old → IsStea
 steady_leaves adopted old new on one left after was = leaves_before adopted old new on one was left
     (after was)
 
--- what a call answers of what is told afterwards
+-- the answer of a call about what is told afterwards
 pub since_told : (adopted s : State) (t : KeptTables) → told_since adopted s ≡ Some t
     → HasCleanDisk s × (told_by s.now.schema s.now.trees ≡ Some t)
 since_told adopted s t told =

@@ -231,7 +231,7 @@ cells_back : (list : List KeptCell) → map cell_in (map cell_row list) ≡ list
 cells_back [] = refl
 cells_back (c ∷ list) = ap₂ ◌∷◌ (blob_back c c.row) (cells_back list)
 
--- entries and cells are known by their rows
+-- entries and cells are determined by their rows
 pub same_entries : (rows : List Row) (list other : List KeptEntry) → rows ≡ map entry_row list
     → rows ≡ map entry_row other → list ≡ other
 same_entries rows list other p q = sym (entries_back list)

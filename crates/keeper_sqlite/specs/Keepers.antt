@@ -21,12 +21,12 @@ pub record KeeperState (S : Type 0) : Type 0 where
   pub store : Option (StoreState S)
   pub faults : ℕ
 
--- What is seen of a store, as a code.
+-- What is seen of a store, in coded form.
 abbrev pub store_code : {S : Type 0} → Coded S → Coded (StoreState S)
 store_code {S} s = code_by (Held S × Held S) (coded× (held_code s) (held_code s)) (λ x. (x.conn, x.adopted))
     (λ p. record { conn = p.0; adopted = p.1 }) (λ _. refl)
 
--- What is seen of a keeper, as a code.
+-- What is seen of a keeper, in coded form.
 abbrev pub keeper_code : {S : Type 0} → Coded S → Coded (KeeperState S)
 keeper_code {S} s =
     code_by (Option (StoreState S) × ℕ) (coded× (coded_option (store_code s)) coded_ℕ)
@@ -36,7 +36,7 @@ keeper_code {S} s =
 abbrev pub told_since : State → State → Option KeptTables
 told_since adopted now = if is_some (told_in adopted) then told_in now else None
 
--- What a crash may leave of it. Nothing is claimed where it tells nothing from the first on.
+-- What a crash may leave of it. Nothing is claimed if it told nothing from the start.
 abbrev pub leaves_since : State → State → Option KeptTables → Type 0
 leaves_since adopted now left = IsTrue (is_some (told_in adopted)) → leaves_in now left
 
@@ -48,7 +48,7 @@ pub record KeepsOn (adopted now : State) : Type 0 where
       → IsTrue (is_some (told_in now))
 
 module _ {S : Type 0} (g : Ghosts S) where
-  -- The tables of a store, and of a keeper that has one or none.
+  -- The tables of a store, or of a keeper that may have no store.
   abbrev pub tables_of : StoreState S → Option KeptTables
   tables_of s = told_since (state g s.adopted) (state g s.conn)
 
@@ -56,7 +56,7 @@ module _ {S : Type 0} (g : Ghosts S) where
   tables_in None = None
   tables_in (Some s) = tables_of s
 
-  -- What a crash may leave of them: of a keeper that has no store, anything.
+  -- What a crash may leave of them: if a keeper has no store, anything.
   abbrev pub leaves_of : StoreState S → Option KeptTables → Type 0
   leaves_of s = leaves_since (state g s.adopted) (state g s.conn)
 
@@ -64,7 +64,7 @@ module _ {S : Type 0} (g : Ghosts S) where
   leaves_from None left = ⊤
   leaves_from (Some s) left = leaves_of s left
 
--- ---- what is told may be left
+-- ---- the told tables may be left
 
 clean_told : (b : Bool) (o : Option KeptTables) (c : Bool) (t : KeptTables)
     → (if c && b then o else None) ≡ Some t → doubt c ≡ 0
@@ -87,7 +87,7 @@ may_stay_since true adopted now is = go (told_in now) refl
       inl (refl, sym e),
     )
 
--- The tables that a keeper tells may be left.
+-- A crash may leave the tables that a keeper tells.
 pub may_stay : {S : Type 0} (g : Ghosts S) (o : Option (StoreState S))
     → IfSome (tables_in g o) (λ t. leaves_from g o (Some t))
 may_stay g None = tt

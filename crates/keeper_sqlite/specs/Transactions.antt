@@ -10,7 +10,7 @@ use Rattle.store_tables.specs.Crash.{IsFound}
 use Rattle.store_tables.specs.Told.{says_second, told_by}
 use Rattle.keeper_sqlite.specs.declared.over.Form.{Form}
 
--- It was committed: the tables that were told are told with the batch, where its entry is the next.
+-- The batch was committed: the told tables are now told with the batch, if its entry is the next.
 pub record HasKept (batch : Batch) (old new : State) : Type 0 where
   pub was_open : IsTrue old.is_open
   pub is_open : IsTrue new.is_open
@@ -18,23 +18,23 @@ pub record HasKept (batch : Batch) (old new : State) : Type 0 where
   pub told : (t : KeptTables) → IsNext batch.entry t → Tells old.now.schema old.now.trees t
       → Tells new.now.schema new.now.trees (with_batch batch t)
 
--- The tables were made, which changes nothing of what is told.
+-- The tables were made, which doesn't change what is told.
 pub record HasMade (old new : State) : Type 0 where
   pub was_open : IsTrue old.is_open
   pub whole : IsWhole new
   pub told : told_by new.now.schema new.now.trees ≡ told_by old.now.schema old.now.trees
 
--- The cells were moved to form 2, which changes nothing of what is told.
+-- The cells were moved to form 2, which doesn't change what is told.
 pub record HasMoved (old new : State) : Type 0 where
   pub was_open : IsTrue old.is_open
   pub told : (t : KeptTables) → told_by old.now.schema old.now.trees ≡ Some t
       → told_by new.now.schema new.now.trees ≡ Some t
 
--- What a transaction commits that moves a store of form 1 with all four tables.
+-- What is committed by a transaction that moves a store of form 1 with all four tables.
 abbrev pub IsMoved : State → Trees → Type 0
 IsMoved s trees = IsWhole s → s.now.trees 4 ≡ [] → IsMade s trees
 
--- An open connection between transactions has all four tables, and the table of the form says this.
+-- An open connection between transactions has all four tables, and the table of the form says this form.
 pub record HasForm (s : State) (form : Form) : Type 0 where
   pub whole : IsWhole s
   pub first : form ≡ Form.First → s.now.trees 4 ≡ []
@@ -46,9 +46,9 @@ MayKeep batch s left = IsTrue s.is_open
     × ((t : KeptTables) → IsNext batch.entry t → told_by s.now.schema s.now.trees ≡ Some t
     → left ≡ Some (with_batch batch t))
 
--- How a call that commits a batch ends, between transactions: the tables are told with the batch, and a crash
--- leaves these; or they are as they were, and a crash may leave what it might have left before, or them with
--- the batch.
+-- How a call that commits a batch ends, between transactions. Either the tables are told with the batch, and a crash
+-- leaves these. Or they are as they were, and a crash may leave what it might have left before, or the tables with the
+-- batch.
 pub record Ends {E : Type 0} (batch : Batch) (result : Result (Unit {0}) E) (old new : State) : Type 0 where
   pub clean : doubt old.is_clean ≤ doubt new.is_clean
   pub mode : old.in_transaction ≡ false → new.in_transaction ≡ false

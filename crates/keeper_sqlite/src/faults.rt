@@ -1,4 +1,4 @@
-// What becomes of the failures of the database.
+// How failures of the database are handled.
 ghost use Rattle.std.specs.Prelude.{◌≡◌, ◌≢◌, ◌↔◌, ◌≤◌, IsErrOf};
 ghost use Rattle.lei_outside.specs.Count.{Rose};
 
@@ -9,21 +9,21 @@ use std::fmt;
 /// Why a call of a keeper failed.
 #[derive(Clone, Copy, Debug, PartialEq, Eq)]
 pub enum Cause {
-    /// The file couldn't be opened: it isn't there and can't be made, may not be read and written, or another
-    /// program has it.
+    /// The file couldn't be opened: it doesn't exist and can't be made, may not be read and written, or another program
+    /// has it open.
     Unopened,
-    /// The database has other tables than those of a keeper.
+    /// The database has tables other than those of a keeper.
     Tables,
-    /// A row isn't that of an entry or a cell, or the store is of neither form.
+    /// A row isn't that of an entry or a cell, or the store has neither form.
     Row,
-    /// The connection is inside a transaction that isn't the keeper's.
+    /// The connection is inside a transaction that the keeper didn't start.
     Transaction,
     /// The database reports this.
     Database(ErrorCode),
 }
 
 impl Cause {
-    // Notes an error of the database, and returns what it is to a caller.
+    // Notes an error of the database, and returns the fault that a caller gets for it.
     pub fn note(&mut self, error: Error) -> KeepFault
         ensures { (result ≡ KeepFault.NoMemory) ↔ (error ≡ Error.SqliteFailure ErrorCode.OutOfMemory) }
     {
@@ -49,7 +49,7 @@ impl fmt::Display for Cause {
     }
 }
 
-// Want of memory, where that is what went wrong. Every other error is a failure of the keeper.
+// Lack of memory, if that is what went wrong. Every other error is a failure of the keeper.
 pub fn fault_of(error: Error) -> KeepFault
     ensures { (result ≡ KeepFault.NoMemory) ↔ (error ≡ Error.SqliteFailure ErrorCode.OutOfMemory) }
 {
@@ -59,7 +59,7 @@ pub fn fault_of(error: Error) -> KeepFault
     }
 }
 
-// The result of a call, with a failure counted. The count stands still at its last value.
+// The result of a call, with a failure counted. The count stops at its greatest value.
 pub fn counted<T>(faults: &mut u64, answer: Result<T, KeepFault>) -> Result<T, KeepFault>
     ensures same { result ≡ answer }
     ensures count { faults.old ≤ faults.new }

@@ -1,4 +1,4 @@
-//! A keeper over a database of SQLite.
+//! A keeper over an SQLite database.
 ghost use Rattle.std.specs.Prelude.{◌≡◌, ◌≤◌, Option, None, Some, IfSome, IfOk, OnOk, IsErrOf, option_map};
 ghost use Rattle.lei_outside.specs.Count.{Rose};
 ghost use Rattle.lei_outside.specs.Keeping.{AreKept, CommitLeaves, Commits, IsBatch, IsNextOf, LeavesNoMore, Stays, cells_between, entries_between, last_number};
@@ -11,17 +11,16 @@ use sqlite::{Alter, Connection, File, FileStore};
 use std::alloc::Global;
 use std::marker::Model;
 
-/// A keeper over a database of SQLite, by its tables `entry` and `cell2`. A store of form 1, whose cells stand
-/// in the table `cell`, is moved to form 2 by the first call. The keeper tells its entries and cells, field by
-/// field, between its calls, while the database is open and its disk is clean, if the connection told them
-/// when the keeper adopted it: it had no table yet, or tables of this keeper and nothing else, with rows of
-/// entries and of cells of one form alone. A call fails where the database couldn't be opened, where it has
-/// any other schema or neither form, where it fails or refuses a statement, and where a value is stored that
-/// doesn't fit its field, as a kind above 255 or a negative number. Contracts see the connection, what it was
-/// when it was adopted, and the number of calls that have failed.
+/// A keeper over an SQLite database, by its tables `entry` and `cell2`. A store of form 1, whose cells are in the table
+/// `cell`, is moved to form 2 by the first call. The keeper tells its entries and cells, field by field, between its
+/// calls, while the database is open and its disk is clean, if the connection told them when the keeper adopted it.
+/// That means that it had no table yet, or tables of this keeper and nothing else, with rows of entries and of cells of
+/// one form alone. A call fails if the database couldn't be opened, has any other schema or neither form, or fails or
+/// refuses a statement. It also fails if a stored value doesn't fit its field, such as a kind above 255 or a negative
+/// number. Contracts see the connection, what it was when it was adopted, and the number of calls that have failed.
 #[derive(Drop)]
 pub struct SqliteKeeper<S: Alter> {
-    // None where the file couldn't be opened.
+    // `None` if the file couldn't be opened.
     store: Option<Store<S>>,
     faults: u64,
 }
@@ -37,10 +36,9 @@ impl<S: Alter> Model for SqliteKeeper<S> {
 }
 
 impl SqliteKeeper<FileStore<File>> {
-    /// A keeper over the file at this path, which is made where there is none. Beside it stands a second
-    /// file, with `-wal` behind its name, and the two are kept together. No other program may have the file
-    /// open meanwhile. Where it can't be opened, each call fails. Nothing is known of what a real file holds,
-    /// so that the keeper need not tell it.
+    /// A keeper over the file at this path, which is made if there is none. SQLite also keeps a second file, with the
+    /// same name followed by `-wal`, and the two belong together. No other program may have the file open meanwhile. If
+    /// it can't be opened, each call fails. Nothing is known of what a real file holds, so the keeper need not tell it.
     pub fn on_file(rt: &HostRuntime, path: &str) -> SqliteKeeper<FileStore<File>>
         ensures { result.faults ≡ 0 }
     {
@@ -55,8 +53,7 @@ impl SqliteKeeper<FileStore<File>> {
 }
 
 impl<S: Alter> SqliteKeeper<S> {
-    /// A keeper over a connection, which it adopts as it is. Tables that aren't there are made at the first
-    /// call.
+    /// A keeper over a connection, which it adopts as it is. Missing tables are made at the first call.
     pub fn over(alloc: Global, connection: Connection<S>) -> SqliteKeeper<S>
         ensures { result ≡ record
             { store = Some (record { conn = connection; adopted = connection }); faults = 0 } }
@@ -67,7 +64,7 @@ impl<S: Alter> SqliteKeeper<S> {
         }
     }
 
-    /// The connection again, or none where the file couldn't be opened.
+    /// The connection, returned to the caller, or `None` if the file couldn't be opened.
     pub fn into_connection(self) -> Option<Connection<S>>
         ensures { result ≡ option_map (λ s. s.conn) self.store }
     {
@@ -78,7 +75,7 @@ impl<S: Alter> SqliteKeeper<S> {
         }
     }
 
-    /// Why the last call failed. After a call that didn't fail, and before the first one, it says nothing.
+    /// Why the last call failed. After a call that didn't fail, and before the first one, it has no meaning.
     pub fn cause(&self) -> Cause
         ensures { self.now.store ≡ None → result ≡ Cause.Unopened }
     {
@@ -88,7 +85,7 @@ impl<S: Alter> SqliteKeeper<S> {
         }
     }
 
-    /// How many calls have failed. It stands still at `u64::MAX`.
+    /// How many calls have failed. It stops at `u64::MAX`.
     pub fn faults(&self) -> u64
         ensures { result ≡ self.now.faults }
     {
@@ -96,7 +93,7 @@ impl<S: Alter> SqliteKeeper<S> {
     }
 }
 
-// The calls on a store that may be absent, where each fails.
+// The calls on a store that may be absent, in which case each fails.
 fn last_of<S: Alter>(store: &mut Option<Store<S>>) -> Result<u64, KeepFault>
     ensures answer { IfSome (tables_in S.Store store.new)
         (λ told. IfOk result (λ number. number ≡ last_number told)) }

@@ -1,4 +1,4 @@
-//! What the register keeps, in a store of SQLite.
+//! What the register keeps, in an SQLite store.
 #![tactic(auto)]
 
 mod faults;

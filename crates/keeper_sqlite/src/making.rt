@@ -1,4 +1,4 @@
-// The tables, where they aren't there yet.
+// The tables, and how they are made if they are missing.
 ghost use Rattle.std.specs.Prelude.{◌≡◌, false, IsTrue, OnOk, OnErr};
 ghost use Rattle.sqlite.specs.Effect.{IsDatabase};
 ghost use Rattle.sqlite.specs.Held.{state};
@@ -9,7 +9,7 @@ ghost use Rattle.keeper_sqlite.specs.Transactions.{HasMade};
 
 use sqlite::{Alter, Connection, Error, Transaction};
 
-// An entry a row, by its number.
+// One row per entry, by its number.
 const MAKE_ENTRIES: &'static str = "CREATE TABLE IF NOT EXISTS entry (
   seq INTEGER PRIMARY KEY CHECK (seq >= 1),
   kind INTEGER NOT NULL,
@@ -21,8 +21,8 @@ const MAKE_ENTRIES: &'static str = "CREATE TABLE IF NOT EXISTS entry (
   answer BLOB NOT NULL
 ) STRICT";
 
-// A cell of form 1 a row, by its kind and its name, and beside that in the order of the entries that touched them last,
-// so that the cells of a few entries are found without looking at all.
+// One row per cell of form 1, by its kind and its name. A second index has the cells in the order of the entries that
+// touched them last, so that the cells of a few entries are found without reading all.
 const MAKE_CELLS: &'static str = "CREATE TABLE IF NOT EXISTS cell (
   kind INTEGER NOT NULL,
   name TEXT NOT NULL,
@@ -32,13 +32,13 @@ const MAKE_CELLS: &'static str = "CREATE TABLE IF NOT EXISTS cell (
   UNIQUE (touched, kind, name)
 ) STRICT";
 
-// One row, where the store has form 2.
+// One row, if the store has form 2.
 const MAKE_STORE: &'static str = "CREATE TABLE IF NOT EXISTS store (
   one INTEGER PRIMARY KEY,
   form INTEGER NOT NULL
 ) STRICT";
 
-// A cell of form 2 a row, by its kind and the two parts of its name, and beside that in the order of the
+// One row per cell of form 2, by its kind and the two parts of its name. A second index has them in the order of the
 // entries, as above.
 const MAKE_CELL2: &'static str = "CREATE TABLE IF NOT EXISTS cell2 (
   kind INTEGER NOT NULL,
@@ -123,7 +123,7 @@ fn make_cell2<S: Alter>(tx: &mut Transaction<'_, S>) -> Result<usize, Error>
     tx.execute(MAKE_CELL2, &[])
 }
 
-// Makes what isn't there of the tables of form 1.
+// Makes those tables of form 1 that are missing.
 fn make_both<S: Alter>(tx: &mut Transaction<'_, S>) -> Result<(), Error>
     ensures same_reference { tx.new.conn.ghost_name ≡ tx.old.conn.ghost_name }
     ensures inside { HasCleanDisk (state S.Store tx.new.conn.now)
@@ -143,7 +143,7 @@ fn make_both<S: Alter>(tx: &mut Transaction<'_, S>) -> Result<(), Error>
     Ok(())
 }
 
-// Makes what isn't there of the tables that form 2 adds.
+// Makes those tables added by form 2 that are missing.
 fn make_second<S: Alter>(tx: &mut Transaction<'_, S>) -> Result<(), Error>
     ensures same_reference { tx.new.conn.ghost_name ≡ tx.old.conn.ghost_name }
     ensures inside { HasCleanDisk (state S.Store tx.new.conn.now)
@@ -164,7 +164,7 @@ fn make_second<S: Alter>(tx: &mut Transaction<'_, S>) -> Result<(), Error>
     Ok(())
 }
 
-// Makes what isn't there of all four.
+// Makes those of all four tables that are missing.
 fn make_all<S: Alter>(tx: &mut Transaction<'_, S>) -> Result<(), Error>
     ensures same_reference { tx.new.conn.ghost_name ≡ tx.old.conn.ghost_name }
     ensures inside { HasCleanDisk (state S.Store tx.new.conn.now)
@@ -185,7 +185,7 @@ fn make_all<S: Alter>(tx: &mut Transaction<'_, S>) -> Result<(), Error>
     Ok(())
 }
 
-// Makes what isn't there of all four tables, by one transaction.
+// Makes those of all four tables that are missing, in one transaction.
 pub fn make_tables<S: Alter>(conn: &mut Connection<S>) -> Result<(), Error>
     requires { conn.old.in_transaction ≡ false }
     ensures mode { conn.new.in_transaction ≡ false }
@@ -202,7 +202,7 @@ pub fn make_tables<S: Alter>(conn: &mut Connection<S>) -> Result<(), Error>
     Ok(())
 }
 
-// Makes what isn't there of the tables that form 2 adds, by one transaction.
+// Makes those tables added by form 2 that are missing, in one transaction.
 pub fn add_tables<S: Alter>(conn: &mut Connection<S>) -> Result<(), Error>
     requires { conn.old.in_transaction ≡ false }
     ensures mode { conn.new.in_transaction ≡ false }

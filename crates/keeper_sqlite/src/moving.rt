@@ -1,4 +1,4 @@
-// The move of the cells from form 1 to form 2, by one transaction.
+// The move of the cells from form 1 to form 2, in one transaction.
 ghost use Rattle.std.specs.Prelude.{◌≡◌, [], false, IfOk, IsTrue, OnOk, OnErr, Some};
 ghost use Rattle.sqlite_value.specs.declared.value.Value.TheVariants.{Int};
 ghost use Rattle.sqlite_value.specs.Value.{owned};
@@ -15,7 +15,7 @@ use sqlite::types::ValueRef;
 use sqlite::{Alter, Connection, Error, Row, Transaction};
 use std::alloc::Global;
 
-// The cells are read by pages, so that memory holds a few of them at a time.
+// The cells are read in pages, so that memory holds only a few of them at a time.
 const PAGE: &'static str =
     "SELECT rowid, kind, name, touched, row FROM cell ORDER BY rowid LIMIT 100";
 
@@ -23,12 +23,12 @@ const CLEAR: &'static str = "DELETE FROM cell WHERE rowid <= ?1";
 
 const SET_FORM: &'static str = "INSERT INTO store (one, form) VALUES (1, 2)";
 
-// Why a move is given up.
+// Why a move is abandoned.
 #[derive(Debug, Drop)]
 pub enum Stop {
     // A statement was refused or failed.
     Statement(Error),
-    // A row has no cell, or memory ran out as it was read.
+    // A row has no cell, or memory ran out while it was read.
     Row(KeepFault),
 }
 
@@ -66,7 +66,7 @@ fn id_value(id: i64) -> ValueRef<'static>
     ValueRef::Int(id)
 }
 
-// Takes out the cells of form 1 up to the row with this id.
+// Removes the cells of form 1 up to the row with this id.
 fn clear_cells<S: Alter>(tx: &mut Transaction<'_, S>, last: i64) -> Result<usize, Error>
     ensures same_reference { tx.new.conn.ghost_name ≡ tx.old.conn.ghost_name }
     ensures clears { HasCleanDisk (state S.Store tx.new.conn.now)
@@ -94,7 +94,7 @@ fn write_form<S: Alter>(tx: &mut Transaction<'_, S>) -> Result<usize, Error>
     tx.execute(SET_FORM, &[])
 }
 
-// Puts the cells of a page into form 2, and takes the rows of the page out of form 1.
+// Puts the cells of a page into form 2, and removes the rows of the page from form 1.
 fn copy_page<S: Alter>(
     tx: &mut Transaction<'_, S>,
     alloc: Global,
@@ -118,7 +118,7 @@ fn copy_page<S: Alter>(
     Ok(())
 }
 
-// Carries a page of cells over. False where none was left.
+// Moves a page of cells. Returns false if none was left.
 fn move_page<S: Alter>(tx: &mut Transaction<'_, S>, alloc: Global) -> Result<bool, Stop>
     ensures same_reference { tx.new.conn.ghost_name ≡ tx.old.conn.ghost_name }
     ensures carries { HasCleanDisk (state S.Store tx.new.conn.now)
@@ -139,7 +139,7 @@ fn move_page<S: Alter>(tx: &mut Transaction<'_, S>, alloc: Global) -> Result<boo
     }
 }
 
-// Carries all cells over, from the first to the last.
+// Moves all cells, from the first to the last.
 fn move_pages<S: Alter>(tx: &mut Transaction<'_, S>, alloc: Global) -> Result<(), Stop>
     ensures same_reference { tx.new.conn.ghost_name ≡ tx.old.conn.ghost_name }
     ensures carries { HasCleanDisk (state S.Store tx.new.conn.now)
@@ -160,7 +160,7 @@ fn move_pages<S: Alter>(tx: &mut Transaction<'_, S>, alloc: Global) -> Result<()
     Err(Stop::Row(KeepFault::Failed))
 }
 
-// Carries all cells over, and then writes the form.
+// Moves all cells, and then writes the form.
 fn move_all<S: Alter>(tx: &mut Transaction<'_, S>, alloc: Global) -> Result<(), Stop>
     ensures same_reference { tx.new.conn.ghost_name ≡ tx.old.conn.ghost_name }
     ensures moves { HasCleanDisk (state S.Store tx.new.conn.now)
@@ -176,7 +176,7 @@ fn move_all<S: Alter>(tx: &mut Transaction<'_, S>, alloc: Global) -> Result<(), 
     Ok(())
 }
 
-// Moves a store of form 1 with all four tables to form 2. Where that isn't committed it is taken back.
+// Moves a store of form 1 with all four tables to form 2. If that isn't committed, it is rolled back.
 pub fn move_cells<S: Alter>(conn: &mut Connection<S>, alloc: Global) -> Result<(), Stop>
     requires { conn.old.in_transaction ≡ false }
     ensures mode { conn.new.in_transaction ≡ false }

@@ -19,18 +19,18 @@ use sqlite::{Alter, Connection, Row};
 use std::alloc::Global;
 use store_statements::{Stage, stage_of};
 
-// The form of a store, by the table of the form.
+// The form of a store, according to the table of the form.
 #[derive(Clone, Copy, Debug, PartialEq, Eq)]
 enum Form {
     // No row.
     First,
-    // The one row of form 2.
+    // The only row says form 2.
     Second,
     // Anything else.
     Other,
 }
 
-// Makes all tables, where none is there but that of the entries.
+// Makes all tables, if there is none but that of the entries.
 fn make<S: Alter>(conn: &mut Connection<S>, cause: &mut Cause) -> Result<(), KeepFault>
     requires mode { conn.old.in_transaction ≡ false }
     requires begun { IsBegun (state S.Store conn.old).now.schema }
@@ -45,7 +45,7 @@ fn make<S: Alter>(conn: &mut Connection<S>, cause: &mut Cause) -> Result<(), Kee
     }
 }
 
-// Makes the tables that form 2 adds.
+// Makes the tables added by form 2.
 fn add<S: Alter>(conn: &mut Connection<S>, cause: &mut Cause) -> Result<(), KeepFault>
     requires mode { conn.old.in_transaction ≡ false }
     requires first { IsFirst (state S.Store conn.old).now.schema }
@@ -60,8 +60,7 @@ fn add<S: Alter>(conn: &mut Connection<S>, cause: &mut Cause) -> Result<(), Keep
     }
 }
 
-// Makes the tables where they aren't there. A store with any other schema isn't touched, nor is one inside a
-// transaction.
+// Makes the tables that are missing. A store with any other schema isn't touched, nor is one inside a transaction.
 fn make_missing<S: Alter>(conn: &mut Connection<S>, cause: &mut Cause) -> Result<(), KeepFault>
     ensures steady { IsSteady (state S.Store conn.old) (state S.Store conn.new) }
 {
@@ -82,7 +81,7 @@ fn make_missing<S: Alter>(conn: &mut Connection<S>, cause: &mut Cause) -> Result
     }
 }
 
-// The form that rows of the table of the form say.
+// The form that is written in the rows of the form's table.
 fn form_in(rows: &[Row]) -> Form
     ensures first { (result ≡ Form.First) → (rows.now ≡ []) }
     ensures second { (result ≡ Form.Second) → (rows.now ≡ second_row ∷ []) }
@@ -94,7 +93,7 @@ fn form_in(rows: &[Row]) -> Form
     }
 }
 
-// The form of a store that is seen to have all four tables.
+// The form of a store that was found to have all four tables.
 fn known_form<S: Alter>(conn: &mut Connection<S>, cause: &mut Cause) -> Result<Form, KeepFault>
     requires mode { conn.old.in_transaction ≡ false }
     requires whole { IsWhole (state S.Store conn.old) }
@@ -109,7 +108,7 @@ fn known_form<S: Alter>(conn: &mut Connection<S>, cause: &mut Cause) -> Result<F
     }
 }
 
-// The form of a store. One that hasn't all four tables is refused.
+// The form of a store. One without all four tables is refused.
 fn form_of<S: Alter>(conn: &mut Connection<S>, cause: &mut Cause) -> Result<Form, KeepFault>
     ensures steady { IsSteady (state S.Store conn.old) (state S.Store conn.new) }
     ensures mode { OnOk result (conn.new.in_transaction ≡ false) }
@@ -184,7 +183,7 @@ fn move_first<S: Alter>(
     }
 }
 
-// Sees that a store has form 2.
+// Checks that a store has form 2.
 fn confirm<S: Alter>(conn: &mut Connection<S>, cause: &mut Cause) -> Result<(), KeepFault>
     ensures steady { IsSteady (state S.Store conn.old) (state S.Store conn.new) }
     ensures mode { OnOk result (conn.new.in_transaction ≡ false) }
@@ -196,7 +195,7 @@ fn confirm<S: Alter>(conn: &mut Connection<S>, cause: &mut Cause) -> Result<(), 
     }
 }
 
-// Moves a store to form 2, and sees that it has it.
+// Moves a store to form 2, and checks that it has form 2.
 fn upgrade_fully<S: Alter>(
     conn: &mut Connection<S>,
     alloc: Global,
@@ -211,7 +210,7 @@ fn upgrade_fully<S: Alter>(
     confirm(conn, cause)
 }
 
-// Moves a store with all four tables to form 2, where it has form 1.
+// Moves a store with all four tables to form 2, if it has form 1.
 fn settle<S: Alter>(
     conn: &mut Connection<S>,
     alloc: Global,
@@ -228,7 +227,7 @@ fn settle<S: Alter>(
     }
 }
 
-// Makes the tables where they aren't there, and moves a store of form 1 to form 2.
+// Makes the tables that are missing, and moves a store of form 1 to form 2.
 pub fn prepare<S: Alter>(
     conn: &mut Connection<S>,
     alloc: Global,
@@ -238,13 +237,13 @@ pub fn prepare<S: Alter>(
     ensures mode { OnOk result (conn.new.in_transaction ≡ false) }
     ensures ready { HasCleanDisk (state S.Store conn.new) → OnOk result (IsReady (state S.Store conn.new)) }
 {
-    // A failure of which nothing else is noted is one of a row.
+    // If nothing else is noted of a failure, the cause is a row.
     *cause = Cause::Row;
     make_missing(conn, cause)?;
     settle(conn, alloc, cause)
 }
 
-// The number of the last entry, by the rows that were read of it: 0 where there is none.
+// The number of the last entry, from the rows that were read for it: 0 if there is none.
 fn number_in(rows: &[Row]) -> Result<u64, KeepFault>
     ensures { IfOk result (λ number. (t : KeptTables) → rows.now ≡ last_rows t → number ≡ last_number t) }
 {
@@ -272,7 +271,7 @@ pub fn last<S: Alter>(
     }
 }
 
-// The entries whose number is greater than `after` and at most `upto`, in their order.
+// The entries whose number is greater than `after` and at most `upto`, in order.
 pub fn entries<S: Alter>(
     conn: &mut Connection<S>,
     alloc: Global,
@@ -292,8 +291,8 @@ pub fn entries<S: Alter>(
     }
 }
 
-// The cells that an entry touched last whose number is greater than `after` and at most `upto`, in the order
-// of kinds and names.
+// The cells that were last touched by an entry with a number greater than `after` and at most `upto`, in the order of
+// kinds and names.
 pub fn cells<S: Alter>(
     conn: &mut Connection<S>,
     alloc: Global,
@@ -330,7 +329,7 @@ fn keep<S: Alter>(
     }
 }
 
-// Keeps a batch: its entry behind the others, and its cells in their places.
+// Keeps a batch: its entry after the others, and its cells in their places.
 pub fn commit<S: Alter>(
     conn: &mut Connection<S>,
     alloc: Global,

@@ -1,4 +1,4 @@
-// What is read of the tables.
+// What is read from the tables.
 ghost use Rattle.std.specs.Prelude.{◌≡◌, false, pos, min, map, Some, IfOk};
 ghost use Rattle.sqlite_value.specs.declared.value.Value.TheVariants.{Int};
 ghost use Rattle.sqlite_value.specs.Value.{owned};
@@ -13,7 +13,7 @@ ghost use Rattle.store_tables.specs.Told.{told_by};
 use sqlite::types::ValueRef;
 use sqlite::{Alter, Connection, Error, Row};
 
-// The greatest number that a column of integers takes.
+// The greatest number that an integer column takes.
 const GREATEST: u64 = 9_223_372_036_854_775_807;
 
 const LAST: &'static str = "SELECT seq FROM entry ORDER BY seq DESC LIMIT 1";
@@ -24,10 +24,10 @@ FROM entry WHERE seq > ?1 AND seq <= ?2 ORDER BY seq";
 const CELLS: &'static str = "SELECT kind, lei, rest, touched, row
 FROM cell2 WHERE touched > ?1 AND touched <= ?2 ORDER BY kind, lei, rest";
 
-// Two rows are enough to tell that they are too many.
+// Two rows are enough to show that there are too many.
 const FORM: &'static str = "SELECT one, form FROM store LIMIT 2";
 
-// The row of the greatest number of an entry, or none where there is no entry.
+// The row with the greatest number of an entry, or no row if there is no entry.
 pub fn read_last<S: Alter>(conn: &mut Connection<S>) -> Result<Vec<Row>, Error>
     requires ready { HasCleanDisk (state S.Store conn.old) → IsReady (state S.Store conn.old) }
     ensures steady { IsSteady (state S.Store conn.old) (state S.Store conn.new) }
@@ -38,7 +38,7 @@ pub fn read_last<S: Alter>(conn: &mut Connection<S>) -> Result<Vec<Row>, Error>
     conn.query_all(LAST, &[])
 }
 
-// The rows of the entries whose number is greater than `after` and at most `upto`, in their order.
+// The rows of the entries whose number is greater than `after` and at most `upto`, in order.
 pub fn read_entries<S: Alter>(
     conn: &mut Connection<S>,
     after: u64,
@@ -54,7 +54,7 @@ pub fn read_entries<S: Alter>(
     conn.query_all(ENTRIES, &[number(after), number(upto)])
 }
 
-// The rows of the cells of form 2 that an entry touched last whose number is greater than `after` and at most
+// The rows of the cells of form 2 that were last touched by an entry with a number greater than `after` and at most
 // `upto`, in the order of kinds and names.
 pub fn read_cells<S: Alter>(
     conn: &mut Connection<S>,
@@ -83,8 +83,7 @@ pub fn read_form<S: Alter>(conn: &mut Connection<S>) -> Result<Vec<Row>, Error>
     conn.query_all(FORM, &[])
 }
 
-// A number as a value to compare with. One that is greater than all that are kept is taken as the greatest of
-// these.
+// A number as a value to compare with. A number greater than all that are kept counts as the greatest of these.
 fn number(number: u64) -> ValueRef<'static>
     ensures { bound_value (owned result) ≡ Int (pos (min number 9223372036854775807)) }
 {

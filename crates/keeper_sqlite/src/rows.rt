@@ -54,7 +54,7 @@ pub fn cell_values<'a>(cell: &'a KeptCell) -> [ValueRef<'a>; 5]
     ]
 }
 
-// The first part of a name, or the whole name where it is shorter.
+// The first part of a name, or the whole name if it is shorter.
 fn lei_part(name: &[u8]) -> &[u8]
     ensures { result.now ≡ lei_of name.now }
 {
@@ -65,7 +65,7 @@ fn lei_part(name: &[u8]) -> &[u8]
     }
 }
 
-// What follows it.
+// What follows that part.
 fn rest_part(name: &[u8]) -> &[u8]
     ensures { result.now ≡ rest_of name.now }
 {
@@ -76,7 +76,7 @@ fn rest_part(name: &[u8]) -> &[u8]
     }
 }
 
-// A number as one of 64 bits, with the range of its type.
+// A number as one of 64 bits, within the range of its type.
 fn of_byte(number: u8) -> i64
     ensures value { result ≡ pos number }
     ensures range { number < 2 ^ 8 }
@@ -107,8 +107,8 @@ fn row_value<'a>(row: &'a Option<Shared>) -> ValueRef<'a>
     }
 }
 
-// The entry that a row has. A row that has none, as where a kind is above 255 or a number is negative, is a
-// failure.
+// The entry that a row has. A row without one is a failure, for instance if a kind is above 255 or a number is
+// negative.
 pub fn entry_of(alloc: Global, row: &Row) -> Result<KeptEntry, KeepFault>
     ensures ok { IfOk result (λ e. row.now ≡ entry_row e) }
     ensures err { IsErrOf result KeepFault.Failed → ¬ (IsEntryRow row.now) }
@@ -128,7 +128,7 @@ pub fn entry_of(alloc: Global, row: &Row) -> Result<KeptEntry, KeepFault>
     })
 }
 
-// The cell that a row of form 2 has. A row that has none is a failure.
+// The cell that a row of form 2 has. A row without one is a failure.
 pub fn cell_of(alloc: Global, row: &Row) -> Result<KeptCell, KeepFault>
     ensures ok { IfOk result (λ c. row.now ≡ cell_row c) }
     ensures err { IsErrOf result KeepFault.Failed → ¬ (IsCellRow row.now) }
@@ -144,7 +144,7 @@ pub fn cell_of(alloc: Global, row: &Row) -> Result<KeptCell, KeepFault>
     })
 }
 
-// The name whose two parts a row of form 2 has.
+// The name whose two parts are in a row of form 2.
 fn name_in(alloc: Global, row: &Row) -> Result<Bytes, KeepFault>
     requires { 2 < length row.now }
     ensures lei { IfOk result (λ name. column row.now 1 ≡ Text (lei_of name)) }
@@ -160,14 +160,14 @@ fn name_in(alloc: Global, row: &Row) -> Result<Bytes, KeepFault>
     Ok(joined(alloc, lei, rest)?)
 }
 
-// Whether two texts are the parts of a name: nothing follows a first one that is shorter than an LEI.
+// Whether two texts are the parts of a name: nothing follows a first part that is shorter than an LEI.
 fn are_parts(lei: &[u8], rest: &[u8]) -> bool
     ensures { IsTrue result ↔ AreParts lei.now rest.now }
 {
     lei.len() == LEI_LENGTH || (lei.len() < LEI_LENGTH && rest.is_empty())
 }
 
-// Both parts of a name put together.
+// Both parts of a name joined.
 fn joined(alloc: Global, lei: &[u8], rest: &[u8]) -> Result<Bytes, NoMemory>
     ensures { IfOk result (λ name. name ≡ lei.now ++ rest.now) }
 {
@@ -177,7 +177,7 @@ fn joined(alloc: Global, lei: &[u8], rest: &[u8]) -> Result<Bytes, NoMemory>
     Ok(Bytes::from(name))
 }
 
-// The cell that a row of form 1 has, as it is stored, with the row's id in front.
+// The cell that a row of form 1 has, as it is stored, with the row's id first.
 fn first_cell_of(alloc: Global, row: &Row) -> Result<KeptCell, KeepFault>
     ensures ok { IfOk result (λ c. c ≡ form_1.read row.now) }
     ensures range { IfOk result (λ c. c.touched ≤ 9223372036854775807) }
@@ -193,7 +193,7 @@ fn first_cell_of(alloc: Global, row: &Row) -> Result<KeptCell, KeepFault>
     })
 }
 
-// The entries that rows have, or a failure where one has none.
+// The entries that rows have, or a failure if a row has none.
 pub fn entries_of(alloc: Global, rows: &[Row]) -> Result<List<KeptEntry>, KeepFault>
     ensures ok { IfOk result (λ list. rows.now ≡ map entry_row list) }
     ensures err { IsErrOf result KeepFault.Failed → Any (λ row. ¬ (IsEntryRow row)) rows.now }
@@ -205,7 +205,7 @@ pub fn entries_of(alloc: Global, rows: &[Row]) -> Result<List<KeptEntry>, KeepFa
     Ok(List::from(list))
 }
 
-// The cells that rows have, or a failure where one has none.
+// The cells that rows have, or a failure if a row has none.
 pub fn cells_of(alloc: Global, rows: &[Row]) -> Result<List<KeptCell>, KeepFault>
     ensures ok { IfOk result (λ list. rows.now ≡ map cell_row list) }
     ensures err { IsErrOf result KeepFault.Failed → Any (λ row. ¬ (IsCellRow row)) rows.now }
@@ -217,7 +217,7 @@ pub fn cells_of(alloc: Global, rows: &[Row]) -> Result<List<KeptCell>, KeepFault
     Ok(List::from(list))
 }
 
-// The cells that rows of form 1 have, or a failure where one has none.
+// The cells that rows of form 1 have, or a failure if a row has none.
 pub fn first_cells_of(alloc: Global, rows: &[Row]) -> Result<List<KeptCell>, KeepFault>
     ensures ok { IfOk result (λ list. list ≡ map form_1.read rows.now) }
     ensures range { IfOk result (λ list. AllByRecursion (λ c. c.touched ≤ 9223372036854775807) list) }
@@ -229,7 +229,7 @@ pub fn first_cells_of(alloc: Global, rows: &[Row]) -> Result<List<KeptCell>, Kee
     Ok(List::from(list))
 }
 
-// The id of the last row of form 1, or none where there is no row.
+// The id of the last row of form 1, or `None` if there is no row.
 pub fn last_row_id(rows: &[Row]) -> Result<Option<i64>, KeepFault>
     ensures { IfOk result (λ id. id ≡ last_id rows.now) }
 {
@@ -239,7 +239,7 @@ pub fn last_row_id(rows: &[Row]) -> Result<Option<i64>, KeepFault>
     }
 }
 
-// The id of a row, which stands in front.
+// The id of a row, which comes first.
 fn row_id(row: &Row) -> Result<i64, KeepFault>
     ensures { IfOk result (λ id. column row.now 0 ≡ Int id) }
 {
@@ -278,7 +278,7 @@ pub fn number_of(row: &Row) -> Result<u64, KeepFault>
     u64_at(row, 0)
 }
 
-// The number in a column, where it isn't negative.
+// The number in a column, if it isn't negative.
 fn u64_at(row: &Row, at: usize) -> Result<u64, KeepFault>
     requires { at < length row.now }
     ensures ok { IfOk result (λ n. column row.now at ≡ Int (pos n)) }
@@ -293,7 +293,7 @@ fn u64_at(row: &Row, at: usize) -> Result<u64, KeepFault>
     }
 }
 
-// The number in a column, where it is below this one.
+// The number in a column, if it is below this bound.
 fn below_at(row: &Row, at: usize, bound: u64) -> Result<u64, KeepFault>
     requires { at < length row.now }
     ensures ok { IfOk result (λ n. column row.now at ≡ Int (pos n)) }
@@ -329,7 +329,7 @@ fn text_at(alloc: Global, row: &Row, at: usize) -> Result<Bytes, KeepFault>
     Ok(Bytes::copy_of(alloc, text_in(row, at)?)?)
 }
 
-// The bytes of the text in a column, lent.
+// The bytes of the text in a column, borrowed.
 fn text_in(row: &Row, at: usize) -> Result<&[u8], KeepFault>
     requires { at < length row.now }
     ensures ok { IfOk result (λ bytes. column row.now at ≡ Text bytes.now) }
@@ -353,7 +353,7 @@ fn blob_at(row: &Row, at: usize) -> Result<&[u8], KeepFault>
     }
 }
 
-// The blob in a column, or none where it has NULL.
+// The blob in a column, or `None` if the column has NULL.
 fn blob_or_null_at(alloc: Global, row: &Row, at: usize) -> Result<Option<Shared>, KeepFault>
     requires { at < length row.now }
     ensures ok { IfOk result (λ bytes. column row.now at ≡ or_null Blob bytes) }

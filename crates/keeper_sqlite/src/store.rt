@@ -1,4 +1,4 @@
-// A connection that a keeper adopted, with what each call of the keeper does to it.
+// A connection that a keeper adopted, and what each call of the keeper does to it.
 ghost use Rattle.std.specs.Prelude.{◌≡◌, IfSome, IfOk, OnOk};
 ghost use Rattle.lei_outside.specs.Keeping.{AreKept, CommitLeaves, Commits, IsBatch, IsNextOf, LeavesNoMore, Stays, cells_between, entries_between, last_number};
 ghost use Rattle.keeper_sqlite.specs.Keepers.{leaves_of, tables_of};
@@ -15,7 +15,7 @@ use std::snapshot::Snapshot;
 pub struct Store<S: Alter> {
     alloc: Global,
     conn: Connection<S>,
-    // What the connection was when it was adopted, for contracts alone.
+    // The state of the connection when it was adopted, for contracts alone.
     adopted: Snapshot<Connection<S>>,
     // Why the last call failed, if it did.
     cause: Cause,
@@ -47,7 +47,7 @@ impl<S: Alter> Store<S> {
         }
     }
 
-    // The connection again.
+    // The connection, returned to the caller.
     pub fn into_connection(self) -> Connection<S>
         ensures { result ≡ self.conn }
     {
@@ -60,7 +60,7 @@ impl<S: Alter> Store<S> {
         self.cause
     }
 
-    // The greatest number of an entry, 0 where there is none.
+    // The greatest number of an entry, or 0 if there is none.
     pub fn last(&mut self) -> Result<u64, KeepFault>
         ensures answer { IfSome (tables_of S.Store self.new)
             (λ told. IfOk result (λ number. number ≡ last_number told)) }
@@ -89,7 +89,7 @@ impl<S: Alter> Store<S> {
         over::cells(&mut self.conn, self.alloc, after, upto, &mut self.cause)
     }
 
-    // Keeps a batch by one transaction. Whatever is refused, all of it is taken back.
+    // Keeps a batch in one transaction. Whatever is refused, all of it is rolled back.
     pub fn commit(&mut self, batch: &Batch) -> Result<(), KeepFault>
         requires batch { IsBatch batch.now }
         requires next { IsNextOf (tables_of S.Store self.old) batch.now }

@@ -19,7 +19,7 @@ const PUT: &'static str =
     "INSERT INTO cell2 (kind, lei, rest, touched, row) VALUES (?1, ?2, ?3, ?4, ?5)
 ON CONFLICT (kind, lei, rest) DO UPDATE SET touched = excluded.touched, row = excluded.row";
 
-// Puts an entry behind the others. It is refused where one with its number is there.
+// Adds an entry after the others. It is refused if there is one with its number.
 pub fn insert_entry<S: Alter>(
     tx: &mut Transaction<'_, S>,
     entry: &KeptEntry,
@@ -38,7 +38,7 @@ pub fn insert_entry<S: Alter>(
     tx.execute(INSERT, &entry_values(entry))
 }
 
-// Puts a cell in its place of form 2, where another one may stand.
+// Puts a cell in its place of form 2, which may already have one.
 fn put_cell<S: Alter>(tx: &mut Transaction<'_, S>, cell: &KeptCell) -> Result<usize, Error>
     requires { cell.now.touched ≤ 9223372036854775807 }
     ensures same_reference { tx.new.conn.ghost_name ≡ tx.old.conn.ghost_name }
@@ -75,7 +75,7 @@ pub fn put_cells<S: Alter>(tx: &mut Transaction<'_, S>, cells: &[KeptCell]) -> R
     Ok(())
 }
 
-// Puts the entry of a batch behind the others, and its cells in their places.
+// Adds the entry of a batch after the others, and puts its cells in their places.
 fn put_batch<S: Alter>(tx: &mut Transaction<'_, S>, batch: &Batch) -> Result<(), Error>
     requires { IsBatch batch.now }
     ensures same_reference { tx.new.conn.ghost_name ≡ tx.old.conn.ghost_name }
@@ -93,7 +93,7 @@ fn put_batch<S: Alter>(tx: &mut Transaction<'_, S>, batch: &Batch) -> Result<(),
     Ok(())
 }
 
-// Keeps a batch whole, by one transaction. Where it isn't committed it is taken back as it is let go.
+// Keeps a whole batch in one transaction. If it isn't committed, it is rolled back when it is dropped.
 pub fn write<S: Alter>(conn: &mut Connection<S>, batch: &Batch) -> Result<(), Error>
     requires batch { IsBatch batch.now }
     requires mode { conn.old.in_transaction ≡ false }

@@ -1,4 +1,4 @@
--- The first wrong place as a search finds it is the first wrong place, and the fault that is computed is the fault.
+-- The first wrong place that a search finds is the first wrong place, and the computed fault is the fault.
 use Rattle.std.proofs.Common.{◌≡◌, ◌≢◌, ℕ, ◌+◌, ◌%◌, ◌<◌, ◌≤◌, ◌⊎◌, inl, inr, Bool, true, false, not, cond, zero, suc, List, length, Option, None, Some, MatchOption, refl, ap, arith, subst}
 use Rattle.std.specs.Prelude.{find}
 use Rattle.std.specs.List.{range_with_len}
@@ -11,13 +11,13 @@ use Rattle.lei_code.specs.Number.{number}
 use Rattle.lei_code.specs.Code.{character, may_stand, IsWellFormed, IsValid}
 use Rattle.lei_code.specs.Fault.{IsFirstWrong, IsCharacterFault, IsFault, first_wrong, character_fault, fault_of}
 
--- what a search through n numbers from a on finds: none, or the first
+-- what a search through n numbers starting with a finds: none, or the first
 abbrev IsFirst : (ℕ → Bool) → ℕ → ℕ → Option ℕ → Type 0
 IsFirst test a n found = MatchOption found
     ((k : ℕ) → a ≤ k → k < a + n → test k ≡ false)
     (λ k. (a ≤ k) × (k < a + n) × (test k ≡ true) × ((j : ℕ) → a ≤ j → j < k → test j ≡ false))
 
--- the number a comes before those from a + 1 on
+-- the number a precedes those starting with a + 1
 below_from : (test : ℕ → Bool) (a m : ℕ) → test a ≡ false → ((k : ℕ) → a + 1 ≤ k → k < m → test k ≡ false) → (k : ℕ) → a ≤ k → k < m → test k ≡ false
 below_from test a m here above k low high =
     elim (cases_lt a k) [ inl h ↦ above k (omega arith) high | inr h ↦ (let e : k ≡ a = omega arith in rw e here) ]
@@ -41,7 +41,7 @@ false_from-not : (b : Bool) → not b ≡ true → b ≡ true → ⊥
 false_from-not true e h = cc
 false_from-not false e h = cc
 
--- what the search for a wrong place tells
+-- what the search for a wrong place reports
 pub first_wrong-tells : (text : List ℕ) → MatchOption (first_wrong text) (IsWellFormed text) (IsFirstWrong text)
 unfolding first_wrong
 first_wrong-tells text = told text _ (find-range _ 1 (length text)) where
@@ -87,7 +87,7 @@ pub fault_of-IsValid : (text : List ℕ) → IsValid text → fault_of text ≡ 
 unfolding fault_of
 fault_of-IsValid text valid = rw (first_wrong-none text valid.characters) (let n = valid.len in let r = valid.check in grind (arith, nat_tests))
 
--- a text is a code, or has a fault
+-- a text is a code, or it has a fault
 pub valid_or_fault : (text : List ℕ) → IsValid text ⊎ ((fault : LeiFault) × IsFault text fault)
 valid_or_fault text =
     elim (cases_eq (length text) 20) [
@@ -139,7 +139,7 @@ character_fault-at text Length none = absurd none
 character_fault-at text (Character place) wrong = rw (first_wrong-found text place wrong)
 character_fault-at text CheckDigits none = absurd none
 
--- and back
+-- and conversely
 pub IsCharacterFault-from_character_fault : (text : List ℕ) (fault : LeiFault) → character_fault text ≡ Some fault → IsCharacterFault text fault
 IsCharacterFault-from_character_fault text fault e = from_found text fault _ (first_wrong-tells text) e where
   from_found : (text : List ℕ) (fault : LeiFault) (o : Option ℕ) → MatchOption o (IsWellFormed text) (IsFirstWrong text) → option_map Character o ≡ Some fault → IsCharacterFault text fault

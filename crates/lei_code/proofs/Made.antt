@@ -1,4 +1,4 @@
--- The check digits that are made for a text of 18 characters make it a code.
+-- The check digits that are computed for a text of 18 characters make it a code.
 use Rattle.std.proofs.Common.{◌≡◌, ℕ, ◌+◌, ◌-◌, ◌*◌, ◌/◌, ◌%◌, ◌<◌, ◌≤◌, List, [], ◌∷◌, ◌++◌, length, get_or, ap, sym, ◌∙◌, arith, append_assoc, length-append}
 use Rattle.std.proofs.Math.ListN.{get_or-append}
 use Rattle.std.proofs.lemmas.Bool.Decides.{nat_tests}
@@ -21,7 +21,7 @@ number-two text tens ones t o =
     let second = number-digit (text ++ (48 + tens) ∷ []) (48 + ones) (omega arith) (omega arith) in
     rw (push-two text (48 + tens) (48 + ones)) (omega arith)
 
--- the number with `00` behind it
+-- the number followed by `00`
 pub number-zeros : (text : List ℕ) → number (text ++ codes "00") ≡ 100 * number text
 number-zeros text = number-two text 0 0 (omega arith) (omega arith) ∙ omega arith
 
@@ -76,7 +76,7 @@ pub digits-value : (text : List ℕ) (r : ℕ) → r ≡ number text % 97 → tw
 unfolding digits
 digits-value text r e = rw (number-zeros text) (ap (λ k. two_digits (98 - k)) (omega arith))
 
--- the same of what is made
+-- the same for the digits that were computed
 pub IsValid-made : (text made : List ℕ) → length text ≡ 18 → IsWellFormed text → made ≡ digits text → IsValid (text ++ made)
 IsValid-made text made len all e = rw e (IsValid-digits text len all)
 
@@ -92,7 +92,7 @@ pub ruleset made_digits = (character_fault-at, character_fault-none, digits-valu
 is_digit-at_end : (place c : ℕ) → 18 < place → IsTrue (may_stand place c) → (48 ≤ c) × (c ≤ 57)
 is_digit-at_end place c late stands = (grind (arith, nat_tests), grind (arith, nat_tests))
 
--- the character behind 18 others, and the one behind it
+-- the character after 18 others, and the one after that
 at_19 : (text : List ℕ) (a b : ℕ) → length text ≡ 18 → IsWellFormed (text ++ a ∷ b ∷ []) → (48 ≤ a) × (a ≤ 57)
 at_19 text a b len all =
     let here : get_or (text ++ a ∷ b ∷ []) 18 0 ≡ a = get_or-append_right text (a ∷ b ∷ []) 18 18 0 len (omega arith) in
@@ -103,7 +103,7 @@ at_20 text a b len all =
     let here : get_or (text ++ a ∷ b ∷ []) 19 0 ≡ b = get_or-append_right text (a ∷ b ∷ []) 18 19 0 len (omega arith) in
     is_digit-at_end 20 b (omega arith) (rw here at (all.each 20 (omega arith) (omega (arith, length-append text (a ∷ b ∷ [])))))
 
--- two digits that stand for a number are the two digits of it
+-- two digits that represent a number are its two digits
 two_digits-of : (a b n : ℕ) → 48 ≤ a → a ≤ 57 → 48 ≤ b → b ≤ 57 → n ≡ 10 * (a - 48) + (b - 48) → a ∷ b ∷ [] ≡ two_digits n
 two_digits-of a b n low_a high_a low_b high_b e =
     let tens : a ≡ 48 + n / 10 = omega arith in
@@ -120,7 +120,7 @@ digits-are : (text : List ℕ) → two_digits (98 - (100 * number text) % 97) �
 unfolding digits
 digits-are text = rw (number-zeros text)
 
--- of the check digits 02 to 98, those that are made alone make a code
+-- of the check digits 02 to 98, only the computed ones make a code
 pub digits-unique : (text made : List ℕ) → length text ≡ 18 → IsValid (text ++ made) → 2 ≤ number made → number made ≤ 98 → made ≡ digits text
 digits-unique text [] len valid low high = absurd (omega (arith, valid.len, length-append text []))
 digits-unique text (a ∷ []) len valid low high = absurd (omega (arith, valid.len, length-append text (a ∷ [])))

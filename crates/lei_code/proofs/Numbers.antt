@@ -1,4 +1,4 @@
--- How the number of a text grows by a character, and what that does to its remainder by 97.
+-- How the number of a text grows by a character, and how that changes its remainder modulo 97.
 use Rattle.std.proofs.Common.{◌≡◌, ℕ, ◌+◌, ◌-◌, ◌*◌, ◌/◌, ◌%◌, ◌<◌, ◌≤◌, List, [], ◌∷◌, ◌++◌, length, get_or, take, fold, refl, ◌∙◌, arith}
 use Rattle.std.proofs.lemmas.Bool.Decides.{nat_tests}
 use Rattle.std.proofs.lemmas.Grind.{flat_map-append, fold-append}
@@ -11,7 +11,7 @@ spelled-digit c low high = grind (arith, nat_tests)
 spelled-letter : (c : ℕ) → 65 ≤ c → c ≤ 90 → spelled c ≡ (c - 55) / 10 ∷ (c - 55) % 10 ∷ []
 spelled-letter c low high = grind (arith, nat_tests)
 
--- a character more: its digits go on from the number so far
+-- one more character: its digits continue the number so far
 number-push : (text : List ℕ) (c : ℕ) → number (text ++ c ∷ []) ≡ fold (λ n digit. 10 * n + digit) (number text) (spelled c ++ [])
 unfolding number
 number-push text c = simp (flat_map-append, fold-append)

@@ -1,4 +1,4 @@
--- Texts of equal length are in the order of the numbers that their bytes make.
+-- Texts of equal length are in the order of the numbers that their bytes form.
 use Rattle.std.proofs.Common.{◌≡◌, ℕ, zero, suc, ◌+◌, ◌*◌, ◌<◌, ◌≤◌, List, [], ◌∷◌, ◌++◌, length, get_or, take, drop, refl, ap, sym, ◌∙◌, arith, drop-cons, length-drop}
 use Rattle.std.proofs.Math.Seq.{get_or-drop}
 use Rattle.std.proofs.lemmas.List.{take-append-drop, drop_all, get_or-take, length-take-le}
@@ -19,13 +19,13 @@ then_equal Less = refl
 then_equal Equal = refl
 then_equal Greater = refl
 
--- the first decides where it isn't `Equal`
+-- the first decides if it isn't `Equal`
 then_apart : (a b : Ordering) → (a ≡ Equal → ⊥) → a ≡ ordering_then a b
 then_apart Less b apart = refl
 then_apart Equal b apart = absurd (apart refl)
 then_apart Greater b apart = refl
 
--- the front decides, where both are as long, and else the rest
+-- the front decides if both are equally long and differ, and otherwise the rest
 slice_cmp-append : (xs ys zs ws : List ℕ) → length xs ≡ length ys → slice_cmp nat_cmp (xs ++ zs) (ys ++ ws) ≡ ordering_then (slice_cmp nat_cmp xs ys) (slice_cmp nat_cmp zs ws)
 slice_cmp-append [] [] zs ws same = refl
 slice_cmp-append [] (y ∷ ys) zs ws same = absurd (omega arith)
@@ -34,7 +34,7 @@ slice_cmp-append (x ∷ xs) (y ∷ ys) zs ws same =
     ap (ordering_then (nat_cmp x y)) (slice_cmp-append xs ys zs ws (omega arith))
     ∙ sym (then_assoc (nat_cmp x y) (slice_cmp nat_cmp xs ys) (slice_cmp nat_cmp zs ws))
 
--- a digit more, in base 256
+-- one more digit, in base 256
 nat_cmp-digit : (a b x y : ℕ) → x < 256 → y < 256 → nat_cmp (a * 256 + x) (b * 256 + y) ≡ ordering_then (nat_cmp a b) (nat_cmp x y)
 nat_cmp-digit a b x y small_x small_y = sym (nat_cmp_is _ _ _ (by (nat_cmp a b) (nat_cmp x y) (ranks a b) (ranks x y)))
   where
@@ -55,7 +55,7 @@ after n (x ∷ xs) = after (n * 256 + x) xs
 abbrev AreBytes : List ℕ → Type 0
 AreBytes xs = (k : ℕ) → k < length xs → get_or xs k 0 < 256
 
--- the numbers before decide, and else the bytes behind them, of which there are as many
+-- the numbers before decide, and otherwise the equally many bytes after them
 nat_cmp-after : (a b : ℕ) (xs ys : List ℕ) → length xs ≡ length ys → AreBytes xs → AreBytes ys → nat_cmp (after a xs) (after b ys) ≡ ordering_then (nat_cmp a b) (slice_cmp nat_cmp xs ys)
 nat_cmp-after a b [] [] same small_xs small_ys = sym (then_equal (nat_cmp a b))
 nat_cmp-after a b [] (y ∷ ys) same small_xs small_ys = absurd (omega arith)
@@ -65,7 +65,7 @@ nat_cmp-after a b (x ∷ xs) (y ∷ ys) same small_xs small_ys =
     ∙ ap (λ o. ordering_then o (slice_cmp nat_cmp xs ys)) (nat_cmp-digit a b x y (small_xs 0 (omega arith)) (small_ys 0 (omega arith)))
     ∙ then_assoc (nat_cmp a b) (nat_cmp x y) (slice_cmp nat_cmp xs ys)
 
--- n bytes from place i on, each by its place
+-- n bytes starting at place i, each by its place
 abbrev each_from : List ℕ → ℕ → ℕ → List ℕ
 each_from xs i zero = []
 each_from xs i (suc n) = get_or xs i 0 ∷ each_from xs (suc i) n
@@ -88,11 +88,11 @@ AreBytes-take n xs le small k l =
 AreBytes-drop : (n : ℕ) (xs : List ℕ) → n ≤ length xs → AreBytes xs → AreBytes (drop n xs)
 AreBytes-drop n xs le small k l = rw (get_or-drop n xs k 0) (small (n + k) (omega (arith, length-drop n xs)))
 
--- as many bytes that make x and y are in the order of x and y
+-- equally many bytes that form x and y are in the order of x and y
 slice_cmp-by_number : (xs ys : List ℕ) (x y : ℕ) → length xs ≡ length ys → AreBytes xs → AreBytes ys → x ≡ after 0 xs → y ≡ after 0 ys → nat_cmp x y ≡ slice_cmp nat_cmp xs ys
 slice_cmp-by_number xs ys x y same small_xs small_ys is_x is_y = (λ i. nat_cmp (is_x i) (is_y i)) ∙ nat_cmp-after 0 0 xs ys same small_xs small_ys
 
--- texts of 20 bytes are in the order of the numbers of their first 16, and else of their last 4
+-- texts of 20 bytes are in the order of the numbers of their first 16, and otherwise of their last 4
 slice_cmp-by_numbers : (xs ys : List ℕ) → length xs ≡ 20 → length ys ≡ 20 → AreBytes xs → AreBytes ys
     → slice_cmp nat_cmp xs ys ≡ ordering_then (nat_cmp (from_be_bytes w128 (take 16 xs)) (from_be_bytes w128 (take 16 ys))) (nat_cmp (from_be_bytes w32 (drop 16 xs)) (from_be_bytes w32 (drop 16 ys)))
 slice_cmp-by_numbers xs ys len_xs len_ys small_xs small_ys =

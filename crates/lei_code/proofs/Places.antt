@@ -1,4 +1,4 @@
--- What stands at the places of a text.
+-- The characters at the places of a text.
 use Rattle.std.proofs.Common.{◌≡◌, ℕ, ◌+◌, ◌-◌, ◌<◌, ◌≤◌, inl, inr, List, length, get_or, arith}
 use Rattle.std.specs.Prelude.{IsTrue}
 use Rattle.std.proofs.lemmas.Bool.{cases_lt}
@@ -8,7 +8,7 @@ use Rattle.std.proofs.lemmas.List.{get_or_past}
 use Rattle.std.proofs.lemmas.Str.{IsUtf8-from_ascii}
 use Rattle.lei_code.specs.Code.{character, may_stand, IsWellFormed, IsValid}
 
--- the first n places have what may stand there
+-- the first n places have characters that are allowed there
 abbrev pub IsWellFormedTo : List ℕ → ℕ → Type 0
 IsWellFormedTo text n = (place : ℕ) → 1 ≤ place → place ≤ n → IsTrue (may_stand place (character text place))
 

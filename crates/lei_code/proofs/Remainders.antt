@@ -1,4 +1,4 @@
--- What one more byte does to the remainder and to what was found of the places.
+-- How one more byte changes the remainder and the state of the places checked so far.
 use Rattle.lei_code.proofs.Numbers.{number-nil, next_digit, next_letter}
 use Rattle.lei_code.proofs.Places.{may_stand-digit, may_stand-letter, well_formed_more}
 

@@ -1,4 +1,4 @@
--- The check digits that are made for the first 18 characters of a code (ISO/IEC 7064 MOD 97-10).
+-- The check digits for the first 18 characters of a code (ISO/IEC 7064 MOD 97-10).
 use Rattle.std.specs.Prelude.{ℕ, ◌+◌, ◌-◌, ◌/◌, ◌%◌, [], ◌∷◌, ◌++◌, codes}
 use Rattle.lei_code.specs.Number.{number}
 use Rattle.lei_code.specs.Texts.{Text}
@@ -7,7 +7,7 @@ use Rattle.lei_code.specs.Texts.{Text}
 abbrev pub two_digits : ℕ → Text
 two_digits n = (48 + n / 10) ∷ (48 + n % 10) ∷ []
 
--- The two check digits of the first 18 characters: 98 less the remainder by 97 of the number of the text with `00`
--- behind it (ISO/IEC 7064, MOD 97-10).
+-- The two check digits for the first 18 characters: 98 minus the remainder modulo 97 of the number of the text followed
+-- by `00` (ISO/IEC 7064, MOD 97-10).
 unfoldable pub digits : Text → Text
 digits text = two_digits (98 - number (text ++ codes "00") % 97)

@@ -1,5 +1,5 @@
--- The decimal number that a text of digits and capital letters stands for, by which its check digits are judged
--- (ISO 17442-1, ISO/IEC 7064 MOD 97-10).
+-- The decimal number that a text of digits and capital letters represents, by which its check digits are judged (ISO
+-- 17442-1, ISO/IEC 7064 MOD 97-10).
 use Rattle.std.specs.Prelude.{ℕ, ◌+◌, ◌-◌, ◌*◌, ◌/◌, ◌%◌, List, [], ◌∷◌, if◌then◌else◌, fold, flat_map}
 use Rattle.std.specs.Char.{is_ascii_digit}
 use Rattle.lei_code.specs.Texts.{Text}
@@ -8,10 +8,10 @@ use Rattle.lei_code.specs.Texts.{Text}
 abbrev pub spelled : ℕ → List ℕ
 spelled c = if is_ascii_digit c then (c - 48) ∷ [] else (c - 55) / 10 ∷ (c - 55) % 10 ∷ []
 
--- The number that decimal digits write, the first of them the highest.
+-- The number that decimal digits write, the most significant first.
 abbrev pub decimal : List ℕ → ℕ
 decimal digits = fold (λ n digit. 10 * n + digit) 0 digits
 
--- The number that stands when each letter of the text is replaced by its two digits.
+-- The number that results when each letter of the text is replaced by its two digits.
 unfoldable pub number : Text → ℕ
 number text = decimal (flat_map spelled text)

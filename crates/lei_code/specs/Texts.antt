@@ -1,7 +1,7 @@
 -- Lists of bytes, named by what they are. To the prover each is a list of numbers below 256; the names are for readers.
 use Rattle.std.specs.Prelude.{ℕ, List}
 
--- A Legal Entity Identifier (LEI): its 20 characters, or a text that is asked to be one.
+-- A Legal Entity Identifier (LEI): its 20 characters, or a text that is checked for being one.
 abbrev pub Lei : Type 0
 Lei = List ℕ
 

@@ -1,3 +1,4 @@
+//! Codes whose check digits are right.
 ghost use Rattle.std.specs.Prelude.{◌≡◌, ◌↔◌, List, ℕ, IfOk, IsOk, Some};
 ghost use Rattle.std.specs.Result.{result_err};
 ghost use Rattle.lei_code.specs.declared.fault.LeiFault.{LeiFault};
@@ -26,7 +27,7 @@ impl Model for Lei {
 }
 
 impl Lei {
-    /// Reads a code. The faults are looked for in the order of `LeiFault`.
+    /// Reads a code. The faults are checked in the order of `LeiFault`.
     #[tactic(auto, using(crate::proofs::Faults::faults_of_codes))]
     pub fn read(text: &[u8]) -> Result<Lei, LeiFault>
         ensures value { IfOk result (λ code. code ≡ text.now) }
@@ -34,7 +35,7 @@ impl Lei {
 
         ensures fault { (fault : LeiFault) → (result ≡ Err fault) ↔ IsFault text.now fault }
 
-        // The same as functions, for definitions that compute.
+        // The same as a function, for definitions that compute.
         ensures computed { result_err result ≡ fault_of text.now }
     {
         let Ok(own) = <[u8; 20]>::try_from(text) else {
@@ -54,7 +55,7 @@ impl Lei {
         self.text
     }
 
-    /// The 20 characters, lent as bytes.
+    /// The 20 characters, borrowed as bytes.
     pub fn as_bytes(&self) -> &[u8]
         ensures value { result.now ≡ self.now }
         ensures valid { IsValid self.now }
@@ -62,7 +63,7 @@ impl Lei {
         &self.text
     }
 
-    /// The 20 characters, lent as text.
+    /// The 20 characters, borrowed as text.
     #[tactic(auto, using(crate::proofs::Places::code_is_utf8))]
     pub fn as_str(&self) -> &str
         ensures value { result.now ≡ self.now }

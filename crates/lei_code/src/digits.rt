@@ -1,3 +1,4 @@
+//! The check digits of a code.
 ghost use Rattle.std.specs.Prelude.{◌≡◌, ◌↔◌, ◌++◌, ◌≤◌, IfOk, IsOk, length};
 ghost use Rattle.std.specs.Result.{result_err};
 ghost use Rattle.lei_code.specs.declared.fault.LeiFault.{LeiFault};
@@ -9,13 +10,13 @@ ghost use Rattle.lei_code.specs.Fault.{IsCharacterFault, character_fault};
 use crate::fault::LeiFault;
 use crate::remainder::remainder_of;
 
-/// The two check digits of a code's first 18 characters. Its one fault is `Character`.
+/// The two check digits for a code's first 18 characters. Its only fault is `Character`.
 #[tactic(auto, using(crate::proofs::Made::made_digits))]
 pub fn check_digits(text: &[u8; 18]) -> Result<[u8; 2], LeiFault>
     ensures value { IfOk result (λ made. made ≡ digits text.now) }
     ensures well_formed { IsOk result ↔ IsWellFormed text.now }
 
-    // With them the text is a code, and they lie in 02 to 98.
+    // With them the text is a code, and they are in 02 to 98.
     ensures valid { IfOk result (λ made. IsValid (text.now ++ made)) }
     ensures at_least_2 { IfOk result (λ made. 2 ≤ number made) }
     ensures at_most_98 { IfOk result (λ made. number made ≤ 98) }

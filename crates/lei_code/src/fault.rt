@@ -1,17 +1,18 @@
+//! Why a text isn't an LEI.
 ghost use Rattle.std.specs.Prelude.{Some};
 ghost use Rattle.lei_code.specs.Fault.{fault_text};
 
 use std::error::Error;
 use std::fmt;
 
-/// Why a text is no Legal Entity Identifier.
+/// Why a text isn't a Legal Entity Identifier.
 #[derive(Clone, Copy, Debug, PartialEq, Eq, Hash)]
 pub enum LeiFault {
-    /// It hasn't 20 bytes.
+    /// Its length isn't 20 bytes.
     Length,
-    /// The first position, counted from 1, with a character that may not stand there.
+    /// The first position, counted from 1, with a character that isn't allowed there.
     Character(u8),
-    /// Its number doesn't leave 1 when divided by 97.
+    /// Its number doesn't leave the remainder 1 when divided by 97.
     CheckDigits,
 }
 

@@ -7,8 +7,8 @@ ghost use Rattle.lei_code.specs.Digits.{digits};
 ghost use Rattle.lei_code.specs.Texts.{Text};
 ghost use Rattle.lei_code.specs.Fault.{IsFault, IsCharacterFault, fault_of, character_fault};
 
-/// Check digits make a code of 18 characters that may stand at their places. They lie in 02 to 98, and no
-/// others there do.
+/// Check digits complete 18 characters that are allowed at their positions to a code. They are in 02 to 98, and no
+/// other digits in that range do.
 pub fn digits_make_codes()
     ensures valid { (text : Text) → length text ≡ 18 → IsWellFormed text → IsValid (text ++ digits text) }
     ensures at_least_2 { (text : Text) → 2 ≤ number (digits text) }
@@ -17,7 +17,7 @@ pub fn digits_make_codes()
         → 2 ≤ number made → number made ≤ 98 → made ≡ digits text }
 {}
 
-/// What is computed of a text's faults is what is said of them.
+/// The computed fault of a text is the one that the relation states.
 pub fn computed_faults_are_faults()
     ensures fault { (text : Text) (fault : LeiFault) → (fault_of text ≡ Some fault) ↔ IsFault text fault }
     ensures valid { (text : Text) → (fault_of text ≡ None) ↔ IsValid text }

@@ -1,4 +1,4 @@
-//! Legal Entity Identifiers: reading and judging a code, and making its check digits.
+//! Legal Entity Identifiers: reading and judging a code, and computing its check digits.
 #![tactic(auto)]
 
 pub mod code;

@@ -1,5 +1,5 @@
-// Codes in the order of their texts, byte by byte. As all have 20 bytes, it is that of the numbers which the bytes
-// make, the first of them the highest.
+// Codes in the order of their texts, byte by byte. As all have 20 bytes, it is the order of the numbers that the bytes
+// form, the first byte being the most significant.
 ghost use Rattle.std.specs.Prelude.{◌≡◌, Some, take, drop, refl};
 ghost use Rattle.std.specs.Cmp.{unsigned_po};
 ghost use Rattle.std.specs.Cmp.Lexicographic.{slice_cmp, slice_partial_cmp, lists_po, lists_agrees, nat_list_cmp_total, texts_ties};

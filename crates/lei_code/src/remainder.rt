@@ -1,3 +1,4 @@
+//! The remainder by 97 of a text's number.
 ghost use Rattle.std.specs.Prelude.{◌≡◌, ◌%◌, ◌<◌, length, IfOk, IfErr, OnOk};
 ghost use Rattle.lei_code.specs.Number.{number};
 ghost use Rattle.lei_code.specs.Code.{IsWellFormed};
@@ -5,7 +6,7 @@ ghost use Rattle.lei_code.specs.Fault.{IsCharacterFault};
 
 use crate::fault::LeiFault;
 
-/// The remainder by 97 of a text's number, read byte by byte, or its first wrong character.
+/// The remainder of a text's number modulo 97, read byte by byte, or its first wrong character.
 #[tactic(auto, using(crate::proofs::Remainders::remainder_steps))]
 pub fn remainder_of(text: &[u8]) -> Result<u32, LeiFault>
     requires { length text.now < 256 }

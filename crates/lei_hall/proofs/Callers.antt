@@ -32,7 +32,7 @@ reads_so (Ask request) read old new moments reply (takes, same) step =
     inr (takes, made.0, made.1, made.2)
 reads_so (Refuse refusal) read old new moments reply reads step = absurd reads.0
 
--- so a framing whose frames ask what may be asked fits a caller; where a runtime has to be such, this is said
+-- so a framing whose frames ask what may be asked fits a caller; if a runtime has to have this property, it is said
 pub caller_fits : {E : Type 0} (S : Type 0) (rules : Rules Asked Reply E) → S
     → ((bytes : List ℕ) (want : Want Asked E) (rest : List ℕ) → rules.whole bytes (Some want) rest → MayBeAsked want.asked)
     → ((bytes : List ℕ) (want : Want Asked E) → rules.ends bytes (Some want) → MayBeAsked want.asked)
@@ -119,7 +119,7 @@ session_turns before after asks moments replies session =
 
 -- ---- the session of serving
 
--- what holds of the two ends of each session holds of those of serving
+-- what holds for the two ends of each session holds for those of serving
 module _ {A W P E : Type 0} (step : A → W → List ℤ → P → A → Type 0) (rules : Rules W P E) (keeps : A → A → Type 0)
     (each : (old new : A) (asks : List W) (moments : List ℤ) (replies : List P) → Session step old asks moments replies new → keeps old new) where
   ends_keep : (most : ℕ) (ended : Ended E) (start : Progress A) (bytes : List ℕ) (left : Option (List ℕ)) (now : Progress A)

@@ -1,4 +1,4 @@
--- What comes of the turns of a hall.
+-- The result of the turns of a hall.
 use Rattle.std.proofs.Common.{◌≡◌, ⊎_elim, ℕ, ◌-◌, ◌^◌, List, [], ◌∷◌, All, sym, subst, arith}
 use Rattle.std.proofs.lemmas.Bool.Decides.{leb_tells}
 use Rattle.request_loop.specs.Counts.{RoseBy}
@@ -8,13 +8,13 @@ use Rattle.turnstile.specs.Lists.{IsPrefix}
 use Rattle.turnstile.specs.Passes.{AreBetween, AreWithin}
 use Rattle.lei_hall.specs.Passes.{HallPass, ReportsSo, faults_told}
 
--- What passes have seen of one office they have seen of the same.
+-- What passes have seen of one office they have seen of an equal one.
 pub seen_still : {K : Type 0} (passes : List HallPass) (office same : KeptOffice K) → office ≡ same
     → All (λ p. IsPrefix p.seen same.office.history) passes → All (λ p. IsPrefix p.seen office.office.history) passes
 seen_still {K} passes office same is seen =
     subst (λ (o : KeptOffice K). All (λ (p : HallPass). IsPrefix p.seen o.office.history) passes) (sym is) seen
 
--- No more replies are KEEPER_FAULT than the count rose by.
+-- At most as many replies are KEEPER_FAULT as the count rose by.
 pub refused : (passes : List HallPass) (from to : ℕ) → All (λ p. All ReportsSo p.told) passes → AreBetween from to passes → AreWithin from to passes
     → RoseBy (faults_told passes) from to
 refused passes from to told between within = ⊎_elim

@@ -20,15 +20,15 @@ use Rattle.lei_hall.specs.Looks.{Fetches, Looks, SeesMore}
 use Rattle.lei_hall.specs.Passes.{HallPass, ReportsSo, SlotView, limits_of, numbers_of}
 use Rattle.lei_hall.specs.Turns.{Turn}
 
--- a number is itself
+-- a number is equal to itself
 same_number : (n : ℕ) → (n == n) ≡ true
 same_number n = eq-eqb n n refl
 
--- where the list has as many entries as before, no place is made
+-- if the list has as many entries as before, no place is made
 none_made : (first n : ℕ) (mine : List ℕ) → mine_after first n n mine ≡ mine
 none_made first n mine = ap (λ b. cond b mine (mine ++ (first + n) ∷ [])) (same_number n)
 
--- A turn of a pass at the turnstile, at which cells were fetched from the office and it stayed as it was, is a look.
+-- A turn of a pass at the turnstile that fetched cells from the office and left it unchanged is a look.
 pub looked : {K : Type 0} (tables : K → Option KeptTables) (faults : K → ℕ) (before after : HallPass) (x y : SlotView K) (keys : List CellKey)
     (fetched : Result Fetched NoMemory) → y ≡ x → Legal x.office.office → Fetches x.office.office keys fetched
     → IsTurn (meaning (λ s. s.office.office.history) (λ s. faults s.office.keeper) (λ s. numbers_of s.office.office.limits (tables s.opened.keeper)) 1 ReportsSo)
@@ -56,7 +56,7 @@ looked {K} tables faults before after x y keys fetched same legal cells turn =
       cells = subst (λ (o : OfficeState). Fetches o keys fetched) office cells;
     })
 
--- The same, where the values that were lent and given back are the turn's.
+-- The same, if the values that were lent and returned are the turn's.
 pub looked_by : {K : Type 0} (tables : K → Option KeptTables) (faults : K → ℕ) (before after : HallPass) (x y lent back : SlotView K) (keys : List CellKey)
     (fetched : Result Fetched NoMemory) → lent ≡ x → back ≡ y → back ≡ lent → Legal lent.office.office → Fetches lent.office.office keys fetched
     → IsTurn (meaning (λ s. s.office.office.history) (λ s. faults s.office.keeper) (λ s. numbers_of s.office.office.limits (tables s.opened.keeper)) 1 ReportsSo)
@@ -72,7 +72,7 @@ looked_by {K} tables faults before after x y lent back keys fetched lends leaves
 pub sees_same : (pass : HallPass) → SeesMore pass pass
 sees_same pass = record { seen = prefix_self pass.seen; same = refl }
 
--- A turn of a pass that has seen more is one of the pass as it was.
+-- A turn of a pass that has seen more is a turn of the pass as it was.
 pub turn_later : (before mid after : HallPass) (request : Request) (moment : ℤ) (reply : Reply) → SeesMore before mid
     → Turn mid request moment reply after → Turn before request moment reply after
 turn_later before mid after request moment reply sees turn =

@@ -1,5 +1,5 @@
--- An office may go to another thread if its keeper may, and so threads may share a hall over it. Part by part, from the
--- lowest up: a search that goes through all parts at once runs out of steps.
+-- An office may move to another thread if its keeper may, and so threads may share a hall over it. This is shown part
+-- by part, from the lowest up: a search through all parts at once runs out of steps.
 use denote.RattleType.{RattleType}
 use denote.Param.Send.{IsSend, sendable}
 use Rattle.std.proofs.Crossing.{crosses}

@@ -14,7 +14,7 @@ use Rattle.lei_hall.specs.declared.answers.Told.{Told}
 use Rattle.lei_hall.specs.Passes.{HallPass, ReportsSo, SlotView, limits_of, numbers_of, told}
 use Rattle.lei_hall.specs.Turns.{Answers, Turn}
 
--- The turn of a pass at the turnstile, in which a request was put to the office, is a turn of the hall.
+-- The turn of a pass at the turnstile that put a request to the office is a turn of the hall.
 pub turned : {K : Type 0} (tables : K → Option KeptTables) (faults : K → ℕ) (before after : HallPass) (x y : SlotView K) (request : Request) (moment : ℤ) (reply : Reply)
     → Answers faults x.office request moment reply y.office
     → IsTurn (meaning (λ s. s.office.office.history) (λ s. faults s.office.keeper) (λ s. numbers_of s.office.office.limits (tables s.opened.keeper)) 1 ReportsSo)
@@ -45,7 +45,7 @@ turned {K} tables faults before after x y request moment reply answers turn =
       limits = refl;
     })
 
--- The same, where the answer has the request and the moment, and the values that were lent and given back are the turn's.
+-- The same, if the answer has the request and the moment, and the values that were lent and returned are the turn's.
 pub turned_by : {K : Type 0} (tables : K → Option KeptTables) (faults : K → ℕ) (before after : HallPass) (x y lent back : SlotView K) (asked request : Request) (at moment : ℤ) (reply : Reply)
     → lent ≡ x → back ≡ y → asked ≡ request → at ≡ moment → Answers faults lent.office request moment reply back.office
     → IsTurn (meaning (λ s. s.office.office.history) (λ s. faults s.office.keeper) (λ s. numbers_of s.office.office.limits (tables s.opened.keeper)) 1 ReportsSo)

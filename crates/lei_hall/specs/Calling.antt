@@ -1,4 +1,4 @@
--- A caller of a hall as whoever answers in a session.
+-- A caller of a hall, as the one who answers in a session.
 use Rattle.std.specs.Prelude.{◌≡◌, ◌⊎◌, ℤ, List, [], ◌∷◌, ◌++◌, Option, None, Some}
 use Rattle.atomic_table.specs.Seated.{TableId}
 use Rattle.register_words.specs.Requests.{TakesMemoryToRead}
@@ -13,9 +13,9 @@ use Rattle.lei_hall.specs.declared.answers.Told.{Told}
 use Rattle.lei_hall.specs.Passes.{HallPass, told}
 use Rattle.lei_hall.specs.Turns.{Turn}
 
--- What was asked got this reply, at these moments, and led from one state of a pass to another. A refusal of
--- the reader is its own reply: it takes no moment and no turn. A request takes one moment and one turn. If
--- there was no memory to read an upload, that is answered in place of its turn, at no moment.
+-- What was asked got this reply, at these moments, and led from one state of a pass to another. A refusal by the reader
+-- is its own reply: it takes no moment and no turn. A request takes one moment and one turn. If memory ran out while an
+-- upload was read, that is answered instead of its turn, at no moment.
 abbrev pub AskTurn : HallPass → Asked → List ℤ → Reply → HallPass → Type 0
 AskTurn before (Refuse refusal) moments reply after =
     (moments ≡ []) × (reply ≡ Words refusal) × (after ≡ before)
@@ -37,9 +37,8 @@ Turns before (t ∷ members) after =
     (between : HallPass) × Turn before t.piece.request t.piece.moment t.piece.reply between
     × (between.told ≡ before.told ++ t ∷ []) × Turns between members after
 
--- These members are told of what was asked, at these moments, with these replies: one of each request that
--- was put to the office, in order, and none of a refusal of the reader or of an upload that there was no
--- memory to read.
+-- These members are told of what was asked, at these moments, with these replies: one for each request that was put to
+-- the office, in order, and none for a refusal by the reader or for an upload that ran out of memory while it was read.
 abbrev pub AreToldOf : List Asked → List ℤ → List Reply → List (Member Told) → Type 0
 AreToldOf [] moments replies members = (moments ≡ []) × (members ≡ [])
 AreToldOf (asked ∷ asks) moments [] members = ⊥
@@ -49,8 +48,7 @@ AreToldOf (Ask request ∷ asks) moments (reply ∷ replies) members =
     × (members ≡ t ∷ others) × (t.piece ≡ told request m reply) × AreToldOf asks rest replies others)
     ⊎ (TakesMemoryToRead request × (reply ≡ Words NoMemory) × AreToldOf asks moments replies members)
 
--- What a pass was told grew by such members, and one turn for each leads from its state before to the one
--- after.
+-- What a pass was told grew by such members, and one turn for each leads from its state before to its state after.
 pub record GrewBy (before : HallPass) (asks : List Asked) (moments : List ℤ) (replies : List Reply)
     (after : HallPass) : Type 0 where
   pub members : List (Member Told)
@@ -58,8 +56,8 @@ pub record GrewBy (before : HallPass) (asks : List Asked) (moments : List ℤ) (
   pub turns : Turns before members after
   pub told_of : AreToldOf asks moments replies members
 
--- What a pass was told grew by some members, and one turn for each leads, in order, from its state before to
--- the one after.
+-- What a pass was told grew by some members, and one turn for each leads, in order, from its state before to its state
+-- after.
 pub record TakesTurns (before after : HallPass) : Type 0 where
   pub members : List (Member Told)
   pub told : after.told ≡ before.told ++ members

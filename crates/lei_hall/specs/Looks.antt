@@ -17,18 +17,19 @@ use Rattle.lei_hall.specs.Passes.{HallPass, seen_by}
 abbrev pub table_of : OfficeState → Table
 table_of office = after office.limits office.history
 
--- This was fetched from an office for keys, if memory didn't run out: of the cells that are fetched for them the first
--- 50,000, and no others.
+-- This was fetched from an office for keys, if memory didn't run out: the first 50,000 of the cells that are fetched
+-- for them, and no others.
 abbrev pub Fetches : OfficeState → List CellKey → Result Fetched NoMemory → Type 0
 Fetches office keys fetched = IfOk fetched (λ f. HasJust (cells_in f) (cells_of (table_of office))
     (take 50_000 (fetched_keys (cells_of (table_of office)) keys)))
 
--- A pass has seen the same history as before, or a longer one that begins with it. Nothing else of it has changed.
+-- A pass has seen the same history as before, or a longer one that starts with it. Nothing else of the pass has
+-- changed.
 pub record SeesMore (before after : HallPass) : Type 0 where
   pub seen : IsPrefix before.seen after.seen
   pub same : after ≡ with_seen before after.seen
 
--- A look of a pass, at which this was fetched for keys: from the office that the pass has seen afterwards, which is
+-- A look of a pass, in which this was fetched for keys: from the office that the pass has seen afterwards, which is
 -- legal. The pass was told nothing, and made no entry.
 pub record Looks (before : HallPass) (keys : List CellKey) (fetched : Result Fetched NoMemory)
     (after : HallPass) : Type 0 where

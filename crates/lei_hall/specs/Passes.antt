@@ -15,20 +15,20 @@ use Rattle.turnstile.specs.Passes.{PassView}
 use Rattle.turnstile.specs.declared.view.Member.{Member}
 use Rattle.lei_hall.specs.declared.answers.Told.{Told}
 
--- A hall: which table its passes are for, the office that it was opened with, and how many passes there are.
+-- A hall: which table its passes are for, the office that it was opened with, and the number of passes.
 pub record HallView (K : Type 0) : Type 0 where
   pub table : TableId
   pub office : KeptOffice K
   pub passes : ℕ
 
--- An office in the slot of a turnstile, with the one that the hall was opened with.
+-- An office in the slot of a turnstile, with the office that the hall was opened with.
 pub record SlotView (K : Type 0) : Type 0 where
   pub office : KeptOffice K
   pub opened : KeptOffice K
 
 -- ---- what stays of an office
 
--- Whether tables are told, 1, or not, 0.
+-- Whether tables are told: 1 if they are, 0 if not.
 abbrev pub told_number : Option KeptTables → ℕ
 told_number None = 0
 told_number (Some tables) = 1
@@ -38,7 +38,7 @@ abbrev pub numbers_of : Limits → Option KeptTables → List ℕ
 numbers_of limits kept =
     limits.body ∷ limits.kept ∷ limits.entries ∷ limits.records ∷ told_number kept ∷ []
 
--- The limits that these numbers begin with.
+-- The limits that these numbers start with.
 abbrev pub limits_of : List ℕ → Limits
 limits_of numbers = record {
   body = get_or numbers 0 0;
@@ -49,8 +49,8 @@ limits_of numbers = record {
 
 -- ---- passes
 
--- A pass: the table that it is for, its number, the history that it has seen, the places of its own entries,
--- what it was told, and the numbers that stay, which begin with the limits of the office.
+-- A pass: the table that it is for, its number, the history that it has seen, the places of its own entries, what it
+-- was told, and the numbers that stay, which start with the limits of the office.
 abbrev pub HallPass : Type 0
 HallPass = PassView KeptEntry Told
 
@@ -62,21 +62,21 @@ seen_by pass = office_of (limits_of pass.stays) pass.seen
 abbrev pub told : Request → ℤ → Reply → Told
 told request moment reply = record { request = request; moment = moment; reply = reply }
 
--- What a pass is told in a turn: request, moment and reply, the length of the history before the turn, and
--- the keeper's counts of faults at the turn's start and at its end.
+-- What a pass is told in a turn: request, moment and reply, the length of the history before the turn, and the keeper's
+-- counts of faults at the start and at the end of the turn.
 abbrev pub member : Request → ℤ → Reply → ℕ → ℕ → ℕ → Member Told
 member request moment reply at from to =
     record { piece = told request moment reply; at = at; from = from; to = to }
 
--- If the reply is KEEPER_FAULT, the keeper's count of faults rose in the turn, or stands at its last value.
+-- If the reply is KEEPER_FAULT, the keeper's count of faults rose in the turn, or is at its greatest value.
 abbrev pub ReportsSo : Member Told → Type 0
 ReportsSo t = RoseBy (keeper_faults (t.piece.reply ∷ [])) t.from t.to
 
--- How many replies that a pass was told are KEEPER_FAULT.
+-- How many of the replies that a pass was told are KEEPER_FAULT.
 abbrev pub pass_faults : HallPass → ℕ
 pass_faults pass = total (λ t. keeper_faults (t.piece.reply ∷ [])) pass.told
 
--- How many replies that the passes were told are KEEPER_FAULT.
+-- How many of the replies that the passes were told are KEEPER_FAULT.
 abbrev pub faults_told : List HallPass → ℕ
 faults_told passes = total pass_faults passes
 

@@ -14,11 +14,10 @@ use Rattle.turnstile.specs.Lists.{IsPrefix}
 use Rattle.turnstile.specs.Meaning.{mine_after}
 use Rattle.lei_hall.specs.Passes.{HallPass, limits_of, member, seen_by}
 
--- A turn of a pass, in which a request that came at a moment got its reply. There is one history before the
--- turn:
+-- A turn of a pass, in which a request that came at a moment got its reply. There is one history before the turn:
 pub record Turn (before : HallPass) (request : Request) (moment : ℤ) (reply : Reply)
     (after : HallPass) : Type 0 where
-  -- the history, and the keeper's counts of faults at the turn's start and at its end
+  -- the history, and the keeper's counts of faults at the start and at the end of the turn
   pub history : List KeptEntry
   pub from : ℕ
   pub to : ℕ
@@ -30,21 +29,21 @@ pub record Turn (before : HallPass) (request : Request) (moment : ℤ) (reply : 
   pub legal : Legal (seen_by after)
   -- the pass is told one member more
   pub told : after.told ≡ before.told ++ member request moment reply (length history) from to ∷ []
-  -- the place after the history is one of its own exactly if the turn added an entry
+  -- the place after the history is one of the pass's own exactly if the turn added an entry
   pub mine : after.mine ≡ mine_after 1 (length history) (length after.seen) before.mine
-  -- the count at the start is no less than any that the pass was told before, and the count at the end no
-  -- less than that; if the reply is KEEPER_FAULT, it rose in the turn, or stands at its last value
+  -- the count at the start is at least every count that the pass was told before, and the count at the end is at least
+  -- the count at the start; if the reply is KEEPER_FAULT, it rose in the turn, or is at its greatest value
   pub later : All (λ t. t.to ≤ from) before.told
   pub faults : from ≤ to
   pub fault : RoseBy (keeper_faults (reply ∷ [])) from to
-  -- the rest stays
+  -- the rest is unchanged
   pub table : after.table ≡ before.table
   pub number : after.number ≡ before.number
   pub limits : after.stays ≡ before.stays
 
 -- ---- inside
 
--- A request was put to an office, which got this reply, and led from one office to the other.
+-- A request was put to an office, got this reply, and led from one office to the other.
 pub record Answers {K : Type 0} (faults : K → ℕ) (old : KeptOffice K) (request : Request) (moment : ℤ)
     (reply : Reply) (new : KeptOffice K) : Type 0 where
   pub step : Step old.office request moment reply new.office

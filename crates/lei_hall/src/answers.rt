@@ -17,8 +17,8 @@ use register_judge::Plan;
 use std::thread::Threads;
 use turnstile::Said;
 
-/// What a pass is told in a turn: the request, the moment at which it came, and the reply. Contracts alone
-/// see it: no value of this type is made.
+/// What a pass is told in a turn: the request, the moment at which it came, and the reply. Only contracts see it: no
+/// value of this type is created.
 pub struct Told {
     pub request: Request,
     pub moment: Moment,
@@ -80,7 +80,7 @@ pub fn put_request<'a, K: Keeper, R: Threads + Sync>(
     }
 }
 
-// The cells that were fetched, or want of memory. No pass is told of them.
+// The cells that were fetched, or lack of memory. No pass is told of them.
 #[derive(Drop)]
 pub struct Looked {
     pub fetched: Result<Fetched, NoMemory>,
@@ -94,7 +94,7 @@ impl Said for Looked {
     ghost said = { λ _. None };
 }
 
-// Fetches cells from the office, which stays as it is.
+// Fetches cells from the office, which stays unchanged.
 pub fn fetch_cells<K: Keeper>(slot: &mut Slot<K>, keys: &[CellKey]) -> Looked
     ensures same { slot.new ≡ slot.old }
     ensures legal { Legal slot.old.office.office }
@@ -104,7 +104,7 @@ pub fn fetch_cells<K: Keeper>(slot: &mut Slot<K>, keys: &[CellKey]) -> Looked
     Looked { fetched }
 }
 
-// Settles an upload with the office, which may have been judged ahead.
+// Settles an upload with the office. The upload may have been judged ahead.
 pub fn settle_call<'a, K: Keeper, R: Threads + Sync>(
     rt: &R,
     slot: &mut Slot<K>,

@@ -1,4 +1,4 @@
-//! One caller of a hall as whoever answers in a session.
+//! One caller of a hall, as the one who answers in a session.
 ghost use Rattle.std.specs.Prelude.{◌≡◌};
 ghost use Rattle.register_words.specs.Requests.{IsNumbered};
 ghost use Rattle.lei_hall.specs.Turns.{Turn};
@@ -12,12 +12,12 @@ use std::marker::Model;
 use std::sync::Wait;
 use std::thread::Threads;
 
-/// A caller with its pass, who puts what is asked to the office of a hall. Contracts see it as its pass.
+/// A caller with its pass, who puts requests to the office of a hall. Contracts see the caller as its pass.
 #[derive(Drop)]
 pub struct Caller<'h, K: Keeper, G> {
     hall: &'h Hall<K>,
     gate: &'h G,
-    // taken out for a turn alone
+    // removed only during a turn
     pass: Option<Pass>,
 }
 
@@ -79,7 +79,7 @@ impl<'h, R: Threads + Wait + Sync, K: Keeper, G: Gate> Answers<R> for Caller<'h,
 
     type Reply = Reply;
 
-    // an `impl` doesn't know that `R` is `Sync`, so whoever asks has to say it
+    // an `impl` doesn't know that `R` is `Sync`, so the code that asks has to say it
     ghost takes = { λ asked. MayBeAsked asked × IsSync R.row };
 
     ghost step = { AskTurn };

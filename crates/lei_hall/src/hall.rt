@@ -31,8 +31,8 @@ use turnstile::Turnstile;
 /// The right to put requests to the office of one hall, for one caller at a time. It takes no bytes.
 pub type Pass = turnstile::Pass<KeptEntry, Told>;
 
-/// One office for many callers. Contracts see which table its passes are for, the office that it was opened
-/// with, and how many passes there are.
+/// One office for many callers. Contracts see which table its passes are for, the office that it was opened with, and
+/// the number of passes.
 #[derive(Drop)]
 pub struct Hall<K: Keeper> {
     alloc: Global,
@@ -55,8 +55,8 @@ impl<K: Keeper> Model for Hall<K> {
 }
 
 impl<K: Keeper> Hall<K> {
-    /// A hall over this office, with so many passes. An `Err` is want of memory, and hands the office back.
-    /// `meet` and `close` take no memory, and `ask` takes none beside what the office takes.
+    /// A hall over this office, with this many passes. An `Err` means lack of memory, and returns the office. `meet`
+    /// and `close` take no memory, and `ask` takes none except what the office takes.
     pub fn open(
         alloc: Global,
         office: Office<K>,
@@ -130,8 +130,8 @@ impl<K: Keeper> Hall<K> {
         (pass, looked.fetched)
     }
 
-    // A plan of an upload, judged outside of any turn by the cells of one look. There is none if the body has no
-    // reading, if the look lacks a cell, or if memory runs out.
+    // A plan of an upload, judged outside any turn by the cells of one look. There is none if the body can't be read,
+    // if the look lacks a cell, or if memory runs out.
     fn plan<R: Threads + Wait + Sync>(
         &self,
         rt: &R,
@@ -157,9 +157,9 @@ impl<K: Keeper> Hall<K> {
         (pass, plan)
     }
 
-    /// Puts an upload to the office. Its body is read and its items are judged ahead, outside of any turn, by the cells
-    /// of one look. Then the gate lets it pass, with the number of items that were accepted ahead, and it is settled in
-    /// one turn. Where the office has changed so that it comes to something else, it is judged again in that turn.
+    /// Puts an upload to the office. Its body is read and its items are judged ahead, outside any turn, by the cells of
+    /// one look. Then the gate lets it pass, with the number of items that were accepted ahead, and it is settled in
+    /// one turn. If the office has changed so that the result is another one, it is judged again in that turn.
     pub fn submit<G: Gate, R: Threads + Wait + Sync>(
         &self,
         rt: &R,
@@ -188,7 +188,7 @@ impl<K: Keeper> Hall<K> {
         (pass, settled.reply)
     }
 
-    /// Puts any request to the office: an upload is submitted, and all else is asked.
+    /// Puts any request to the office: an upload is submitted, and any other request is put by `ask`.
     pub fn put<G: Gate, R: Threads + Wait + Sync>(
         &self,
         rt: &R,
@@ -207,8 +207,8 @@ impl<K: Keeper> Hall<K> {
         }
     }
 
-    /// Two passes meet: what each had seen is a front of the longer of the two histories, which both have
-    /// seen afterwards.
+    /// Two passes meet: what each had seen is a front of the longer of the two histories, which both have seen
+    /// afterwards.
     pub fn meet<R: Threads + Wait + Sync>(&self, rt: &R, first: Pass, second: Pass) -> (Pass, Pass)
         requires first { first.table ≡ self.now.table }
         requires second { second.table ≡ self.now.table }
@@ -222,7 +222,7 @@ impl<K: Keeper> Hall<K> {
         self.turnstile.meet(rt, first, second)
     }
 
-    /// The office, after the last turn. These are all passes of the hall.
+    /// The office, after the last turn. The argument has all passes of the hall.
     pub fn close(self, passes: Vec<Pass>) -> Office<K>
         requires passes { AreOf self.table passes.items }
         requires all { HaveAll self.passes passes.items }
@@ -233,7 +233,7 @@ impl<K: Keeper> Hall<K> {
     {
         let Hall { turnstile, .. } = self;
         let office = office_in(turnstile.close(passes));
-        // A step of the proof: the history of an office is legal, and its keeper has the tables of it.
+        // A step of the proof: the history of an office is legal, and its keeper has its tables.
         let _limits = office.limits();
         office
     }

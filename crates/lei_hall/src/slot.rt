@@ -10,8 +10,8 @@ use std::marker::Model;
 use std::snapshot::Snapshot;
 use turnstile::Tally;
 
-/// An office in the slot of a turnstile. It stands for its history and its keeper's count of faults. Its limits
-/// stay, and so does whether its keeper told its tables when the hall was opened.
+/// An office in the slot of a turnstile. It represents its history and its keeper's count of faults. Its limits stay,
+/// and so does whether its keeper told its tables when the hall was opened.
 #[derive(Drop)]
 pub struct Slot<K: Keeper> {
     pub office: Office<K>,
@@ -31,7 +31,7 @@ impl<K: Keeper> Model for Slot<K> {
 }
 
 impl<K: Keeper> Slot<K> {
-    /// The slot of an office to which no request was put yet.
+    /// The slot of an office that no request was put to yet.
     pub fn new(office: Office<K>) -> Self
         ensures office { result.office ≡ office }
         ensures opened { result.opened ≡ office }

@@ -1,4 +1,4 @@
--- Cells in a map by their places, as a finite map: what an insertion comes to, and the cells in order.
+-- Cells in a map by their places, as a finite map: the result of an insertion, and the cells in order.
 use Rattle.std.specs.Prelude.{◌≡◌, ℕ, ◌&&◌, nat_le, nat_lt, Bool, true, false, cond, List, [], ◌∷◌, ◌++◌, map, Option, Some, Result, Ok, Err, IfOk}
 use Rattle.std.specs.BTreeMap.{insert_entry}
 use Rattle.std.specs.Borrow.{Bor}
@@ -37,7 +37,7 @@ over : (a : Bool) (x y z : Option CellContent) → cond a x z ≡ cond a x (cond
 over true x y z = refl
 over false x y z = refl
 
--- what passes as the same place is the same
+-- places that compare as equal are equal
 pub tied : (a b : CellPlace) → eq_by_cmp (slice_cmp nat_cmp) a b ≡ true → a ≡ b
 tied a b is = elim (slice_cmp nat_cmp a b) as (λ r. slice_cmp nat_cmp a b ≡ r → is_eq r ≡ true → a ≡ b) [
   | Less ↦ λ _ t. cc

@@ -13,7 +13,7 @@ more_within moments calls within =
     let still_none : calls + 1 - length moments ≡ 0 = omega arith in
     rw (none, still_none) (append-nil (take (calls + 1) moments) ∙ take_more moments calls latest within ∙ ap (λ l. l ++ moment_after moments calls ∷ []) (sym (append-nil (take calls moments))))
 
--- the last one once more
+-- the last moment once more
 more_behind : (moments : List ℤ) (calls : ℕ) → length moments ≤ calls → first_moments moments (calls + 1) ≡ first_moments moments calls ++ moment_after moments calls ∷ []
 more_behind moments calls behind =
     let latest = last_moment moments in
@@ -25,7 +25,7 @@ more_behind moments calls behind =
 one_more : (moments : List ℤ) (calls : ℕ) → first_moments moments (calls + 1) ≡ first_moments moments calls ++ moment_after moments calls ∷ []
 one_more moments calls = elim (leb_tells (length moments) calls) [ inl is ↦ more_behind moments calls is.1 | inr is ↦ more_within moments calls is.1 ]
 
--- by whether the count stood at its last value before, and whether it does now
+-- by whether the count was at its greatest value before, and whether it is now
 gave_by : (was is : Bool) (moments : List ℤ) (calls now : ℕ) → (was ≡ true → is ≡ true) → (was ≡ false → is ≡ false → now ≡ calls + 1)
     → Gave (cond was None (Some (first_moments moments calls))) (cond is None (Some (first_moments moments now))) (moment_after moments calls ∷ [])
 gave_by true true moments calls now stays counts = tt
@@ -42,7 +42,7 @@ gave_one clock moment is =
 
 -- ---- any clock
 
--- what stays has given nothing
+-- a clock whose moments stay the same has given nothing
 pub Gave-none : (told : Option (List ℤ)) → Gave told told []
 Gave-none None = tt
 Gave-none (Some moments) = sym (append-nil moments)

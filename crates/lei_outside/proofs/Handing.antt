@@ -15,7 +15,7 @@ pub record Handed (old new : Option (List ℕ)) (piece left : List ℕ) : Type 0
 pub handed_none : (told : Option (List ℕ)) (piece : List ℕ) → Handed told told piece piece
 handed_none told piece = record { front = []; split = refl; grows = Grows-none told }
 
--- a write took so many bytes more
+-- a write took this many bytes more
 pub handed_more : (old mid new : Option (List ℕ)) (piece left : List ℕ) (n : ℕ) → Handed old mid piece left → Grows mid new (take n left) → Handed old new piece (take (length left - n) (drop n left))
 handed_more old mid new piece left n so_far more =
     let rest : take (length left - n) (drop n left) ≡ drop n left = take_all (length left - n) (drop n left) (omega (arith, length-drop n left)) in

@@ -1,4 +1,4 @@
--- Tables that are kept stay so with a batch.
+-- Tables that are kept stay so after a batch.
 use Rattle.std.specs.Prelude.{◌≡◌, ◌<◌, ◌≤◌, ◌+◌, ◌-◌, ◌&&◌, nat_le, nat_lt, filter, ℕ, List, [], ◌∷◌, ◌++◌, length, slice_get, Bool, true, false, cond, Option, Some, IfSome}
 use Rattle.std.proofs.lemmas.Cmp.{nat_list_cmp_total}
 use Rattle.std.specs.Cmp.Lexicographic.{slice_cmp}
@@ -15,7 +15,7 @@ use Rattle.lei_outside.specs.Memory.{AreOfEntries, MayBeKept, SureKeeperState, t
 
 -- ---- entries
 
--- the number of the last entry, from the front
+-- the number of the last entry, starting from the front
 abbrev last_from : ℕ → List KeptEntry → ℕ
 last_from number [] = number
 last_from number (e ∷ list) = last_from e.seq list
@@ -34,7 +34,7 @@ rise_on : (number : ℕ) (list : List KeptEntry) (e : KeptEntry) → RiseFrom nu
 rise_on number [] e rise more = (more, tt)
 rise_on number (first ∷ list) e rise more = (rise.0, rise_on first.seq list e rise.1 more)
 
--- the entries whose number is greater than one number and at most another
+-- the entries whose number is greater than the first number and at most the second
 abbrev pub between : ℕ → ℕ → List KeptEntry → List KeptEntry
 between after upto list = filter (λ e. nat_lt after e.seq && nat_le e.seq upto) list
 

@@ -1,4 +1,4 @@
--- Pieces of a text that lie one behind the other: how many they are, which one stands at an index, and one more of them.
+-- Pieces of a text that follow one another: how many there are, which one is at an index, and one more piece.
 use Rattle.std.proofs.Common.{◌≡◌, ◌≢◌, ◌==◌, ◌&&◌, Bool, true, false, ℕ, zero, suc, ◌+◌, ◌-◌, ◌<◌, ◌≤◌, List, [], ◌∷◌, ◌++◌, length, take, drop, inl, inr, refl, sym, ap, ◌∙◌, arith}
 use Rattle.std.specs.Prelude.{get_or}
 use Rattle.std.specs.Cmp.Lexicographic.{pointwise, unequal}
@@ -14,7 +14,7 @@ pub length_pieces : (start : ℕ) (ends bytes : List ℕ) → length (pieces sta
 length_pieces start [] bytes = refl
 length_pieces start (end ∷ ends) bytes = ap suc (length_pieces end ends bytes)
 
--- the piece at an index begins where the one before it ends
+-- the piece at an index starts where the previous one ends
 pub pieces-at : (start : ℕ) (ends bytes : List ℕ) (index : ℕ) (d : List ℕ) → index < length ends
     → get_or (pieces start ends bytes) index d ≡ piece (get_or (start ∷ ends) index 0) (get_or ends index 0) bytes
 pieces-at start [] bytes index d within = (let none : ⊥ = omega (arith, within) in absurd none)
@@ -33,7 +33,7 @@ AreEnds-boundary start [] bytes index are within = (let none : ⊥ = omega (arit
 AreEnds-boundary start (end ∷ ends) bytes zero are within = are.1
 AreEnds-boundary start (end ∷ ends) bytes (suc index) are within = AreEnds-boundary end ends bytes index are.2 (omega (arith, within))
 
--- the begin of a piece too is a place between characters
+-- the start of a piece is a position between characters, too
 pub AreEnds-start : (start : ℕ) (ends bytes : List ℕ) (index : ℕ) → IsCharBoundary bytes start → AreEnds start ends bytes
     → index < length ends → IsCharBoundary bytes (get_or (start ∷ ends) index 0)
 AreEnds-start start [] bytes index first are within = (let none : ⊥ = omega (arith, within) in absurd none)
@@ -71,7 +71,7 @@ pieces_push start [] bytes text are =
 pieces_push start (end ∷ ends) bytes text are =
     rw (piece_of_front bytes text start end are.0 (are.1).0) (ap (λ l. piece start end bytes ∷ l) (pieces_push end ends bytes text are.2))
 
--- the same of a text and ends that have grown by it
+-- the same for a text and ends that have grown by it
 pub ends_grow : (ends bytes text ends' bytes' : List ℕ) → IsUtf8 text → AreEnds 0 ends bytes
     → bytes' ≡ bytes ++ text → ends' ≡ ends ++ length bytes' ∷ [] → AreEnds 0 ends' bytes'
 ends_grow ends bytes text ends' bytes' utf8 are grown more =
@@ -84,7 +84,7 @@ pieces_grow ends bytes text ends' bytes' are grown more =
 
 -- ---- equal texts
 
--- how a list compares with another: as its front and what is behind it do
+-- how one list compares with another: by its front and then by what follows
 compared_by_parts : (n : ℕ) (xs ys : List ℕ) → n ≤ length xs → n ≤ length ys
     → pointwise ◌==◌ xs ys ≡ (pointwise ◌==◌ (take n xs) (take n ys) && pointwise ◌==◌ (drop n xs) (drop n ys))
 compared_by_parts zero xs ys first second = refl
@@ -99,7 +99,7 @@ and_swap true q r = refl
 and_swap false true r = refl
 and_swap false false r = refl
 
--- the first pieces end at one place
+-- the first pieces end at the same position
 compared_at : (start end : ℕ) (bytes bytes' : List ℕ) (q r : Bool) → start ≤ end → end ≤ length bytes → end ≤ length bytes'
     → r ≡ (q && pointwise ◌==◌ (drop end bytes) (drop end bytes'))
     → (pointwise ◌==◌ (piece start end bytes) (piece start end bytes') && r)
@@ -130,7 +130,7 @@ compared_same start end end' ends ends' bytes bytes' same are are' rest =
     (compared_at start end bytes bytes' (pointwise ◌==◌ ends ends')
     (pointwise (pointwise ◌==◌) (pieces end ends bytes) (pieces end ends' bytes')) are.0 (are.1).0 within' (rest from))
 
--- texts are the same where their ends are and the piece of memory is
+-- texts are equal if their ends are equal and the pieces of memory are
 pub pieces_compare : (start : ℕ) (ends ends' bytes bytes' : List ℕ) → AreEnds start ends bytes → AreEnds start ends' bytes'
     → pointwise (pointwise ◌==◌) (pieces start ends bytes) (pieces start ends' bytes')
     ≡ (pointwise ◌==◌ ends ends' && pointwise ◌==◌ (drop start bytes) (drop start bytes'))
@@ -150,7 +150,7 @@ pieces_compare start (end ∷ ends) (end' ∷ ends') bytes bytes' are are' = eli
       rw (unequal ◌==◌ (piece start end bytes) (piece start end' bytes') other, not.0) refl)
 ]
 
--- the same of what the texts are seen as
+-- the same for what the texts are seen as
 pub texts_compare : (ends ends' bytes bytes' : List ℕ) (xs ys : List (List ℕ)) → AreEnds 0 ends bytes → AreEnds 0 ends' bytes'
     → pieces 0 ends bytes ≡ xs → pieces 0 ends' bytes' ≡ ys
     → pointwise (pointwise ◌==◌) xs ys ≡ (pointwise ◌==◌ ends ends' && pointwise ◌==◌ bytes bytes')

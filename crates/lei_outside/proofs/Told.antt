@@ -4,7 +4,7 @@ use Rattle.std.specs.Prelude.{Option, None, Some}
 use Rattle.std.proofs.lemmas.List.{append-nil}
 use Rattle.lei_outside.specs.Told.{Grows, Loses}
 
--- what stays has grown by nothing
+-- what stays the same has grown by nothing
 pub Grows-none : (told : Option (List ℕ)) → Grows told told []
 Grows-none None = tt
 Grows-none (Some bytes) = sym (append-nil bytes)
@@ -18,7 +18,7 @@ Grows-join (Some f) None last xs ys a b = absurd a
 Grows-join (Some f) (Some m) None xs ys a b = absurd b
 Grows-join (Some f) (Some m) (Some c) xs ys a b = b ∙ ap (λ (l : List ℕ). l ++ ys) a ∙ append_assoc f xs ys
 
--- what stays has lost nothing
+-- what stays the same has lost nothing
 pub Loses-none : (told : Option (List ℕ)) → Loses told told []
 Loses-none None = tt
 Loses-none (Some bytes) = refl

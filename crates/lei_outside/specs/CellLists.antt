@@ -1,11 +1,11 @@
--- Cells by the bytes of their places, as a map in memory has them.
+-- Cells by the bytes of their places, as a map in memory holds them.
 use Rattle.std.specs.Prelude.{ℕ, List, ◌&&◌, map, filter, nat_le, nat_lt}
 use Rattle.std.specs.Borrow.{Bor}
 use Rattle.std.specs.FinMap.{from_entries}
 use Rattle.lei_outside.specs.Keeping.{CellContent, CellPlace, Cells, cell_at, content_of}
 use Rattle.lei_outside.specs.declared.keeper.KeptCell.{KeptCell}
 
--- What is kept of a cell, in a place.
+-- What is kept of a cell, with its place.
 abbrev pub content_at : CellPlace × Bor KeptCell → CellPlace × CellContent
 content_at (place, cell) = (place, content_of cell.now)
 
@@ -13,7 +13,7 @@ content_at (place, cell) = (place, content_of cell.now)
 unfoldable pub cells_in : List (CellPlace × Bor KeptCell) → Cells
 cells_in list = from_entries (map content_at list)
 
--- The cells that an entry of such a number touched last, in the order of the list.
+-- The cells that were last touched by an entry with such a number, in the order of the list.
 abbrev pub between_of : ℕ → ℕ → List (CellPlace × CellContent) → List KeptCell
 between_of after upto list = filter (λ cell. nat_lt after cell.touched && nat_le cell.touched upto)
     (map cell_at list)

@@ -14,21 +14,21 @@ IsFailed (Came.Line line) = ⊥
 IsFailed Came.Closed = ⊥
 IsFailed Came.Failed = Unit {0}
 
--- What came of the lines to come: their first one, which is no longer among them; or the door is closed, exactly where
--- there is none; or the call failed, and took none.
+-- What waiting for a line results in. The first of the lines to come arrives, and is no longer among them. Or the door
+-- is closed, exactly if none is to come. Or the call failed, and took none.
 abbrev pub ComesOf : {L : Type 0} → List L → Came L → List L → Type 0
 ComesOf old (Came.Line line) new = old ≡ line ∷ new
 ComesOf old Came.Closed new = (old ≡ []) × (new ≡ [])
 ComesOf old Came.Failed new = (old ≢ []) × (new ≡ old)
 
--- The same of what is told. What is untold stays untold.
+-- The same for what is told. What is untold stays untold.
 abbrev pub Comes : {L : Type 0} → Option (List L) → Came L → Option (List L) → Type 0
 Comes None came None = Unit {0}
 Comes None came (Some new) = ⊥
 Comes (Some old) came None = ⊥
 Comes (Some old) came (Some new) = ComesOf old came new
 
--- The told lines have this one more at their end. What is untold stays untold.
+-- The told lines have one more at their end: this one. What is untold stays untold.
 abbrev pub TakesBack : {L : Type 0} → Option (List L) → Option (List L) → L → Type 0
 TakesBack None None line = Unit {0}
 TakesBack None (Some new) line = ⊥

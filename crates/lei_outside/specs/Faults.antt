@@ -1,4 +1,4 @@
--- What is told of a call of a device that fails.
+-- What is told about a call of a device that fails.
 use Rattle.std.specs.Prelude.{◌≡◌, ◌≤◌, ℕ, List, codes}
 use Rattle.lei_outside.specs.Count.{Rose}
 use Rattle.lei_outside.specs.declared.faults.SinkFault.{SinkFault}
@@ -6,8 +6,8 @@ use Rattle.lei_outside.specs.declared.faults.SinkFault.TheVariants.{Failed, NoMe
 use Rattle.lei_outside.specs.declared.faults.KeepFault.{KeepFault}
 use Rattle.lei_outside.specs.declared.faults.KeepFault.TheVariants as keep_faults
 
--- A call of a device failed, and nothing was read or written behind it: there was a time at which no call had failed
--- and the device told what it tells now, and behind that time its count of faults rose.
+-- A call of a device failed, and nothing was read or written after it. At some time no call had failed, and the device
+-- told what it tells now. After that time its count of faults rose.
 pub record FailsLast {D T : Type 0} (told : D → T) (faults : D → ℕ) (before after : D) : Type 0 where
   pub last : D
   pub faultless : faults last ≡ faults before
@@ -20,7 +20,7 @@ abbrev pub sink_fault_text : SinkFault → List ℕ
 sink_fault_text Failed = codes "the device failed"
 sink_fault_text NoMemory = codes "out of memory"
 
--- why a keeper kept or gave nothing, in words
+-- why a keeper kept or returned nothing, in words
 abbrev pub keep_fault_text : KeepFault → List ℕ
 keep_fault_text keep_faults.Failed = codes "the keeper failed"
 keep_fault_text keep_faults.NoMemory = codes "out of memory"

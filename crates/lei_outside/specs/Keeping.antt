@@ -1,4 +1,4 @@
--- What a keeper keeps: entries and cells. What it tells of them, and how its calls change that; `None` is a keeper that
+-- What a keeper keeps: entries and cells; what it tells of them, and how its calls change that. `None` is a keeper that
 -- tells nothing.
 use Rattle.std.specs.Prelude.{◌≡◌, ◌≢◌, ◌⊎◌, ◌≤◌, ◌<◌, ◌+◌, ◌-◌, ◌&&◌, ℕ, List, [], ◌∷◌, ◌++◌, length, slice_get, map, filter, fold, nat_le, nat_lt, Option, None, Some, IfSome, Result, MatchResult, ⊤}
 use Rattle.std.specs.Cmp.Lexicographic.{slice_cmp}
@@ -12,11 +12,11 @@ use Rattle.lei_outside.specs.declared.keeper.KeptCell.{KeptCell}
 
 -- ---- the two tables
 
--- Where a cell stands: its kind, and behind it the bytes of its name. So cells are in the order of kinds and names.
+-- The place of a cell: its kind, followed by the bytes of its name. So cells are in the order of kinds and names.
 abbrev pub CellPlace : Type 0
 CellPlace = List ℕ
 
--- What is kept of a cell: the number of the entry that touched it last, and the text of its row, or none after a
+-- What is kept of a cell: the number of the entry that touched it last, and the text of its row, or `None` after a
 -- withdrawal.
 pub record CellContent : Type 0 where
   pub touched : ℕ
@@ -43,15 +43,15 @@ place_of cell = cell.kind ∷ cell.name
 abbrev pub content_of : KeptCell → CellContent
 content_of cell = record { touched = cell.touched; row = cell.row }
 
--- The cells with this one in its place.
+-- The cells after this one was put in its place.
 abbrev pub put_cell : Cells → KeptCell → Cells
 put_cell cells cell = insert cells (place_of cell) (content_of cell)
 
--- The cells with all of these, from the first to the last.
+-- The cells after all of these were put in their places, from the first to the last.
 abbrev pub put_cells : Cells → List KeptCell → Cells
 put_cells cells list = fold put_cell cells list
 
--- The tables with a batch: its entry stands behind the others, and its cells in their places.
+-- The tables after a batch: its entry is added after the others, and its cells are put in their places.
 abbrev pub with_batch : Batch → KeptTables → KeptTables
 with_batch batch tables = record {
   entries = tables.entries ++ batch.entry ∷ [];
@@ -81,16 +81,16 @@ pub record AreKept (tables : KeptTables) : Type 0 where
 
 -- ---- what is read of them
 
--- The number of an entry, 0 where there is none.
+-- The number of an entry, or 0 if there is none.
 abbrev pub number_of : Option KeptEntry → ℕ
 number_of None = 0
 number_of (Some e) = e.seq
 
--- The number of the last entry, 0 where there is none.
+-- The number of the last entry, or 0 if there is none.
 abbrev pub last_number : KeptTables → ℕ
 last_number tables = number_of (slice_get tables.entries (length tables.entries - 1))
 
--- The entries whose number is greater than one number and at most another.
+-- The entries whose number is greater than the first number and at most the second.
 abbrev pub entries_between : ℕ → ℕ → KeptTables → List KeptEntry
 entries_between after upto tables = filter (λ e. nat_lt after e.seq && nat_le e.seq upto) tables.entries
 
@@ -100,7 +100,7 @@ cell_at ([], content) = record { kind = 0; name = []; touched = content.touched;
 cell_at (kind ∷ name, content) = record
     { kind = kind; name = name; touched = content.touched; row = content.row }
 
--- The cells that were touched last by such an entry, in the order of their places.
+-- The cells that such an entry touched last, in the order of their places.
 abbrev pub cells_between : ℕ → ℕ → KeptTables → List KeptCell
 cells_between after upto tables =
     filter (λ cell. nat_lt after cell.touched && nat_le cell.touched upto)
@@ -112,26 +112,27 @@ cells_between after upto tables =
 abbrev pub IsCellOf : ℕ → KeptCell → Type 0
 IsCellOf number cell = (cell.touched ≡ number) × IsAscii cell.name
 
--- No two cells have one place.
+-- No two cells have the same place.
 abbrev pub AreApart : List KeptCell → Type 0
 AreApart [] = ⊤
 AreApart (cell ∷ list) = AllByRecursion (λ other. place_of other ≢ place_of cell) list × AreApart list
 
 -- A batch that may be committed: the number of its entry is at most 9,223,372,036,854,775,807, which a store has room
--- for, its cells are cells of this entry in places of their own, and the texts that name something are ASCII.
+-- for; its cells are cells of this entry, each in its own place; and the texts that name something are ASCII.
 pub record IsBatch (batch : Batch) : Type 0 where
   pub number : batch.entry.seq ≤ 9223372036854775807
   pub office : IsAscii batch.entry.office
   pub cells : AllByRecursion (IsCellOf batch.entry.seq) batch.cells
   pub apart : AreApart batch.cells
 
--- Where the tables are told, the batch's entry has the number behind the last.
+-- If the tables are told, the batch's entry has the number that follows the last.
 abbrev pub IsNextOf : Option KeptTables → Batch → Type 0
 IsNextOf told batch = IfSome told (λ tables. batch.entry.seq ≡ last_number tables + 1)
 
 -- ---- what calls do
 
--- The told tables became what this makes of them. What is untold stays untold, and what is told may become untold.
+-- The told tables became what this function makes of them. What is untold stays untold, and what is told may become
+-- untold.
 abbrev pub Becomes : (KeptTables → KeptTables) → Option KeptTables → Option KeptTables → Type 0
 Becomes change None None = ⊤
 Becomes change None (Some new) = ⊥
@@ -154,7 +155,7 @@ Commits batch result old new =
 abbrev pub LeavesNoMore : (Option KeptTables → Type 0) → (Option KeptTables → Type 0) → Type 0
 LeavesNoMore old new = (left : Option KeptTables) → new left → old left
 
--- Where the tables are told, a crash leaves these.
+-- If the tables are told, a crash leaves these.
 abbrev pub LeavesTold : Option KeptTables → (Option KeptTables → Type 0) → Type 0
 LeavesTold told leaves = IfSome told (λ tables. (left : Option KeptTables) → leaves left → left ≡ Some tables)
 

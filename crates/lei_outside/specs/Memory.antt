@@ -36,7 +36,7 @@ pub record SureSinkState : Type 0 where
   pub written : List ℕ
   pub most : ℕ
 
--- A link in memory: where its bytes come from, and where they go.
+-- A link in memory: the source of its bytes, and the sink that they go to.
 pub record LinkState : Type 0 where
   pub source : SourceState
   pub sink : SinkState
@@ -52,7 +52,7 @@ pub record SureKeeperState : Type 0 where
   pub entries : List KeptEntry
   pub cells : List KeptCell
 
--- Its tables: of the cells of one place the last one is kept.
+-- Its tables: if several cells have one place, the last one is kept.
 abbrev pub tables_of : SureKeeperState → KeptTables
 tables_of keeper = record { entries = keeper.entries; cells = put_cells empty keeper.cells }
 
@@ -65,7 +65,7 @@ AreOfEntries cells = AllByRecursion (λ cell. IsEntryNumber cell.touched) cells
 abbrev pub MayBeKept : List KeptEntry → List KeptCell → Type 0
 MayBeKept entries cells = RiseFrom 0 entries × AreOfEntries cells
 
--- What it keeps with a batch.
+-- What it keeps after a batch.
 abbrev pub with_kept : Batch → SureKeeperState → SureKeeperState
 with_kept batch keeper =
     record { entries = keeper.entries ++ batch.entry ∷ []; cells = keeper.cells ++ batch.cells }

@@ -1,4 +1,4 @@
-// The calls of a device in memory, some of which are to fail.
+// The calls of a device in memory, some of which fail by design.
 ghost use Rattle.std.specs.Prelude.{◌≡◌, ◌↔◌, ◌≤◌, IsTrue, if◌then◌else◌};
 ghost use Rattle.lei_outside.specs.Count.{counted};
 ghost use Rattle.lei_outside.specs.Memory.{FailsNext};
@@ -23,7 +23,7 @@ impl Calls {
         }
     }
 
-    // Counts a call, and says whether it fails.
+    // Counts a call, and returns whether it fails.
     pub fn next_fails(&mut self) -> bool
         ensures fails { IsTrue result ↔ FailsNext self.old.failing self.old.count }
         ensures count { self.new.count ≡ counted self.old.count }

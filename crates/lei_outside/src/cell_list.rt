@@ -1,4 +1,4 @@
-// The cells that stand, among all that came.
+// The cells that are current, among all that were kept.
 ghost use Rattle.std.specs.Prelude.{◌≡◌, ◌++◌, ◌∷◌, IfOk, OnOk, map};
 ghost use Rattle.std.specs.FinMap.{empty, entries};
 ghost use Rattle.std.specs.BTreeMap.{IsOrdered};
@@ -15,7 +15,8 @@ use std::collections::BTreeMap;
 // The last cell of each place.
 type Places<'a> = BTreeMap<Bytes, &'a KeptCell>;
 
-// The cells that an entry touched last whose number is greater than `after` and at most `upto`, in the order of places.
+// The cells that were last touched by an entry with a number greater than `after` and at most `upto`, in the order of
+// their places.
 pub fn cells_between(
     alloc: Global,
     cells: &[KeptCell],
@@ -77,7 +78,7 @@ fn told(
     Ok(list)
 }
 
-// A copy of the cell that stands in a place.
+// A copy of the cell in a place.
 fn cell_in(alloc: Global, place: &[u8], cell: &KeptCell) -> Result<KeptCell, NoMemory>
     ensures { IfOk result (λ copy. copy ≡ cell_at (place.now, content_of cell.now)) }
 {

@@ -1,31 +1,31 @@
-// Where lines come from, one after the other.
+// The device that lines come from, one after another.
 ghost use Rattle.std.specs.Prelude.{◌≡◌, ℕ, ◌≤◌, List, Bool, false, true, Option};
 ghost use Rattle.lei_outside.specs.Count.{Rose};
 ghost use Rattle.lei_outside.specs.Doors.{Comes, IsFailed, TakesBack, is_line};
 
 use crate::Link;
 
-/// What came of waiting at a door.
+/// The result of waiting at a door.
 #[derive(Drop)]
 pub enum Came<L> {
     /// The next line.
     Line(L),
-    /// No line comes any more.
+    /// No further line comes.
     Closed,
     /// The door failed.
     Failed,
 }
 
-/// A device that gives lines, as a listener or memory, and takes each back once it was served. At most one line is out
-/// at a time.
+/// A device that gives lines, such as a listener or memory, and takes each back after it was served. At most one line
+/// is out at a time.
 pub trait Door {
-    /// A line: what a caller sends and is sent.
+    /// A line: what a caller sends, and what is sent to the caller.
     type Line: Link + Drop;
 
-    /// The lines to come, where the door tells them.
+    /// The lines to come, if the door tells them.
     ghost to_come: { Self → Option (List Self.Line) };
 
-    /// The lines that came back, where the door tells them.
+    /// The lines that came back, if the door tells them.
     ghost came_back: { Self → Option (List Self.Line) };
 
     /// Whether a line is out.

@@ -1,4 +1,4 @@
-// What can go wrong outside: a device fails, or memory runs out.
+// What can go wrong outside the program: a device fails, or memory runs out.
 ghost use Rattle.std.specs.Prelude.{◌≡◌};
 
 use std::alloc::{AllocError, AllocFailed};
@@ -33,7 +33,7 @@ impl<T: Drop> From<AllocFailed<T>> for NoMemory {
     }
 }
 
-/// A device failed. What it did is said at the call that answers this.
+/// A device failed. The call that returns this says what the device did.
 #[derive(Clone, Copy, Debug, PartialEq, Eq)]
 pub struct Failed;
 
@@ -104,7 +104,7 @@ impl From<NoMemory> for SinkFault {
     }
 }
 
-/// Why a keeper kept or gave nothing.
+/// Why a keeper kept or returned nothing.
 #[derive(Clone, Copy, Debug, PartialEq, Eq)]
 pub enum KeepFault {
     /// The device failed.

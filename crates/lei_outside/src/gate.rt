@@ -1,13 +1,13 @@
-// Where an upload passes between its judging and its turn.
+// What an upload passes between its judging and its turn.
 
-/// A device that may hold an upload up. What it does has no part in what is answered.
+/// A device that may hold up an upload. What it does has no effect on the answers.
 pub trait Gate {
-    /// Lets the upload of this issuer and number pass. `ahead` is how many of its items were accepted where it was
-    /// judged, or `None` where it wasn't judged yet.
+    /// Lets the upload of this issuer and number pass. `ahead` is how many of its items were accepted when it was
+    /// judged, or `None` if it wasn't judged yet.
     fn between(&self, office: &[u8; 20], number: u32, ahead: Option<u32>);
 }
 
-/// A gate that holds nothing up.
+/// A gate that holds up nothing.
 #[derive(Clone, Copy, Debug, PartialEq, Eq)]
 pub struct OpenGate;
 

@@ -1,4 +1,4 @@
-//! What the register has of the outside: bytes that come and go through devices, and the values that it keeps.
+//! The register's view of the outside: bytes that come and go through devices, and the values that it keeps.
 #![tactic(auto)]
 
 mod calls;

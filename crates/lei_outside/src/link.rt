@@ -1,4 +1,4 @@
-// Where bytes come from and go to: both sides of one line.
+// The device that bytes come from and go to: both directions of a connection.
 ghost use Rattle.std.specs.Prelude.{◌≡◌, ℕ, ◌<◌, ◌≤◌, List, Option, length, OnOk, OnErr, IsErrOf};
 ghost use Rattle.lei_outside.specs.Told.{Grows, Reads, Writes, WritesFront};
 ghost use Rattle.lei_outside.specs.Count.{Rose};
@@ -7,13 +7,13 @@ ghost use Rattle.lei_outside.specs.Links.{told_by};
 
 use crate::{Failed, SinkFault};
 
-/// A device that gives bytes and takes bytes, as a connection or memory. The two sides have counts of their own, and a
-/// call of one side leaves the other as it was.
+/// A device that gives and takes bytes, such as a connection or memory. Each direction has its own counts, and a call
+/// in one direction leaves the other as it was.
 pub trait Link {
-    /// The bytes that are left to be read, where the link tells them.
+    /// The bytes that are left to be read, if the link tells them.
     ghost left: { Self → Option (List ℕ) };
 
-    /// The bytes that were written, where the link tells them.
+    /// The bytes that were written, if the link tells them.
     ghost written: { Self → Option (List ℕ) };
 
     /// How many reads have failed.
@@ -22,8 +22,8 @@ pub trait Link {
     /// How many writes have failed.
     ghost write_faults: { Self → ℕ };
 
-    /// Fills the front of the buffer with the next bytes, and says how many they are. It gives none only at the
-    /// end. A read that fails takes none.
+    /// Fills the front of the buffer with the next bytes, and returns how many there are. It returns 0 only at the end.
+    /// A read that fails takes no bytes.
     fn read(&mut self, buffer: &mut [u8]) -> Result<usize, Failed>
         requires { 0 < length buffer.old }
         ensures bytes { Reads (left self.old) (left self.new) result buffer.new }
@@ -33,7 +33,7 @@ pub trait Link {
         ensures written { written self.new ≡ written self.old }
         ensures write_count { write_faults self.new ≡ write_faults self.old };
 
-    /// Takes a front of the piece, and says how many bytes it is. A write that fails takes none.
+    /// Takes a front of the piece, and returns its number of bytes. A write that fails takes none.
     fn write(&mut self, piece: &[u8]) -> Result<usize, SinkFault>
         requires { 0 < length piece.now }
         ensures bytes { Writes (written self.old) (written self.new) result piece.now }
@@ -45,7 +45,7 @@ pub trait Link {
         ensures read_count { read_faults self.new ≡ read_faults self.old };
 }
 
-/// Writes the whole piece, by as many writes as the link needs for it. After an `Err` some front of it was written.
+/// Writes the whole piece, in as many writes as the link needs. After an `Err` some front of it was written.
 pub fn send_all<L: Link>(link: &mut L, piece: &[u8]) -> Result<(), SinkFault>
     ensures written { OnOk result (Grows (L.written link.old) (L.written link.new) piece.now) }
     ensures front { OnErr result (WritesFront (L.written link.old) (L.written link.new) piece.now) }

@@ -1,4 +1,4 @@
-// Lists of bytes, of text and of anything, which contracts see as lists.
+// Lists of bytes, of text and of any items, which contracts see as lists.
 ghost use Rattle.std.specs.Prelude.{◌≡◌, ◌==◌, ◌↔◌, [], length, IfOk, IsTrue, string_bytes};
 ghost use Rattle.std.proofs.Common.{rules};
 ghost use Rattle.std.specs.Cmp.Rules.{comparing};
@@ -32,7 +32,7 @@ impl From<Vec<u8>> for Bytes {
 }
 
 impl Bytes {
-    /// Bytes in memory of their own.
+    /// A copy of the bytes in its own memory.
     pub fn copy_of(alloc: Global, bytes: &[u8]) -> Result<Self, NoMemory>
         ensures { IfOk result (λ b. b ≡ bytes.now) }
     {
@@ -41,7 +41,7 @@ impl Bytes {
         })
     }
 
-    /// The bytes, lent.
+    /// The bytes, borrowed.
     pub fn as_slice(&self) -> &[u8]
         ensures { result.now ≡ self.now }
     {
@@ -62,7 +62,7 @@ impl Bytes {
         self.bytes.is_empty()
     }
 
-    /// The vector that it was made of, without a copy.
+    /// The vector that it was made from, without a copy.
     pub fn into_vec(self) -> Vec<u8>
         ensures { result.items ≡ self }
     {
@@ -113,7 +113,7 @@ impl From<String> for Text {
 }
 
 impl Text {
-    /// Text in memory of its own.
+    /// A copy of the text in its own memory.
     pub fn copy_of(alloc: Global, text: &str) -> Result<Self, NoMemory>
         ensures { IfOk result (λ t. t ≡ text.now) }
     {
@@ -122,14 +122,14 @@ impl Text {
         })
     }
 
-    /// The text, lent.
+    /// The text, borrowed.
     pub fn as_str(&self) -> &str
         ensures { result.now ≡ self.now }
     {
         self.text.as_str()
     }
 
-    /// Its UTF-8 bytes, lent.
+    /// Its UTF-8 bytes, borrowed.
     pub fn as_bytes(&self) -> &[u8]
         ensures { result.now ≡ self.now }
     {
@@ -150,7 +150,7 @@ impl Text {
         self.text.is_empty()
     }
 
-    /// The string that it was made of, without a copy.
+    /// The string that it was made from, without a copy.
     pub fn into_string(self) -> String
         ensures { string_bytes result ≡ self }
     {
@@ -201,7 +201,7 @@ impl<T> From<Vec<T>> for List<T> {
 }
 
 impl<T> List<T> {
-    /// The items, lent.
+    /// The items, borrowed.
     pub fn as_slice(&self) -> &[T]
         ensures { result.now ≡ self.now }
     {
@@ -222,7 +222,7 @@ impl<T> List<T> {
         self.items.is_empty()
     }
 
-    /// The vector that it was made of, without a copy.
+    /// The vector that it was made from, without a copy.
     pub fn into_vec(self) -> Vec<T>
         ensures { result.items ≡ self }
     {

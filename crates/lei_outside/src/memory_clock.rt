@@ -1,4 +1,4 @@
-// A clock that gives moments of memory.
+// A clock that gives moments from memory.
 ghost use Rattle.std.specs.Prelude.{◌≡◌, ℤ, List as Items, [], ◌∷◌, All};
 ghost use Rattle.lei_outside.specs.Clock.{ClockState, Gave, IsClockMoment, given_by, moment_after};
 ghost use Rattle.lei_outside.specs.Count.{counted};
@@ -6,8 +6,8 @@ ghost use Rattle.lei_outside.specs.Count.{counted};
 use crate::{Clock, List};
 use std::marker::Model;
 
-/// A clock that gives the moments of a list in order, and behind them the last one again, or 0 where there is none.
-/// It counts its calls, and tells what it gave until the count stands at `u64::MAX`.
+/// A clock that gives the moments of a list in order, and after them the last one again, or 0 if the list is empty. It
+/// counts its calls, and tells what it gave until the count reaches `u64::MAX`.
 #[derive(Drop)]
 pub struct ListClock {
     moments: List<i64>,
@@ -34,7 +34,7 @@ impl ListClock {
         ListClock { moments, calls: 0 }
     }
 
-    /// How often it was asked. It stands still at `u64::MAX`.
+    /// The number of calls so far. It stops at `u64::MAX`.
     pub fn calls(&self) -> u64
         ensures { result ≡ self.now.calls }
     {
@@ -58,7 +58,7 @@ impl Clock for ListClock {
     }
 }
 
-// The moment that comes after so many.
+// The moment that follows this many calls.
 fn moment_after(moments: &[i64], calls: u64) -> i64
     ensures { result ≡ moment_after moments.now calls }
 {

@@ -10,8 +10,8 @@ use crate::{Batch, KeepFault, Keeper, KeptCell, KeptEntry, List, NoMemory};
 use std::alloc::Global;
 use std::marker::Model;
 
-/// A keeper in memory that never fails, unless memory runs out. It keeps each cell that came, also where a later one
-/// stands in its place.
+/// A keeper in memory that never fails, unless memory runs out. It keeps each cell that came, even if a later one
+/// replaced it.
 #[derive(Drop)]
 pub struct SureKeeper {
     alloc: Global,
@@ -107,7 +107,7 @@ impl Keeper for SureKeeper {
     }
 }
 
-// The cells in memory of their own.
+// Copies of the cells in their own memory.
 fn copies(alloc: Global, cells: &[KeptCell]) -> Result<Vec<KeptCell>, NoMemory>
     ensures { IfOk result (λ list. list.items ≡ cells.now) }
 {
@@ -172,8 +172,8 @@ impl Model for MapKeeper {
 }
 
 impl MapKeeper {
-    /// A keeper that has kept nothing. The calls with the numbers in `failing` fail, where the first call has the
-    /// number 1. A call that finds no memory counts as one.
+    /// A keeper that has kept nothing. The calls with the numbers in `failing` fail. The first call has the number 1,
+    /// and a call that finds no memory counts as well.
     pub fn new(alloc: Global, failing: List<u64>) -> Self
         ensures { result ≡ record
             { kept = record { entries = []; cells = [] }; failing = failing; calls = 0; faults = 0 } }
@@ -185,7 +185,7 @@ impl MapKeeper {
     }
 
     /// A keeper that has kept these entries and cells. The condition is that the numbers of the entries rise and those
-    /// of the cells are at least 1. Of cells in one place the last one is kept.
+    /// of the cells are at least 1. If several cells have one place, the last one is kept.
     pub fn of(
         alloc: Global,
         entries: List<KeptEntry>,
@@ -207,7 +207,7 @@ impl MapKeeper {
         }
     }
 
-    /// How many calls have failed. It stands still at `u64::MAX`.
+    /// How many calls have failed. It stops at `u64::MAX`.
     pub fn faults(&self) -> u64
         ensures { result ≡ self.now.faults }
     {

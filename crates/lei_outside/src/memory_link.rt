@@ -12,7 +12,7 @@ use std::alloc::Global;
 use std::collections::VecDeque;
 use std::marker::Model;
 
-/// A link whose bytes come of a source in memory and go to a sink in memory.
+/// A link whose bytes come from a source in memory and go to a sink in memory.
 #[derive(Drop)]
 pub struct ByteLink {
     source: ByteSource,
@@ -28,7 +28,7 @@ impl Model for ByteLink {
 }
 
 impl ByteLink {
-    /// A link of these two.
+    /// A link of this source and this sink.
     pub fn new(source: ByteSource, sink: ByteSink) -> Self
         ensures { result ≡ record { source = source; sink = sink } }
     {
@@ -106,7 +106,7 @@ impl Link for ByteLink {
     }
 }
 
-/// A door with links of memory, which never fails.
+/// A door with links in memory, which never fails.
 #[derive(Drop)]
 pub struct ListDoor {
     to_come: VecDeque<ByteLink>,
@@ -122,13 +122,13 @@ impl Model for ListDoor {
 
     ghost view = { λ d. record { to_come = d.to_come.items; back = d.back.items; out = d.out } };
 
-    // each line that is yet to come back has its place
+    // there is room for each line that is yet to come back
     ghost invariant = { λ d.
         length d.back.items + (if d.out then 1 else 0) + length d.to_come.items ≤ vec_capacity d.back };
 }
 
 impl ListDoor {
-    /// A door through which these links come, in order. It takes the memory for all that come back.
+    /// A door through which these links come, in order. It allocates the memory for all that come back.
     pub fn new(alloc: Global, links: List<ByteLink>) -> Result<Self, NoMemory>
         ensures { IfOk result (λ door. door ≡ record { to_come = links; back = []; out = false }) }
     {

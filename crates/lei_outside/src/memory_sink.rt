@@ -28,7 +28,7 @@ impl Model for SureSink {
 }
 
 impl SureSink {
-    /// A sink that takes at most `most` bytes a write.
+    /// A sink that takes at most `most` bytes per write.
     pub fn new(alloc: Global, most: usize) -> Self
         requires { 1 ≤ most }
         ensures { result ≡ record { written = []; most = most } }
@@ -89,8 +89,8 @@ impl Model for ByteSink {
 }
 
 impl ByteSink {
-    /// A sink that takes at most `most` bytes a write. The writes with the numbers in `failing` fail, where the
-    /// first write has the number 1. A write that finds no memory counts as one.
+    /// A sink that takes at most `most` bytes per write. The writes with the numbers in `failing` fail. The first write
+    /// has the number 1, and a write that finds no memory counts as well.
     pub fn new(alloc: Global, most: usize, failing: List<u64>) -> Self
         requires { 1 ≤ most }
         ensures { result ≡ record { written = []; most = most; failing = failing; calls = 0; faults = 0 } }
@@ -108,7 +108,7 @@ impl ByteSink {
         self.sink.written()
     }
 
-    /// How many writes have failed. It stands still at `u64::MAX`.
+    /// How many writes have failed. It stops at `u64::MAX`.
     pub fn faults(&self) -> u64
         ensures { result ≡ self.now.faults }
     {

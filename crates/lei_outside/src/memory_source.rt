@@ -1,4 +1,4 @@
-// Sources that give bytes of memory.
+// Sources that give bytes from memory.
 ghost use Rattle.std.specs.Prelude.{◌≡◌, ◌↔◌, ◌<◌, ◌≤◌, ◌++◌, Some, length, min, take, drop, IsOk, IsErr, IfOk, OnErr};
 ghost use Rattle.lei_outside.specs.Told.{Reads};
 ghost use Rattle.lei_outside.specs.Count.{Rose, counted};
@@ -28,7 +28,7 @@ impl Model for SureSource {
 }
 
 impl SureSource {
-    /// A source that gives these bytes, at most `most` a read.
+    /// A source that gives these bytes, at most `most` per read.
     pub fn new(bytes: Bytes, most: usize) -> Self
         requires { 1 ≤ most }
         ensures { result ≡ record { left = bytes; most = most } }
@@ -64,7 +64,7 @@ impl Source for SureSource {
     }
 }
 
-// Fills the front of the buffer with the next bytes, and says how many they are.
+// Fills the front of the buffer with the next bytes, and returns how many there are.
 fn fill(buffer: &mut [u8], left: &[u8], most: usize) -> usize
     ensures size { result ≡ min (min most (length buffer.old)) (length left.now) }
     ensures front { left.now ≡ take result buffer.new ++ drop result left.now }
@@ -97,8 +97,8 @@ impl Model for ByteSource {
 }
 
 impl ByteSource {
-    /// A source that gives these bytes, at most `most` a read. The reads with the numbers in `failing` fail, where
-    /// the first read has the number 1.
+    /// A source that gives these bytes, at most `most` per read. The reads with the numbers in `failing` fail. The
+    /// first read has the number 1.
     pub fn new(bytes: Bytes, most: usize, failing: List<u64>) -> Self
         requires { 1 ≤ most }
         ensures { result ≡ record { left = bytes; most = most; failing = failing; calls = 0; faults = 0 } }
@@ -116,7 +116,7 @@ impl ByteSource {
         self.source.left()
     }
 
-    /// How many reads have failed. It stands still at `u64::MAX`.
+    /// How many reads have failed. It stops at `u64::MAX`.
     pub fn faults(&self) -> u64
         ensures { result ≡ self.now.faults }
     {

@@ -1,4 +1,4 @@
-// Bytes that several holders have in common.
+// Bytes that several holders share.
 ghost use Rattle.std.specs.Prelude.{◌≡◌, ◌==◌, ◌↔◌, [], length, IfOk, IsTrue};
 ghost use Rattle.std.proofs.Common.{rules};
 ghost use Rattle.std.specs.Cmp.Rules.{comparing};
@@ -10,8 +10,7 @@ use std::fmt;
 use std::marker::Model;
 use std::sync::Arc;
 
-/// Bytes that those who hold them have in common: who holds them once more takes no memory for them. A contract sees
-/// them as a list.
+/// Bytes that their holders share: one more holder needs no memory for them. A contract sees them as a list.
 #[derive(Drop)]
 pub struct Shared {
     bytes: Arc<Vec<u8>, Global>,
@@ -27,7 +26,7 @@ impl Model for Shared {
 }
 
 impl Shared {
-    /// The bytes, which move.
+    /// The bytes, which are moved.
     pub fn of(alloc: Global, bytes: Vec<u8>) -> Result<Self, NoMemory>
         ensures { IfOk result (λ s. s ≡ bytes.items) }
     {
@@ -36,7 +35,7 @@ impl Shared {
         })
     }
 
-    /// Bytes in memory of their own.
+    /// A copy of the bytes in its own memory.
     pub fn copy_of(alloc: Global, bytes: &[u8]) -> Result<Self, NoMemory>
         ensures { IfOk result (λ s. s ≡ bytes.now) }
     {
@@ -52,7 +51,7 @@ impl Shared {
         })
     }
 
-    /// The bytes, lent.
+    /// The bytes, borrowed.
     pub fn as_slice(&self) -> &[u8]
         ensures { result.now ≡ self.now }
     {

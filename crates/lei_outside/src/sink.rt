@@ -1,4 +1,4 @@
-// Where bytes go.
+// The device that bytes go to.
 ghost use Rattle.std.specs.Prelude.{◌≡◌, ℕ, ◌<◌, ◌≤◌, List, Option, length, OnOk, OnErr, IsErrOf};
 ghost use Rattle.lei_outside.specs.Told.{Grows, WritesFront, Writes};
 ghost use Rattle.lei_outside.specs.Count.{Rose};
@@ -6,15 +6,15 @@ ghost use Rattle.lei_outside.specs.Faults.{FailsLast};
 
 use crate::SinkFault;
 
-/// A device that takes bytes, as a file, a socket or memory.
+/// A device that takes bytes, such as a file, a socket or memory.
 pub trait Sink {
-    /// The bytes that were written, where the sink tells them.
+    /// The bytes that were written, if the sink tells them.
     ghost written: { Self → Option (List ℕ) };
 
     /// How many writes have failed.
     ghost faults: { Self → ℕ };
 
-    /// Takes a front of the piece, and says how many bytes it is. A write that fails takes none.
+    /// Takes a front of the piece, and returns its number of bytes. A write that fails takes none.
     fn write(&mut self, piece: &[u8]) -> Result<usize, SinkFault>
         requires { 0 < length piece.now }
         ensures bytes { Writes (written self.old) (written self.new) result piece.now }
@@ -23,7 +23,7 @@ pub trait Sink {
         ensures failed { IsErrOf result SinkFault.Failed → Rose (faults self.old) (faults self.new) };
 }
 
-/// Writes the whole piece, by as many writes as the sink needs for it. After an `Err` some front of it was written.
+/// Writes the whole piece, in as many writes as the sink needs. After an `Err` some front of it was written.
 pub fn write_all<W: Sink>(out: &mut W, piece: &[u8]) -> Result<(), SinkFault>
     ensures written { OnOk result (Grows (W.written out.old) (W.written out.new) piece.now) }
     ensures front { OnErr result (WritesFront (W.written out.old) (W.written out.new) piece.now) }

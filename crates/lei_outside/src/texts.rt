@@ -10,8 +10,8 @@ use std::alloc::Global;
 use std::fmt;
 use std::marker::Model;
 
-/// Texts that lie one behind the other in one piece of memory, of at most 4 GiB. Contracts see the list of them, each
-/// by its UTF-8 bytes.
+/// Texts that are stored one after another in one piece of memory, of at most 4 GiB. Contracts see the list of them,
+/// each by its UTF-8 bytes.
 #[derive(Drop)]
 pub struct Texts {
     text: String,
@@ -30,7 +30,7 @@ impl Model for Texts {
 }
 
 impl Texts {
-    /// No texts, with room for so many of so many bytes together.
+    /// No texts yet, with room for this many texts with this many bytes in total.
     pub fn with_capacity(alloc: Global, texts: usize, bytes: usize) -> Result<Self, NoMemory>
         ensures { IfOk result (λ t. t ≡ []) }
     {
@@ -40,7 +40,7 @@ impl Texts {
         })
     }
 
-    /// Puts a text behind the others.
+    /// Adds a text after the others.
     pub fn push(&mut self, text: &str) -> Result<(), NoMemory>
         ensures ok { OnOk result (self.new ≡ self.old ++ text.now ∷ []) }
         ensures err { OnErr result (self.new ≡ self.old) }
@@ -53,7 +53,7 @@ impl Texts {
         Ok(())
     }
 
-    /// The same texts in memory of their own.
+    /// A copy of the texts in its own memory.
     pub fn copy(&self, alloc: Global) -> Result<Self, NoMemory>
         ensures { IfOk result (λ copy. copy ≡ self.now) }
     {
@@ -63,14 +63,14 @@ impl Texts {
         })
     }
 
-    /// How many they are.
+    /// The number of texts.
     pub fn len(&self) -> usize
         ensures { result ≡ length self.now }
     {
         self.ends.len()
     }
 
-    /// Whether there is none.
+    /// Whether there are none.
     pub fn is_empty(&self) -> bool
         ensures { result ≡ (length self.now == 0) }
     {
@@ -108,7 +108,7 @@ impl fmt::Debug for Texts {
     }
 }
 
-// The text at this index among those that lie one behind the other.
+// The text at this index among those that are stored one after another.
 fn piece_at<'a>(text: &'a str, ends: &[u32], index: usize) -> &'a str
     requires ends { AreEnds 0 ends.now text.now }
     requires index { index < length ends.now }
@@ -119,7 +119,7 @@ fn piece_at<'a>(text: &'a str, ends: &[u32], index: usize) -> &'a str
     &text[start..end]
 }
 
-// Where the text at this index begins.
+// The offset of the first byte of the text at this index.
 fn start_of(ends: &[u32], index: usize) -> u32
     requires { index < length ends.now }
     ensures { result ≡ slice_index_or (0 ∷ ends.now) index 0 }

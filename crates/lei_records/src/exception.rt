@@ -1,3 +1,4 @@
+//! Reporting exceptions.
 ghost use Rattle.std.specs.Prelude.{◌≡◌, ◌≤◌, IfOk};
 ghost use Rattle.lei_records.specs.Exceptions;
 ghost use Rattle.lei_records.specs.Places.{exception_places};

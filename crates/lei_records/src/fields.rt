@@ -1,3 +1,4 @@
+//! The kinds of items, and the tables of their fields.
 ghost use Rattle.std.specs.Prelude.{◌≡◌, map};
 ghost use Rattle.lei_records.specs.Fields;
 ghost use Rattle.lei_records.specs.Fields.{is_needed, may_stand, read_field};

@@ -1,3 +1,4 @@
+//! Items as they were sent: names with their texts.
 use crate::check::Check;
 use crate::exception::ExceptionItem;
 use crate::record::Record;

@@ -1,3 +1,4 @@
+//! The checks of an item's fields, and the record, relationship or exception that passes them.
 ghost use Rattle.std.specs.Prelude.{◌≡◌, ◌≤◌, ◌<◌, ◌++◌, ◌∷◌, ◌&&◌, [], codes, length, not, is_some, IfOk, IfSome, IsAscii, IsTrue, OnOk, None, Some, option_map, unwrap_or, if◌then◌else◌};
 ghost use Rattle.std.specs.List.{list_any};
 ghost use Rattle.std.specs.Str.{bytes_eq};

@@ -1,3 +1,4 @@
+//! Records.
 ghost use Rattle.std.specs.Prelude.{◌≡◌, ◌≤◌, IfOk};
 ghost use Rattle.lei_records.specs.Cells;
 ghost use Rattle.lei_records.specs.Places.{record_places};

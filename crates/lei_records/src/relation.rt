@@ -1,3 +1,4 @@
+//! Relationships.
 ghost use Rattle.std.specs.Prelude.{◌≡◌, ◌≤◌, IfOk};
 ghost use Rattle.lei_records.specs.Places.{relation_places};
 ghost use Rattle.lei_records.specs.Relations;

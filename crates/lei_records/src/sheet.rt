@@ -1,3 +1,4 @@
+//! The texts of an item's fields by their places.
 ghost use Rattle.std.specs.Prelude.{◌≡◌, ◌↔◌, ◌<◌, is_some, nat_lt, take, true, IfSome, IsTrue, Some, if◌then◌else◌, slice_index_or};
 ghost use Rattle.std.specs.Option.{option_copied};
 ghost use Rattle.lei_records.specs.Fields.{field_count, known_count, names_of};

@@ -1,4 +1,4 @@
--- The closed form of a date is the date of the calendar.
+-- The closed form of a date is the calendar's date.
 use Rattle.std.proofs.Common.{◌≡◌, ℕ, ◌+◌, ◌-◌, ◌*◌, ◌/◌, ◌%◌, ◌<◌, ◌≤◌, nat_lt, true, false, cond, add-one, Bool, refl, ap, ◌∙◌, arith, pos}
 use Rattle.std.proofs.lemmas.Bool.Decides.{nat_tests}
 use Rattle.jiff_core.specs.Calendar.{day_count, IsCivilDate}
@@ -15,20 +15,20 @@ march_year_has n h = (omega arith, omega arith, omega arith)
 march_days-shift : (y : ℕ) → march_days (y + 10_000) ≡ march_days y + 3_652_425
 march_days-shift y = omega arith
 
--- a March year has 365 days, or 366 where it ends in a leap year
+-- a March year has 365 days, or 366 if it ends in a leap year
 within : (y r n : ℕ) → march_days y + r ≡ n → n < march_days (y + 1) → r < 365 + leap_day (pos (y + 1))
 within y r n e h =
     let next : march_days (y + 1) ≡ march_days y + 365 + leap_day (pos (y + 1)) = rw add-one (march_days-suc y) in
     omega arith
 
--- the month and the day of the month, of a day of a March year
+-- the month and the day of the month, for a day of a March year
 abbrev month_of : ℕ → ℕ
 month_of r = (5 * r + 461) / 153
 
 abbrev month_day_of : ℕ → ℕ
 month_day_of r = (5 * r + 461) % 153 / 5 + 1
 
--- what the two make of a day of a March year, where `early` says that it is in January or February
+-- the result of the two for a day of a March year; `early` says that it is in January or February
 day_count-by : (early : Bool) (y r : ℕ) → nat_lt 12 (month_of r) ≡ early → r < 366
     → day_count (pos (cond early (y + 1) y)) (cond early (month_of r - 12) (month_of r)) (month_day_of r) ≡ march_days y + r + 3_652_485
 day_count-by true y r test bound =
@@ -50,7 +50,7 @@ civil-by false y r test years bound leap =
     let soon : month_of r ≤ 12 = grind (arith, nat_tests) in
     ((omega (arith, signed_arith), omega (arith, signed_arith)), (omega arith, omega arith), (omega arith, day_in_month (pos y) r soon))
 
--- the date of the closed form is so many days after 1 March of the year 0
+-- the date of the closed form is this many days after 1 March of the year 0
 pub day_count-at : (n : ℕ) → n < 3_700_000 → day_count (pos (year_at n)) (month_at n) (day_at n) ≡ n + 3_652_485
 day_count-at n h =
     let has = march_year_has n h in

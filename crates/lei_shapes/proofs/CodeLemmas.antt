@@ -1,4 +1,4 @@
--- Texts of several codes: what stands before a space, and what stands after it.
+-- Texts of several codes: what precedes a space, and what follows it.
 use Rattle.std.proofs.Common.{◌≡◌, ◌<◌, ◌≤◌, ◌+◌, ℕ, suc, List, [], ◌∷◌, Bool, true, false, cond, not, length, take, drop, Option, Some, None, refl, sym, ap, subst, nat_lt, ◌∙◌, arith, lit<}
 use Rattle.std.specs.Prelude.{◌==◌, ◌&&◌}
 use Rattle.std.specs.List.{list_all, list_any, position, position_or_len}
@@ -110,7 +110,7 @@ pub last_one : (count : ℕ) (texts : List (List ℕ)) (text : List ℕ) → tex
 last_one count texts text is code few =
     one_more count texts text [] is code refl ∙ ap (λ b. b && true && true) (in_range (count + 1 + 0) (omega arith) (omega (arith, few)))
 
--- a text has one text between its spaces at least
+-- there is at least one text between the spaces of a text
 some_text : (text : List ℕ) → 0 < length (between_spaces text)
 some_text [] = lit< tt
 some_text (byte ∷ text) =
@@ -131,7 +131,7 @@ too_many text count many =
 
 -- ---- a code has no space
 
--- bytes that pass a test that a space doesn't pass have no space among them
+-- if bytes pass a test that a space doesn't pass, there is no space among them
 one_text : (p : ℕ → Bool) → p 32 ≡ false → (text : List ℕ) → list_all p text ≡ true → between_spaces text ≡ text ∷ []
 one_text p none [] all = refl
 one_text p none (byte ∷ text) all =
@@ -150,7 +150,7 @@ digits_too (byte ∷ text) all =
     let parts = and_parts (is_ascii_digit byte) (list_all is_ascii_digit text) all in
     rw (digit_too byte parts.0, digits_too text parts.1) refl
 
--- a code is the one text between its spaces
+-- a code is the only text between its spaces
 pub one_code : (text : List ℕ) → is_code text ≡ true → between_spaces text ≡ text ∷ []
 one_code text is =
     let outer = and_parts ((length text == 20) && list_all is_capital_or_digit (take 18 text)) (list_all is_ascii_digit (drop 18 text)) is in

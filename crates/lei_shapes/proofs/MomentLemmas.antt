@@ -55,7 +55,7 @@ day-clock clock s shows =
     let split = day_and_second s in
     (omega (arith, signed_arith), omega (arith, signed_arith))
 
--- the parts of a time that is so many whole seconds after midnight
+-- the parts of a time that is this many whole seconds after midnight
 time_parts_at : (t : Time) (k : ℕ) → time_nanos t ≡ k * 1_000_000_000
     → (t.hour ≡ k / 3600) × (t.minute ≡ k / 60 % 60) × (t.second ≡ k % 60) × (t.subsec_nanosecond ≡ 0)
 time_parts_at t k e =
@@ -72,7 +72,7 @@ clock_at_moment clock s h shows =
     let time = time_parts_at clock.time (second_of_day s) split.1 in
     record { year = date.0; month = date.1; day = date.2; hour = time.0; minute = time.1; second = time.2; subsec = time.3 }
 
--- and `jiff` writes of it the moment's text
+-- and `jiff` writes the moment's text for it
 pub moment_text-clock : (clock : DateTime) (s : ℤ) → IsClockAt s clock → moment_text s ≡ datetime_text false 84 None clock ++ zulu_text false
 unfolding moment_text
 moment_text-clock clock s at = rw (at.year, at.month, at.day, at.hour, at.minute, at.second, at.subsec) (simp append_assoc refl)
@@ -115,7 +115,7 @@ is_written s h =
     let clock = shown s h in
     record { clock = clock.0; shows = clock.1; written = moment_text-clock clock.0 s (clock_at_moment clock.0 s h clock.1) }
 
--- the parts of a date have so many digits
+-- the parts of a date have this many digits
 pub date_bounds : (n : ℕ) → n < 3_652_000 → (year_at n < 10_000) × (month_at n < 100) × (day_at n < 100)
 date_bounds n h =
     let civil = civil-at n h in

@@ -7,7 +7,7 @@ use Rattle.std.specs.List.{fold, list_any}
 use Rattle.std.proofs.lemmas.Str.{chars-IsAscii}
 use Rattle.lei_shapes.specs.Shape.{is_free}
 
--- a text of ASCII has its bytes for characters
+-- the bytes of an ASCII text are its characters
 pub is_free-ascii : (text : List ℕ) → IsAscii text → is_free text ≡ (is_in_range 1 500 (length text) && not (list_any is_control text))
 is_free-ascii text h = rw (chars-IsAscii text h) refl
 

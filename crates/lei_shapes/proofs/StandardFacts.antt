@@ -1,5 +1,5 @@
--- Values from outside, so that a wrong rule in the specs does not check. Days and texts are those of RFC 3339 and
--- of Python's `datetime`.
+-- Values from outside, so that a wrong rule in the specs doesn't check. Days and texts are those of RFC 3339 and of
+-- Python's `datetime`.
 use Rattle.std.proofs.Common.{◌≡◌, [], ◌∷◌, map, true, false, None, Some, refl, pos, negsuc, neg_ℤ, codes}
 use Rattle.std.specs.Str.{chars}
 use Rattle.jiff.proofs.OnLiterals.{jiff_on_literals}

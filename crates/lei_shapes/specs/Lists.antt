@@ -1,5 +1,5 @@
--- The lists of values. Each has one table, the text of every value, which is compared byte for byte, as in the Common
--- Data File formats of the Global LEI System. What a text reads as follows from the table.
+-- The lists of values. Each has one table with the text of every value, which is compared byte for byte, as in the
+-- Common Data File formats of the Global LEI System. What a text reads as follows from the table.
 use Rattle.std.specs.Prelude.{◌≡◌, ◌≢◌, List, [], ◌∷◌, Option, Some, MatchOption, find, bytes_eq, codes}
 use Rattle.lei_code.specs.Texts.{Text}
 use Rattle.lei_shapes.specs.declared.lists.RecordStatus.{RecordStatus}
@@ -14,11 +14,11 @@ use Rattle.lei_shapes.specs.declared.lists.Reason.{Reason}
 use Rattle.lei_shapes.specs.declared.lists.EventType.{EventType}
 use Rattle.lei_shapes.specs.declared.lists.EventStatus.{EventStatus}
 
--- The first of the values that has this text, if one does.
+-- The first of the values that has this text, if any.
 abbrev pub named : {V : Type 0} → (V → Text) → List V → Text → Option V
 named text_of values text = find (λ v. bytes_eq (text_of v) text) values
 
--- A text reads by a table as the value whose text it is, and as none exactly where no value has this text.
+-- By a table, a text reads as the value whose text it is, and as `None` exactly if no value has this text.
 abbrev pub IsReadBy : {V : Type 0} → (V → Text) → Text → Option V → Type 0
 IsReadBy {V} text_of text read =
     MatchOption read ((v : V) → text_of v ≢ text) (λ v. text_of v ≡ text)
@@ -27,7 +27,7 @@ IsReadBy {V} text_of text read =
 abbrev pub ReadsBack : {V : Type 0} → (V → Text) → (Text → Option V) → Type 0
 ReadsBack {V} text_of read = (value : V) → read (text_of value) ≡ Some value
 
--- Two values have two texts.
+-- Two values have different texts.
 abbrev pub HasTextEach : {V : Type 0} → (V → Text) → Type 0
 HasTextEach {V} text_of = (a b : V) → text_of a ≡ text_of b → a ≡ b
 
@@ -41,7 +41,7 @@ record_status_text RecordStatus.Retired = codes "RETIRED"
 record_status_text RecordStatus.Duplicate = codes "DUPLICATE"
 record_status_text RecordStatus.Annulled = codes "ANNULLED"
 
--- Each status of a record that there is.
+-- All statuses of a record.
 abbrev pub record_statuses : List RecordStatus
 record_statuses =
     RecordStatus.Issued ∷ RecordStatus.Lapsed ∷ RecordStatus.PendingTransfer
@@ -52,13 +52,13 @@ record_statuses =
 abbrev pub record_status_of : Text → Option RecordStatus
 record_status_of = named record_status_text record_statuses
 
--- How it is written whether the entity itself is active.
+-- How the text says whether the entity itself is active.
 abbrev pub entity_status_text : EntityStatus → Text
 entity_status_text EntityStatus.Active = codes "ACTIVE"
 entity_status_text EntityStatus.Inactive = codes "INACTIVE"
 entity_status_text EntityStatus.Null = codes "NULL"
 
--- Each entity status that there is.
+-- All entity statuses.
 abbrev pub entity_statuses : List EntityStatus
 entity_statuses =
     EntityStatus.Active ∷ EntityStatus.Inactive ∷ EntityStatus.Null ∷ []
@@ -76,7 +76,7 @@ category_text Category.SoleProprietor = codes "SOLE_PROPRIETOR"
 category_text Category.ResidentGovernmentEntity = codes "RESIDENT_GOVERNMENT_ENTITY"
 category_text Category.InternationalOrganization = codes "INTERNATIONAL_ORGANIZATION"
 
--- Each category that there is.
+-- All categories.
 abbrev pub categories : List Category
 categories =
     Category.General ∷ Category.Branch ∷ Category.Fund ∷ Category.SoleProprietor
@@ -86,14 +86,14 @@ categories =
 abbrev pub category_of : Text → Option Category
 category_of = named category_text categories
 
--- How it is written how far the data were corroborated.
+-- How the text says how far the data were corroborated.
 abbrev pub validation_text : Validation → Text
 validation_text Validation.Pending = codes "PENDING"
 validation_text Validation.EntitySuppliedOnly = codes "ENTITY_SUPPLIED_ONLY"
 validation_text Validation.PartiallyCorroborated = codes "PARTIALLY_CORROBORATED"
 validation_text Validation.FullyCorroborated = codes "FULLY_CORROBORATED"
 
--- Each validation that there is.
+-- All validations.
 abbrev pub validations : List Validation
 validations =
     Validation.Pending ∷ Validation.EntitySuppliedOnly ∷ Validation.PartiallyCorroborated
@@ -112,7 +112,7 @@ relation_type_text RelationType.IsFundManagedBy = codes "IS_FUND-MANAGED_BY"
 relation_type_text RelationType.IsSubfundOf = codes "IS_SUBFUND_OF"
 relation_type_text RelationType.IsFeederTo = codes "IS_FEEDER_TO"
 
--- Each type of a relationship that there is.
+-- All types of a relationship.
 abbrev pub relation_types : List RelationType
 relation_types =
     RelationType.IsDirectlyConsolidatedBy ∷ RelationType.IsUltimatelyConsolidatedBy
@@ -123,12 +123,12 @@ relation_types =
 abbrev pub relation_type_of : Text → Option RelationType
 relation_type_of = named relation_type_text relation_types
 
--- How it is written whether a relationship holds.
+-- How the text says whether a relationship holds.
 abbrev pub relation_status_text : RelationStatus → Text
 relation_status_text RelationStatus.Active = codes "ACTIVE"
 relation_status_text RelationStatus.Inactive = codes "INACTIVE"
 
--- Each status of a relationship that there is.
+-- All statuses of a relationship.
 abbrev pub relation_statuses : List RelationStatus
 relation_statuses =
     RelationStatus.Active ∷ RelationStatus.Inactive ∷ []
@@ -145,7 +145,7 @@ relation_registration_text RelationRegistration.Lapsed = codes "LAPSED"
 relation_registration_text RelationRegistration.Retired = codes "RETIRED"
 relation_registration_text RelationRegistration.Annulled = codes "ANNULLED"
 
--- Each registration status of a relationship that there is.
+-- All registration statuses of a relationship.
 abbrev pub relation_registrations : List RelationRegistration
 relation_registrations =
     RelationRegistration.Issued ∷ RelationRegistration.Published ∷ RelationRegistration.Lapsed
@@ -155,14 +155,14 @@ relation_registrations =
 abbrev pub relation_registration_of : Text → Option RelationRegistration
 relation_registration_of = named relation_registration_text relation_registrations
 
--- How the category of a reporting exception is written: which parent it speaks of.
+-- How the category of a reporting exception is written: which parent it is about.
 abbrev pub exception_category_text : ExceptionCategory → Text
 exception_category_text ExceptionCategory.DirectAccountingConsolidationParent =
     codes "DIRECT_ACCOUNTING_CONSOLIDATION_PARENT"
 exception_category_text ExceptionCategory.UltimateAccountingConsolidationParent =
     codes "ULTIMATE_ACCOUNTING_CONSOLIDATION_PARENT"
 
--- Each category of an exception that there is.
+-- All categories of an exception.
 abbrev pub exception_categories : List ExceptionCategory
 exception_categories =
     ExceptionCategory.DirectAccountingConsolidationParent
@@ -172,7 +172,7 @@ exception_categories =
 abbrev pub exception_category_of : Text → Option ExceptionCategory
 exception_category_of = named exception_category_text exception_categories
 
--- How it is written why no parent is reported.
+-- How the text says why no parent is reported.
 abbrev pub reason_text : Reason → Text
 reason_text Reason.NaturalPersons = codes "NATURAL_PERSONS"
 reason_text Reason.NonConsolidating = codes "NON_CONSOLIDATING"
@@ -185,7 +185,7 @@ reason_text Reason.LegalObstacles = codes "LEGAL_OBSTACLES"
 reason_text Reason.DisclosureDetrimental = codes "DISCLOSURE_DETRIMENTAL"
 reason_text Reason.DetrimentNotExcluded = codes "DETRIMENT_NOT_EXCLUDED"
 
--- Each reason that there is.
+-- All reasons.
 abbrev pub reasons : List Reason
 reasons =
     Reason.NaturalPersons ∷ Reason.NonConsolidating ∷ Reason.NoKnownPerson ∷ Reason.NoLei
@@ -207,7 +207,7 @@ event_type_text EventType.Liquidation = codes "LIQUIDATION"
 event_type_text EventType.Dissolution = codes "DISSOLUTION"
 event_type_text EventType.Bankruptcy = codes "BANKRUPTCY"
 
--- Each type of an event that there is.
+-- All types of an event.
 abbrev pub event_types : List EventType
 event_types =
     EventType.ChangeLegalName ∷ EventType.ChangeLegalAddress ∷ EventType.ChangeHqAddress
@@ -218,13 +218,13 @@ event_types =
 abbrev pub event_type_of : Text → Option EventType
 event_type_of = named event_type_text event_types
 
--- How it is written how far an event has come.
+-- How the text says how far an event has come.
 abbrev pub event_status_text : EventStatus → Text
 event_status_text EventStatus.InProgress = codes "IN_PROGRESS"
 event_status_text EventStatus.Completed = codes "COMPLETED"
 event_status_text EventStatus.WithdrawnCancelled = codes "WITHDRAWN_CANCELLED"
 
--- Each status of an event that there is.
+-- All statuses of an event.
 abbrev pub event_statuses : List EventStatus
 event_statuses =
     EventStatus.InProgress ∷ EventStatus.Completed ∷ EventStatus.WithdrawnCancelled ∷ []

@@ -7,7 +7,7 @@ use Rattle.jiff_core.specs.declared.civil.datetime.DateTime.{DateTime}
 use Rattle.jiff_fmt.specs.Text.{zulu_text}
 use Rattle.lei_code.specs.Texts.{Text}
 
--- A moment lies from 0001-01-01T00:00:00Z to 9998-12-31T23:59:59Z.
+-- A moment is from 0001-01-01T00:00:00Z to 9998-12-31T23:59:59Z.
 abbrev pub IsMoment : ℤ → Type 0
 IsMoment seconds = IsBetween (neg_ℤ (pos 62_135_596_800)) (pos 253_370_764_799) seconds
 
@@ -20,8 +20,8 @@ is_moment seconds =
 abbrev pub whole_seconds : ℤ → ℤ
 whole_seconds nanos = int_div_euclid nanos (pos 1_000_000_000)
 
--- A text is read as `jiff` reads it, which takes in RFC 3339: as the whole seconds of that instant exactly where these
--- are a moment, and not at all where `jiff` refuses the text.
+-- A text is read as `jiff` reads it, which covers RFC 3339: as the whole seconds of that instant, exactly if they are a
+-- moment. It isn't read if `jiff` refuses the text.
 abbrev pub IsMomentRead : Text → Option ℤ → Type 0
 IsMomentRead text read = MatchResult (parse_timestamp text)
     (λ nanos. SomeIff read (IsMoment (whole_seconds nanos)) (whole_seconds nanos))
@@ -37,7 +37,7 @@ moment_of_instant (Ok nanos) =
 unfoldable pub read_moment : Text → Option ℤ
 read_moment text = moment_of_instant (parse_timestamp text)
 
--- The number of a moment's day in UTC, where 1970-01-01 is 0 and the day before it -1.
+-- The number of a moment's day in UTC: 1970-01-01 is 0, and the day before it -1.
 abbrev pub day_of : ℤ → ℤ
 day_of seconds = int_div_euclid seconds (pos 86_400)
 
@@ -53,7 +53,7 @@ ShowsMoment seconds clock = civil_nanos clock ≡ nanos_of_seconds seconds
 abbrev pub IsShown : ℤ → Type 0
 IsShown seconds = (clock : DateTime) × ShowsMoment seconds clock
 
--- The text is what `jiff` writes of the clock that shows the moment, with a `Z` for UTC.
+-- The text is what `jiff` writes for the clock that shows the moment, with a `Z` for UTC.
 pub record IsMomentText (seconds : ℤ) (text : Text) : Type 0 where
   pub clock : DateTime
   pub shows : ShowsMoment seconds clock

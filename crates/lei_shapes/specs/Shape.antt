@@ -1,4 +1,4 @@
--- The shapes of texts. A text is seen as its bytes, and by `chars` as its characters.
+-- The shapes of texts. A text is seen as its bytes, and through `chars` as its characters.
 use Rattle.std.specs.Prelude.{ℕ, Bool, true, not, ◌&&◌, ◌||◌, ◌==◌, List, [], ◌∷◌, length, take, drop, chars, codes, if◌then◌else◌, is_some, nat_eq, Option, Some, None}
 use Rattle.std.specs.Borrow.{Bor}
 use Rattle.std.specs.Char.{is_ascii_digit, is_ascii_uppercase, is_ascii_alphanumeric, is_control}
@@ -23,41 +23,41 @@ abbrev pub is_code : Lei → Bool
 is_code text = (length text == 20) && list_all is_capital_or_digit (take 18 text)
     && list_all is_ascii_digit (drop 18 text)
 
--- The byte stands before the first of these texts.
+-- The byte is put before the first of these texts.
 abbrev pub with_byte : ℕ → List Text → List Text
 with_byte byte [] = []
 with_byte byte (text ∷ texts) = (byte ∷ text) ∷ texts
 
--- The texts between the spaces of a text, in order: one more than it has spaces.
+-- The texts between the spaces of a text, in order: one more than the number of spaces.
 abbrev pub between_spaces : Text → List Text
 between_spaces [] = [] ∷ []
 between_spaces (byte ∷ text) = if byte == 32 then [] ∷ between_spaces text else with_byte byte (between_spaces text)
 
--- The same of the text that stands after a space, if there is one.
+-- The same for the text that follows a space, if there is one.
 abbrev pub texts_behind : Option (Bor Text) → List Text
 texts_behind None = []
 texts_behind (Some text) = between_spaces text.now
 
--- No text of the list stands in it twice.
+-- No text is in the list twice.
 abbrev pub are_different : List Text → Bool
 are_different [] = true
 are_different (text ∷ texts) = not (list_any (bytes_eq text) texts) && are_different texts
 
--- One to five LEIs, whatever their check digits, all different, with one space between each and the next.
+-- One to five LEIs, whatever their check digits, all different, separated by single spaces.
 abbrev pub is_codes : Text → Bool
 is_codes text = is_in_range 1 5 (length (between_spaces text)) && list_all is_code (between_spaces text)
     && are_different (between_spaces text)
 
--- A free text: 1 to 500 characters, of which none is below U+0020 or from U+007F to U+009F. These are the control
+-- A free text: 1 to 500 characters, none of them below U+0020 or from U+007F to U+009F. These are the control
 -- characters.
 abbrev pub is_free : Text → Bool
 is_free text = is_in_range 1 500 (length (chars text)) && not (list_any is_control (chars text))
 
--- The tag of a language: 1 to 35 ASCII letters, digits and `-`.
+-- A language tag: 1 to 35 ASCII letters, digits and `-`.
 abbrev pub is_lang : Text → Bool
 is_lang text = is_in_range 1 35 (length text) && list_all is_lang_byte text
 
--- The code of a country as ISO 3166-1 writes it: two capital letters.
+-- A country code as ISO 3166-1 writes it: two capital letters.
 abbrev pub is_country : Text → Bool
 is_country text = (length text == 2) && list_all is_ascii_uppercase text
 
@@ -80,7 +80,7 @@ is_jurisdiction text = is_country (take 2 text) && is_subdivision (drop 2 text)
 abbrev pub is_form : Text → Bool
 is_form text = (length text == 4) && list_all is_capital_or_digit text
 
--- The text has the shape: by the shape's own test, or where it reads as a moment or as a value of the list.
+-- The text has the shape: by the shape's own test, or if it reads as a moment or as a value of the list.
 abbrev pub fits_shape : Shape → Text → Bool
 fits_shape Shape.Code text = is_code text
 fits_shape Shape.Codes text = is_codes text

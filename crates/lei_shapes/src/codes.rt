@@ -1,4 +1,4 @@
-//! Texts of several codes, with one space between each and the next.
+//! Texts of several codes, separated by single spaces.
 ghost use Rattle.std.specs.Prelude.{◌≡◌, ◌==◌, ◌<◌, ◌∷◌, length, IfSome};
 ghost use Rattle.std.specs.List.{list_any, position};
 ghost use Rattle.std.specs.Str.{bytes_eq};
@@ -6,7 +6,7 @@ ghost use Rattle.lei_shapes.specs.Shape.{between_spaces, is_codes, texts_behind}
 
 use crate::shapes::is_code;
 
-// The most codes that a text has. This project's profile.
+// The most codes that a text may have. This project's profile.
 const MOST_CODES: usize = 5;
 
 fn first_space(text: &[u8]) -> Option<usize>
@@ -15,7 +15,7 @@ fn first_space(text: &[u8]) -> Option<usize>
     text.iter().position(|byte| *byte == b' ')
 }
 
-/// A text up to its first space, and what stands after that, if there is a space.
+/// A text up to its first space, and what follows that space, if there is one.
 pub fn cut_at_space(text: &[u8]) -> (&[u8], Option<&[u8]>)
     ensures texts { between_spaces text.now ≡ result.0.now ∷ texts_behind result.1 }
     ensures shorter { IfSome result.1 (λ rest. length rest.now < length text.now) }
@@ -26,7 +26,7 @@ pub fn cut_at_space(text: &[u8]) -> (&[u8], Option<&[u8]>)
     }
 }
 
-// Whether the text is one of those between the spaces of another.
+// Whether the text is one of those between the spaces of another text.
 fn stands_in(text: &[u8], several: Option<&[u8]>) -> bool
     ensures { result ≡ list_any (bytes_eq text.now) (texts_behind several.entry) }
 {
@@ -41,7 +41,7 @@ fn stands_in(text: &[u8], several: Option<&[u8]>) -> bool
     false
 }
 
-// Whether the text is one to five codes, all different, with one space between each and the next.
+// Whether the text is one to five codes, all different, separated by single spaces.
 pub fn are_codes(text: &[u8]) -> bool
     ensures { result ≡ is_codes text.now }
 {

@@ -26,7 +26,7 @@ pub fn value_texts_read_back()
     ensures event_status { ReadsBack event_status_text event_status_of }
 {}
 
-/// Two values of a list have two texts.
+/// Two values of a list have different texts.
 pub fn value_texts_differ()
     ensures record_status { HasTextEach record_status_text }
     ensures entity_status { HasTextEach entity_status_text }

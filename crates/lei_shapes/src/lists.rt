@@ -85,7 +85,7 @@ impl EntityStatus {
     }
 }
 
-/// What kind of entity it is.
+/// The kind of entity.
 #[derive(Clone, Copy, Debug, PartialEq, Eq, Hash)]
 pub enum Category {
     General,
@@ -289,7 +289,7 @@ impl RelationRegistration {
     }
 }
 
-/// Which parent a reporting exception speaks of.
+/// Which parent a reporting exception is about.
 #[derive(Clone, Copy, Debug, PartialEq, Eq, Hash)]
 pub enum ExceptionCategory {
     DirectAccountingConsolidationParent,

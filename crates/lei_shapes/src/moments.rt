@@ -12,8 +12,8 @@ const FIRST: i64 = -62_135_596_800;
 // 9998-12-31T23:59:59Z.
 const LAST: i64 = 253_370_764_799;
 
-/// A whole second from 0001-01-01T00:00:00Z to 9998-12-31T23:59:59Z. Clauses see the number of
-/// seconds from 1970-01-01T00:00:00Z on, which is negative before it.
+/// A whole second from 0001-01-01T00:00:00Z to 9998-12-31T23:59:59Z. Clauses see the number of seconds since
+/// 1970-01-01T00:00:00Z, which is negative before it.
 #[derive(Clone, Copy, Debug, PartialEq, Eq, PartialOrd, Ord, Hash)]
 pub struct Moment {
     seconds: i64,
@@ -33,8 +33,7 @@ impl Model for Moment {
 }
 
 impl Moment {
-    /// The moment that many seconds after 1970-01-01T00:00:00Z, or before it where they are
-    /// negative.
+    /// The moment this many seconds after 1970-01-01T00:00:00Z, or before it if the number is negative.
     pub fn of(seconds: i64) -> Option<Moment>
         ensures some { IsSome result ↔ IsMoment seconds }
         ensures value { IfSome result (λ m. m ≡ seconds) }
@@ -46,7 +45,7 @@ impl Moment {
         }
     }
 
-    /// The number of seconds from 1970-01-01T00:00:00Z on, which is negative before it.
+    /// The number of seconds since 1970-01-01T00:00:00Z, which is negative before it.
     pub fn seconds(self) -> i64
         ensures value { result ≡ self }
         ensures moment { IsMoment result }
@@ -62,8 +61,8 @@ impl Moment {
         Moment::read_form(text).map(|found| found.0)
     }
 
-    /// The moment of a text, as `read` has it, and its printed form where the text isn't in that. A text in printed
-    /// form is known by its digits, and isn't parsed.
+    /// The moment of a text, as `read` returns it, and its printed form if the text isn't in that form. A text in
+    /// printed form is recognized by its digits, and isn't parsed.
     pub fn read_form(text: &str) -> Option<(Moment, Option<[u8; 20]>)>
         ensures value { option_map (λ found. found.0) result ≡ read_moment text.now }
         ensures form { IfSome result (λ found. unwrap_or found.1 text.now ≡ moment_text found.0) }
@@ -89,7 +88,7 @@ impl Moment {
         written(year, month, day, self.second_of_day())
     }
 
-    /// The number of its day in UTC, where 1970-01-01 is 0.
+    /// The number of its day in UTC; 1970-01-01 is 0.
     pub fn day(self) -> i32
         ensures value { result ≡ day_of self }
         ensures civil { IsDayOf self result }
@@ -115,8 +114,8 @@ impl Moment {
     }
 }
 
-/// The number of the day in UTC of a moment that is told by its seconds from 1970-01-01T00:00:00Z on, where that day is
-/// 0.
+/// The number of the day in UTC of a moment that is given by its seconds since 1970-01-01T00:00:00Z. That day has the
+/// number 0.
 pub fn day_number(seconds: i64) -> i32
     requires { IsMoment seconds }
     ensures { result ≡ day_of seconds }
@@ -133,7 +132,8 @@ fn parsed(text: &str) -> Option<Moment>
     Moment::of(instant.as_nanosecond().div_euclid(1_000_000_000) as i64)
 }
 
-// The moment whose printed form the text is. What its digits stand for is only guessed: the form of the guess tells.
+// The moment whose printed form the text is. The meaning of its digits is only guessed: the printed form of the guess
+// decides.
 fn of_form(text: &str) -> Option<Moment>
     ensures moment { IfSome result (λ moment. IsMoment moment) }
     ensures form { IfSome result (λ moment. text.now ≡ moment_text moment) }
@@ -149,7 +149,7 @@ fn of_form(text: &str) -> Option<Moment>
     }
 }
 
-// The seconds that a text in printed form stands for.
+// The seconds that a text in printed form represents.
 fn guess(text: &[u8; 20]) -> i64 {
     let year = 100 * number(text[0], text[1]) + number(text[2], text[3]);
     let month = number(text[5], text[6]);
@@ -176,7 +176,7 @@ fn number(tens: u8, ones: u8) -> u32
     10 * u32::from(tens % 16) + u32::from(ones % 16)
 }
 
-// The year, the month and the day of the date that is so many days after 1 March of the year 0.
+// The year, the month and the day of the date this many days after 1 March of the year 0.
 fn date_of(days: u32) -> (u32, u32, u32)
     requires { days < 3_652_000 }
     ensures year { result.0 ≡ year_at days }
@@ -196,7 +196,7 @@ fn date_of(days: u32) -> (u32, u32, u32)
     }
 }
 
-// A date and a second of it as they are written, with `Z` for UTC.
+// A date and a second of that day in written form, with `Z` for UTC.
 fn written(year: u32, month: u32, day: u32, second: u32) -> [u8; 20]
     requires year { year < 10_000 }
     requires month { month < 100 }

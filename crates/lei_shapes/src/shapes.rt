@@ -11,20 +11,18 @@ use crate::{
     RecordStatus, RelationRegistration, RelationStatus, RelationType, Validation,
 };
 
-/// The shape of a field's text: one for each way in which texts are built, and one for each list of
-/// values.
+/// The shape of a field's text: one for each way that texts are built, and one for each list of values.
 #[derive(Clone, Copy, Debug, PartialEq, Eq, Hash)]
 pub enum Shape {
     /// A Legal Entity Identifier, whatever its check digits.
     Code,
-    /// One to five Legal Entity Identifiers, whatever their check digits, all different, with one space between each
-    /// and the next.
+    /// One to five Legal Entity Identifiers, whatever their check digits, all different, separated by single spaces.
     Codes,
     /// A text without control characters.
     Free,
-    /// The tag of a language.
+    /// A language tag.
     Lang,
-    /// The code of a country.
+    /// A country code.
     Country,
     /// The code of a registration authority.
     Authority,
@@ -32,7 +30,7 @@ pub enum Shape {
     Jurisdiction,
     /// The code of a legal form.
     Form,
-    /// A text that [`Moment::read`] takes.
+    /// A text that [`Moment::read`] accepts.
     Moment,
     RecordStatus,
     EntityStatus,
@@ -47,8 +45,8 @@ pub enum Shape {
     EventStatus,
 }
 
-/// Whether the text has the shape. Nothing is said of what the text means, as of check digits or of
-/// codes in use.
+/// Whether the text has the shape. This says nothing of the text's meaning, such as its check digits or whether a code
+/// is in use.
 pub fn fits(shape: Shape, text: &str) -> bool
     ensures { result ≡ fits_shape shape text.now }
 {
@@ -76,7 +74,7 @@ pub fn fits(shape: Shape, text: &str) -> bool
     }
 }
 
-/// Whether the text is written as a Legal Entity Identifier, whatever its check digits.
+/// Whether the text has the form of a Legal Entity Identifier, whatever its check digits.
 pub fn is_code(text: &[u8]) -> bool
     ensures { result ≡ code text.now }
 {
@@ -93,7 +91,7 @@ fn is_free(text: &str) -> bool
     (1..=500).contains(&char_count(text)) && !has_control(text)
 }
 
-// The same of bytes, as of a text whose characters they are.
+// The same for bytes, for a text whose characters they are.
 fn are_free(text: &[u8]) -> bool
     ensures { result ≡ (is_in_range 1 500 (length text.now) && not (list_any is_control text.now)) }
 {

@@ -1,4 +1,4 @@
--- A keeper over a store of SQLite may go to another thread if the store may.
+-- A keeper over an SQLite store may move to another thread if the store may.
 use denote.RattleType.{RattleType}
 use denote.Param.Send.{IsSend, sendable}
 use Rattle.std.proofs.Crossing.{crosses}

@@ -26,7 +26,8 @@ fn main(rt: HostRuntime) -> io::Result<ExitCode> {
     Ok(ExitCode::from(status))
 }
 
-// Does what the words ask for, and says the status. If that isn't `Ok`, a person is told what happened and what to do.
+// Does what the words ask for, and returns the status. If it isn't `Ok`, what happened and what to do is reported to a
+// person.
 fn run_words<R: Threads + Wait + Sync>(rt: &R, host: &HostRuntime, words: &[String]) -> u8 {
     let status = match wanted(host.alloc(), words) {
         Ok(wanted) => run_wanted(rt, host, words, &wanted),
@@ -37,7 +38,7 @@ fn run_words<R: Threads + Wait + Sync>(rt: &R, host: &HostRuntime, words: &[Stri
     status
 }
 
-// The runtime is handed on as one that may start threads and wait, and as the host.
+// The runtime is passed twice: as one that may start threads and wait, and as the host.
 fn run_wanted<R: Threads + Wait + Sync>(
     rt: &R,
     host: &HostRuntime,

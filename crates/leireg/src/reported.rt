@@ -16,8 +16,8 @@ impl<S: Alter> HasCause for SqliteKeeper<S> {
     }
 }
 
-/// A keeper, of which the first of several failures in a row is reported on the standard error, with its cause. What it
-/// keeps and tells is the keeper's own.
+/// A keeper for which the first of several failures in a row is reported on the standard error, with its cause. What it
+/// keeps and tells is the same as for the inner keeper.
 #[derive(Drop)]
 pub struct Reported<'a, K: Keeper> {
     pub keeper: K,
@@ -27,7 +27,7 @@ pub struct Reported<'a, K: Keeper> {
 }
 
 impl<'a, K: Keeper + HasCause> Reported<'a, K> {
-    /// A keeper of which no call has failed yet.
+    /// A keeper without any failed call yet.
     pub fn new(host: &'a HostRuntime, keeper: K) -> Self {
         Reported {
             keeper,

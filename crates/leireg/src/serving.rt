@@ -1,4 +1,4 @@
-//! The register served over HTTP, by connections of the machine.
+//! The register served over HTTP, through connections of the machine.
 ghost use Rattle.std.specs.Prelude.{◌≡◌, false, length, All, IfOk};
 ghost use Rattle.program_words.specs.Words.{Meant};
 ghost use Rattle.leireg_serve.specs.Words.{Mean};
@@ -20,8 +20,8 @@ use std::thread::Threads;
 // A desk over a listener of the machine.
 type TcpDesk<'a> = Desk<TcpDoor<'a, HostRuntime, Console<'a>>, SystemClock<'a, HostRuntime>>;
 
-/// Serves the register as the words ask for it, and says the status. The port is asked for first: if it can't be had,
-/// the store isn't opened, and none is made.
+/// Serves the register as the words ask for it, and returns the status. The port is requested first: if it can't be
+/// had, the store isn't opened, and none is made.
 pub fn serve_words<R: Threads + Wait + Sync>(rt: &R, host: &HostRuntime, words: &[String]) -> u8 {
     let wanted = match server_of(host.alloc(), words) {
         Ok(wanted) => wanted,
@@ -42,7 +42,7 @@ pub fn serve_words<R: Threads + Wait + Sync>(rt: &R, host: &HostRuntime, words: 
     serve_desks(rt, host, words, keeper_at(host, wanted.store), desks)
 }
 
-// Serves the register that a keeper has at these desks. The store may be any one that may go to another thread.
+// Serves the register that a keeper has at these desks. The store may be any store that may move to another thread.
 fn serve_desks<R: Threads + Wait + Sync, S: Alter + Drop + Send>(
     rt: &R,
     host: &HostRuntime,
@@ -58,7 +58,8 @@ fn serve_desks<R: Threads + Wait + Sync, S: Alter + Drop + Send>(
     status
 }
 
-// A desk for each worker, with a door of its own over the one listener. The first tells the operator where it listens.
+// A desk for each worker, each with its own door over the shared listener. The first informs the operator of the
+// address.
 fn desks_of<'a>(
     host: &'a HostRuntime,
     listener: &'a TcpListener,
@@ -83,11 +84,11 @@ fn desks_of<'a>(
     Ok(desks)
 }
 
-// The standard error, where the operator reads what becomes of the listener.
+// The standard error, where the operator reads what happens to the listener.
 #[derive(Drop)]
 struct Console<'a> {
     host: &'a HostRuntime,
-    // Whether the operator hears of the address from here.
+    // Whether this console reports the address to the operator.
     announces: bool,
 }
 

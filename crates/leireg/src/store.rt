@@ -7,7 +7,7 @@ use leireg_devices::Watched;
 use sqlite::{Alter, File, FileStore};
 use std::mem::forget;
 
-/// A keeper in memory, or one over a store of SQLite, of whose opening and failures the operator hears.
+/// A keeper in memory, or one over an SQLite store, whose opening and failures are reported to the operator.
 pub type StoreKeeper<'a, S> = OneOf<SureKeeper, Watched<'a, Reported<'a, SqliteKeeper<S>>>>;
 
 /// The keeper over the file at this path, or one in memory if there is no path.
@@ -24,7 +24,8 @@ pub fn keeper_at<'a>(
     }
 }
 
-/// Lets the file of a keeper go. One in memory isn't taken apart: the program ends, and the system has its memory back.
+/// Closes the file of a keeper. A keeper in memory isn't dropped: the program ends, and the system gets its memory
+/// back.
 pub fn close<S: Alter + Drop>(keeper: StoreKeeper<'_, S>) {
     match keeper {
         OneOf::First(keeper) => forget(keeper),

@@ -1,4 +1,4 @@
--- One of two keepers: what it tells is what that one tells.
+-- One of two keepers: it tells what that one tells.
 use Rattle.std.specs.Prelude.{Option}
 use Rattle.lei_outside.specs.Keeping.{KeptTables}
 use Rattle.leireg_commands.specs.declared.one_of.OneOf.{OneOf}

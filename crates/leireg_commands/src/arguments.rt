@@ -4,7 +4,7 @@ ghost use Rattle.std.specs.Prelude.{◌≡◌, ◌⊎◌, IfErr};
 use register_words::ExitStatus;
 use std::{env, io};
 
-/// The words after the program's name. Otherwise the status to end with: a word that is no text is no command's.
+/// The words after the program's name, or else the exit status: a word that isn't text belongs to no command.
 pub fn words(rt: &HostRuntime) -> Result<Vec<String>, u8>
     ensures { IfErr result (λ status. (status ≡ 1) ⊎ (status ≡ 6)) }
 {

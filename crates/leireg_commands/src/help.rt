@@ -1,4 +1,4 @@
-//! What a person is told of how the program ended.
+//! The report to a person on how the program ended.
 use register_words::ExitStatus;
 
 /// What happened, in one line.
@@ -20,7 +20,7 @@ pub fn cause(status: ExitStatus) -> &'static str {
     }
 }
 
-/// What to do about it, in one line. How a command is called stands in its own help.
+/// What to do about it, in one line. How a command is called is explained in its own help.
 pub fn advice(status: ExitStatus) -> &'static str {
     match status {
         ExitStatus::Ok | ExitStatus::Usage => "run it again",

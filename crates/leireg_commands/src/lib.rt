@@ -1,4 +1,4 @@
-//! The commands over the devices of the machine, and what a person is told of how they ended.
+//! The commands over the devices of the machine, and the report to a person on how they ended.
 #![tactic(auto)]
 
 mod arguments;

@@ -4,7 +4,7 @@ ghost use Rattle.leireg_commands.specs.OneOf.{either, left_of_either};
 use lei_outside::{Batch, KeepFault, Keeper, KeptCell, KeptEntry, List};
 use std::io::{self, Read};
 
-/// The first or the second. What it keeps, reads and tells is that one's own.
+/// The first or the second. What it keeps, reads and tells is the same as for that one.
 #[derive(Drop)]
 pub enum OneOf<A, B> {
     First(A),

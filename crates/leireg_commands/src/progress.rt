@@ -1,18 +1,18 @@
-//! How far the making of a register is, as a person is told.
+//! The progress of generating a register, as reported to a person.
 use leireg_run::Progress;
 use std::io::{self, IsTerminal};
 
-/// Tells on the standard error how many requests were answered, in at most ten lines, and nothing where it is no
-/// terminal.
+/// Reports on the standard error how many requests were answered, in at most ten lines. If the standard error isn't a
+/// terminal, it reports nothing.
 #[derive(Drop)]
 pub struct Counted<'a> {
     rt: &'a HostRuntime,
-    // The next tenth of them that is told.
+    // The next tenth of the requests to report.
     tenth: u32,
 }
 
 impl<'a> Counted<'a> {
-    /// Nothing was told yet.
+    /// Nothing has been reported yet.
     pub fn new(rt: &'a HostRuntime) -> Self {
         Counted { rt, tenth: 1 }
     }

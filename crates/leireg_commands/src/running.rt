@@ -13,8 +13,8 @@ use std::fs::File;
 use std::io::Stdin;
 use std::thread::Threads;
 
-/// Runs a command over a keeper, by the clock of the machine. Says its status, and gives the keeper back. The runtime
-/// is handed on as one that may start threads, and as the host.
+/// Runs a command over a keeper, with the clock of the machine. Returns its status and the keeper. The runtime is
+/// passed twice: as one that may start threads, and as the host.
 pub fn run_command<R: Threads + Sync, K: Keeper>(
     rt: &R,
     host: &HostRuntime,
@@ -52,7 +52,7 @@ fn first_input(host: &HostRuntime, wanted: &WantedRun<'_>) -> Option<OneOf<Stdin
     }
 }
 
-// The file at a path, or none where it can't be opened, which fails at each read.
+// The file at a path, or `None` if it can't be opened, so that each read fails.
 fn file_at(host: &HostRuntime, path: Option<&str>) -> Option<OneOf<Stdin, File>> {
     match path {
         Some(path) => match File::open(host, path) {

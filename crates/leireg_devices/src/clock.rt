@@ -9,8 +9,8 @@ use std::time::{SystemTime, UNIX_EPOCH};
 // 9998-12-31T23:59:59Z.
 const LAST: u64 = 253_370_764_799;
 
-/// The clock of the machine, in whole seconds. Where it can't be read, or is set before 1970 or behind the range of
-/// clocks, it gives its last moment again, and 0 where it gave none yet. It tells nothing of what it gave.
+/// The clock of the machine, in whole seconds. If it can't be read, or is set before 1970 or after the range of clocks,
+/// it gives its last moment again, or 0 if it has given none yet. It tells nothing of what it gave.
 #[derive(Drop)]
 pub struct SystemClock<'a, R> {
     rt: &'a R,
@@ -37,7 +37,7 @@ impl<'a, R: MachineClock> Clock for SystemClock<'a, R> {
     }
 }
 
-// What the machine's clock says, within the range of clocks.
+// The time of the machine's clock, if it is within the range of clocks.
 fn machine_moment<R: MachineClock>(rt: &R) -> Option<i64>
     ensures { IfSome result IsClockMoment }
 {

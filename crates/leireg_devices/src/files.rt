@@ -8,8 +8,8 @@ use lei_outside::{Failed, Source};
 use std::io::Read;
 use std::marker::Model;
 
-/// A source over a file, each of whose reads fails where the file couldn't be opened. It tells nothing of its bytes.
-/// Contracts see the number of its reads that failed, which stands still at its last value.
+/// A source over a file. If the file couldn't be opened, each read fails. It tells nothing of its bytes. Contracts see
+/// the number of its reads that failed, which stops at its greatest value.
 #[derive(Drop)]
 pub struct FileSource<F> {
     file: Option<F>,
@@ -25,7 +25,7 @@ impl<F> Model for FileSource<F> {
 }
 
 impl<F> FileSource<F> {
-    /// A source over this file, or over none. No read of it has failed.
+    /// A source over this file, or over none. None of its reads has failed.
     pub fn new(file: Option<F>) -> Self
         ensures { result ≡ 0 }
     {

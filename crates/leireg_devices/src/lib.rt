@@ -1,5 +1,5 @@
-//! The standard streams, files and the clock of the machine, as the devices of a run, and a keeper that tells how far
-//! its opening is.
+//! The standard streams, files and the clock of the machine, as the devices of a run, and a keeper that reports the
+//! progress of its opening.
 #![tactic(auto)]
 
 mod clock;

@@ -8,8 +8,8 @@ use lei_outside::{Failed, Sink, SinkFault, Source};
 use std::io::{ErrorKind, Read, Write};
 use std::marker::Model;
 
-/// A source over a reader. It tells nothing of its bytes by itself. Contracts see it as the reader and the number of
-/// its reads that failed, which stands still at its last value.
+/// A source over a reader. It tells nothing of its own bytes. Contracts see it as the reader and the number of its
+/// reads that failed, which stops at its greatest value.
 #[derive(Drop)]
 pub struct StdSource<R> {
     reader: R,
@@ -25,7 +25,7 @@ impl<R> Model for StdSource<R> {
 }
 
 impl<R> StdSource<R> {
-    /// A source over this reader, of which no read has failed.
+    /// A source over this reader. None of its reads has failed.
     pub fn new(reader: R) -> Self
         ensures { result ≡ (reader, 0) }
     {
@@ -58,8 +58,8 @@ impl<R: Read> Source for StdSource<R> {
     }
 }
 
-/// A sink over a writer. It tells nothing of its bytes by itself. Contracts see it as the writer and the number of its
-/// writes that failed, which stands still at its last value. A write that takes nothing is one that failed.
+/// A sink over a writer. It tells nothing of its own bytes. Contracts see it as the writer and the number of its writes
+/// that failed, which stops at its greatest value. A write that takes nothing counts as failed.
 #[derive(Drop)]
 pub struct StdSink<W> {
     writer: W,
@@ -75,7 +75,7 @@ impl<W> Model for StdSink<W> {
 }
 
 impl<W> StdSink<W> {
-    /// A sink over this writer, of which no write has failed.
+    /// A sink over this writer. None of its writes has failed.
     pub fn new(writer: W) -> Self
         ensures { result ≡ (writer, 0) }
     {
@@ -108,7 +108,7 @@ impl<W: Write> Sink for StdSink<W> {
     }
 }
 
-/// One read, begun again where a signal stopped it before it took a byte.
+/// One read, repeated if a signal stopped it before it took a byte.
 pub fn read_once<R: Read>(reader: &mut R, buffer: &mut [u8]) -> Result<usize, Failed>
     ensures within { IfOk result (λ count. count ≤ length buffer.new) }
     ensures reader { ReadConsumes (R.remaining reader.old) (R.remaining reader.new) result buffer.new }
@@ -126,7 +126,7 @@ pub fn read_once<R: Read>(reader: &mut R, buffer: &mut [u8]) -> Result<usize, Fa
     Err(Failed)
 }
 
-// One write, begun again where a signal stopped it before it took a byte. It fails too where it takes nothing.
+// One write, repeated if a signal stopped it before it took a byte. A write that takes nothing fails as well.
 fn write_once<W: Write>(writer: &mut W, piece: &[u8]) -> Result<usize, Failed>
     ensures within { IfOk result (λ count. (0 < count) × (count ≤ length piece.now)) }
     ensures writer { WriteAppends (W.contents writer.old) (W.contents writer.new) result piece.now }

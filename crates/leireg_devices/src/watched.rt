@@ -1,27 +1,27 @@
-//! A keeper that tells a person how far the opening of its store is.
+//! A keeper that reports to a person how far the opening of its store is.
 ghost use Rattle.std.specs.Prelude.{◌≡◌, ◌≤◌, IfOk, IfSome, IsErrOf, OnOk};
 ghost use Rattle.lei_outside.specs.Count.{Rose};
 ghost use Rattle.lei_outside.specs.Keeping.{AreKept, CommitLeaves, Commits, IsBatch, IsNextOf, LeavesNoMore, Stays, cells_between, entries_between, last_number};
 
 use lei_outside::{Batch, KeepFault, Keeper, KeptCell, KeptEntry, List};
 
-// A store of fewer entries is opened at once, and nothing is told of it.
+// A store with fewer entries opens at once, and nothing is reported of it.
 const MANY: u64 = 10_000;
 
-/// A keeper, of whose store it is told on the standard error how many of its entries were read, in at most ten lines.
-/// What it keeps and tells is the keeper's own.
+/// A keeper that reports on the standard error how many entries of its store were read, in at most ten lines. What it
+/// keeps and tells is the same as for the inner keeper.
 #[derive(Drop)]
 pub struct Watched<'a, K: Keeper> {
     pub keeper: K,
     rt: &'a HostRuntime,
     // The number of the last entry.
     last: u64,
-    // The next tenth of them that is told.
+    // The next tenth of the entries to report.
     tenth: u64,
 }
 
 impl<'a, K: Keeper> Watched<'a, K> {
-    /// A keeper whose reads are told.
+    /// A keeper whose reads are reported.
     pub fn new(rt: &'a HostRuntime, keeper: K) -> Self
         ensures { result.keeper ≡ keeper }
     {
@@ -33,7 +33,7 @@ impl<'a, K: Keeper> Watched<'a, K> {
         }
     }
 
-    // Tells how many entries were read, where these are another tenth of all.
+    // Reports how many entries were read, if another tenth of all is complete.
     fn tell(&mut self, read: u64)
         ensures { self.new.keeper ≡ self.old.keeper }
     {

@@ -1,4 +1,4 @@
--- Workers that are made and taken apart, one after the other.
+-- Workers that are made and taken apart, one after another.
 use Rattle.std.proofs.Common.{◌≡◌, ◌+◌, ◌≤◌, List, [], ◌∷◌, ◌++◌, length, map, All, Option, None, Some, IsSome, refl, sym, ap, ◌∙◌, subst, append_assoc, arith}
 use Rattle.std.proofs.lemmas.List.{append-nil, length-append, length-map, map-append}
 use Rattle.std.proofs.lemmas.List.Elements.{All-head, All-nil, All-push, All-tail}
@@ -14,7 +14,7 @@ no_items : {A : Type 0} (xs : List A) → length xs ≡ 0 → xs ≡ []
 no_items [] none = refl
 no_items (x ∷ xs) none = absurd (omega (arith, none))
 
--- ---- made of desks and passes
+-- ---- made from desks and passes
 
 -- these workers were made, and these desks and passes are left
 pub record Made {D C : Type 0} (router : Routes) (desks : List (Desk D C)) (passes : List HallPass) (workers : List (Worker D C)) (rest : List (Desk D C)) (others : List HallPass) : Type 0 where

@@ -1,4 +1,4 @@
--- The lines of a door, served one after the other.
+-- The lines of a door, served one after another.
 use Rattle.std.proofs.Common.{◌≡◌, ℕ, ℤ, List, [], ◌∷◌, ◌++◌, map, false, Option, None, Some, refl, sym, ap, ◌∙◌, subst, append_assoc}
 use Rattle.std.proofs.lemmas.List.{append-nil, map-append}
 use Rattle.lei_outside.specs.Count.{Rose}
@@ -111,7 +111,7 @@ desk_next {L} tells begin mid now first back mid_first mid_back now_first now_ba
       same = same_join begin.pass mid.pass now.pass desk.same serves.serves.same;
     }
 
--- a line came, was served and was given back
+-- a line came, was served and was returned
 pub desk_goes : {L : Type 0} (tells : LineTells L) (begin mid now : Stage)
     (first back mid_first mid_back next_first next_back now_first now_back : Option (List L)) (came left : L) (ended : Ended)
     → Serving tells begin first back mid mid_first mid_back → Comes mid_first (Came.Line came) next_first

@@ -4,7 +4,7 @@ use Rattle.lei_code.specs.Texts.{Text}
 use Rattle.program_words.specs.Words.{Meant}
 use Rattle.leireg_serve.specs.Words.{served_by}
 
--- words mean one number of workers
+-- words mean exactly one number of workers
 pub same_workers : (words : List Text) (found what : Meant) → served_by words ≡ Some found → served_by words ≡ Some what
     → found.workers ≡ what.workers
 same_workers words found what is means = ap workers_in (sym is ∙ means)

@@ -22,13 +22,13 @@ use Rattle.leireg_serve.specs.declared.desk.DeskEnd.{DeskEnd}
 use Rattle.leireg_serve.specs.declared.workers.Worker.{Worker}
 use Rattle.leireg_serve.proofs.Served.{all_served}
 
--- the status is that of the end
+-- the status follows from the end
 ends_at : {L : Type 0} (may : Option KeptTables → Type 0) (tells : LineTells L) (before after : Outside L) (status : ℕ) (end : DeskEnd)
     → OpensAndServes may tells before after end → status ≡ desk_status end → EndsServing may tells before after status
 ends_at may tells before after status DeskEnd.Closed opens is = inl (is, opens)
 ends_at may tells before after status DeskEnd.Failed opens is = inr (inl (is, opens))
 
--- what is told stays as it is
+-- what is told stays the same
 pub stays_same : (told : Option KeptTables) → Stays told told
 stays_same None = tt {0}
 stays_same (Some tables) = refl
@@ -60,7 +60,7 @@ refused_meant (fault.KeeperFault back) is = omega (arith, is)
 refused_meant (fault.StoreDamaged back damage) is = omega (arith, is)
 refused_meant (fault.NoMemory back) is = omega (arith, is)
 
--- the store was opened, and the office served and closed, or there was no memory to serve it
+-- the store was opened, and the office served and closed, or memory to serve it ran out
 pub ends_opened : {K L : Type 0} (tables : K → Option KeptTables) (faults : K → ℕ) (tells : LineTells L) (keeper back : K) (office : KeptOffice K)
     (desks desks_now : List (DeskState L)) (status : ℕ) → office.office.limits ≡ standard → Legal office.office → Keeps (tables office.keeper) office.office
     → Stays (tables keeper) (tables office.keeper) → faults office.keeper ≡ faults keeper
@@ -86,7 +86,7 @@ ends_opened {K} tables faults tells keeper back office desks desks_now status li
       keeps = kept;
     }) is
 
--- a hall was opened over an office, all workers that were made of the desks and its passes served, and the hall was closed
+-- a hall was opened over an office, all workers made from the desks and its passes served, and the hall was closed
 pub closes_office : {K D C L : Type 0} (tables : K → Option KeptTables) (faults : K → ℕ) (tells : LineTells L) (state : Desk D C → DeskState L)
     (hall : HallView K) (office closed : KeptOffice K) (desks desks_back : List (Desk D C)) (olds news : List (Worker D C)) (passes back : List HallPass)
     (keeper : K) (end : DeskEnd) (status : ℕ) → hall.office ≡ office

@@ -1,4 +1,4 @@
--- The workers of a server, and what comes of them.
+-- The workers of a server, and what they leave.
 use Rattle.std.proofs.Common.{◌≡◌, ℕ, ◌+◌, List, [], ◌∷◌, length, map, All, Bool, false, Option, None, Some, IsSome, IsSomeAnd, refl, sym, ap, ◌∙◌, subst, arith}
 use Rattle.std.specs.List.{AllZip}
 use Rattle.std.proofs.lemmas.List.Elements.{All-cons, All-head, All-nil, All-tail}
@@ -31,7 +31,7 @@ tail_same {A} x y xs ys same = ap rest same
 
 -- ---- before
 
--- workers that were made of these desks and passes are ready
+-- workers that were made from these desks and passes are ready
 pub ready_all : {D C : Type 0} (out : D → Bool) (table : TableId) (router : Routes) (workers : List (Worker D C)) (passes : List HallPass)
     → router ≡ routes → All (λ worker. worker.router.now ≡ router) workers
     → All (λ desk. out desk.door ≡ false) (map (λ worker. worker.desk) workers) → map (λ worker. worker.pass) workers ≡ map Some passes
@@ -73,7 +73,7 @@ passes_back {D} {C} tells state (o ∷ olds) (w ∷ news) worked =
     has (Some p) None R is = absurd is
     has (Some p) (Some q) R is = refl
 
--- what all workers did, when their desks and passes were taken apart again
+-- what all workers did, after their desks and passes were taken apart again
 pub record AllServed {D C L : Type 0} (tells : LineTells L) (state : Desk D C → DeskState L) (new : ℕ → HallPass) (k : ℕ) (desks : List (Desk D C)) (passes : List HallPass)
     (news : List (Worker D C)) (back : List HallPass) : Type 0 where
   pub served : List (ServedDesk L)
@@ -133,7 +133,7 @@ module _ {D C L : Type 0} (tells : LineTells L) (state : Desk D C → DeskState 
         same = (serves.same, others.same);
       }
 
--- ---- the passes that come back
+-- ---- the passes that are returned
 
 pub same_of : (table : TableId) (passes back : List HallPass) → AllZip IsSamePass passes back → AreOf table passes → AreOf table back
 same_of table passes back same of =
@@ -145,7 +145,7 @@ same_have n passes back same all k less =
     let found = zip_get IsSamePass passes back at.0 at.1 same at.2 in
     (at.0, found.0, found.1, found.2.1 ∙ at.3)
 
--- the passes that come back are those of the hall that was opened
+-- the passes that are returned are those of the hall that was opened
 pub close_passes : {D C L : Type 0} (tells : LineTells L) (state : Desk D C → DeskState L) (table : TableId) (seen : List KeptEntry) (stays : List ℕ) (n : ℕ)
     (olds news : List (Worker D C)) (passes back : List HallPass) → AreNew table seen stays 0 passes
     → map (λ worker. worker.pass) olds ≡ map Some passes → AllZip (Works tells state) olds news → map Some back ≡ map (λ worker. worker.pass) news

@@ -18,7 +18,7 @@ pub record LineTells (L : Type 0) : Type 0 where
   pub read_faults : L → ℕ
   pub write_faults : L → ℕ
 
--- What lines tell by these four.
+-- What lines tell, by these four.
 abbrev pub line_tells : {L : Type 0} → (L → Option (List ℕ)) → (L → Option (List ℕ)) → (L → ℕ)
     → (L → ℕ) → LineTells L
 line_tells left written read_faults write_faults = record {
@@ -37,7 +37,7 @@ pub record DeskState (L : Type 0) : Type 0 where
   pub faults : ℕ
   pub given : Option (List ℤ)
 
--- What a desk tells, whose door and clock tell these.
+-- What a desk tells if its door and clock tell these.
 abbrev pub desk_state : {D C L : Type 0} → (D → Option (List L)) → (D → Option (List L)) → (D → Bool)
     → (D → ℕ) → (C → Option (List ℤ)) → Desk D C → DeskState L
 desk_state to_come came_back out faults given desk = record {
@@ -50,7 +50,7 @@ desk_state to_come came_back out faults given desk = record {
 
 -- ---- one line
 
--- How far a desk has come: its pass, and the moments that its clock has given.
+-- The progress of a desk: its pass, and the moments that its clock has given.
 pub record Stage : Type 0 where
   pub pass : HallPass
   pub given : Option (List ℤ)
@@ -59,8 +59,8 @@ pub record Stage : Type 0 where
 abbrev pub stage : HallPass → Option (List ℤ) → Stage
 stage pass given = record { pass = pass; given = given }
 
--- A line was served, from one stage to the other: what it was when it came and when it was given back, and how that
--- ended. A read failed exactly if the end says so, and a write likewise.
+-- A line was served, from one stage to the other. It is given as it came and as it was returned, with how serving
+-- ended. A read failed exactly if the end says so, and so did a write.
 pub record ServesLine {L : Type 0} (tells : LineTells L) (before : Stage) (came back : L)
     (ended : Ended) (after : Stage)
     : Type 0 where
@@ -71,39 +71,39 @@ pub record ServesLine {L : Type 0} (tells : LineTells L) (before : Stage) (came 
 
 -- ---- the lines of a door
 
--- A line as it came and as it was given back, and how its serving ended.
+-- A line as it came and as it was returned, and how serving it ended.
 pub record ServedLine (L : Type 0) : Type 0 where
   pub came : L
   pub back : L
   pub ended : Ended
 
--- These lines were served one after the other, from one stage to the other.
+-- These lines were served one after another, from one stage to the other.
 abbrev pub ServesEach : {L : Type 0} → LineTells L → Stage → List (ServedLine L) → Stage → Type 0
 ServesEach tells before [] after = after ≡ before
 ServesEach tells before (line ∷ lines) after = (between : Stage)
     × ServesLine tells before line.came line.back line.ended between × ServesEach tells between lines after
 
--- The lines to come have lost these at their front, where they are told. What is untold stays untold.
+-- These were removed from the front of the lines to come, if those are told. What is untold stays untold.
 abbrev pub GivesLines : {L : Type 0} → Option (List L) → Option (List L) → List L → Type 0
 GivesLines None None lines = Unit {0}
 GivesLines None (Some new) lines = ⊥
 GivesLines (Some old) None lines = ⊥
 GivesLines (Some old) (Some new) lines = old ≡ lines ++ new
 
--- The lines that came back have these more at their end, where they are told. What is untold stays untold.
+-- These were added at the end of the lines that came back, if those are told. What is untold stays untold.
 abbrev pub TakesLinesBack : {L : Type 0} → Option (List L) → Option (List L) → List L → Type 0
 TakesLinesBack None None lines = Unit {0}
 TakesLinesBack None (Some new) lines = ⊥
 TakesLinesBack (Some old) None lines = ⊥
 TakesLinesBack (Some old) (Some new) lines = new ≡ old ++ lines
 
--- Where the lines to come are told, there is none.
+-- If the lines to come are told, there is none.
 abbrev pub IsNoneToCome : {L : Type 0} → Option (List L) → Type 0
 IsNoneToCome told = IfSome told (λ lines. lines ≡ [])
 
--- The lines that a door gave were served one after the other, by the turns of one pass, and each came back to the door,
--- in order; none is out. One turn for each member that the pass was told leads, in order, from its state before to the
--- one after.
+-- The lines that a door gave were served one after another, by the turns of one pass, and each came back to the door,
+-- in order; none is out. One turn for each member that the pass was told leads, in order, from its state before to its
+-- state after.
 pub record ServesDesk {L : Type 0} (tells : LineTells L) (before : HallPass) (desk : DeskState L)
     (after : HallPass) (desk_now : DeskState L) (end : DeskEnd) : Type 0 where
   pub lines : List (ServedLine L)
@@ -113,21 +113,21 @@ pub record ServesDesk {L : Type 0} (tells : LineTells L) (before : HallPass) (de
   pub turns : TakesTurns before after
   pub same : IsSamePass before after
   pub out : desk_now.out ≡ false
-  -- it ends where the door is closed, and no line is to come; or where the door failed
+  -- serving ends if the door is closed, and no line is to come; or if the door failed
   pub closed : end ≡ DeskEnd.Closed → IsNoneToCome desk_now.to_come × (desk_now.faults ≡ desk.faults)
   pub failed : end ≡ DeskEnd.Failed → Rose desk.faults desk_now.faults
 
 -- ---- many desks
 
--- A desk with what it tells when its lines begin to be served and afterwards, how that ended, and its pass afterwards.
+-- A desk with what it tells before and after its lines are served, how that ended, and its pass afterwards.
 pub record ServedDesk (L : Type 0) : Type 0 where
   pub before : DeskState L
   pub pass : HallPass
   pub after : DeskState L
   pub end : DeskEnd
 
--- The lines of each desk were served by the pass of its number, which was new: it had seen this history, and these are
--- its numbers that stay. The passes have the numbers from k on.
+-- The lines of each desk were served by the pass with its number, which was new: it had seen this history, and these
+-- are its numbers that stay. The passes have consecutive numbers starting at k.
 abbrev pub ServesDesks : {L : Type 0} → LineTells L → (ℕ → HallPass) → ℕ → List (ServedDesk L) → Type 0
 ServesDesks tells new k [] = Unit {0}
 ServesDesks tells new k (served ∷ others) =

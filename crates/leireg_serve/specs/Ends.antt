@@ -29,15 +29,15 @@ pub record Outside (L : Type 0) : Type 0 where
 abbrev pub outside : {L : Type 0} → Option KeptTables → ℕ → List (DeskState L) → Outside L
 outside kept faults desks = record { kept = kept; faults = faults; desks = desks }
 
--- How several desks ended: closed if each is, and failed otherwise.
+-- How several desks ended: closed if all are closed, and failed otherwise.
 abbrev pub joint_end : List DeskEnd → DeskEnd
 joint_end [] = DeskEnd.Closed
 joint_end (DeskEnd.Closed ∷ ends) = joint_end ends
 joint_end (DeskEnd.Failed ∷ ends) = DeskEnd.Failed
 
--- A hall was opened over an office, when the keeper's count of faults stood at the first number, and it told this. The
--- lines of all desks were served, each desk's by a pass of its own; then the hall was closed, which left the other office
--- and number, and all desks ended so.
+-- A hall was opened over an office, when the keeper's count of faults had the first value, and the keeper told this.
+-- The lines of all desks were served, those of each desk by its own pass. Then the hall was closed, which left the
+-- other office and the other value, and this is how all desks ended.
 pub record ServesHall {L : Type 0} (tells : LineTells L) (opened : OfficeState) (told : Option KeptTables) (from : ℕ)
     (desks : List (DeskState L)) (closed : OfficeState) (to : ℕ) (desks_now : List (DeskState L)) (end : DeskEnd)
     : Type 0 where
@@ -49,8 +49,8 @@ pub record ServesHall {L : Type 0} (tells : LineTells L) (opened : OfficeState) 
   pub serves : ServesDesks tells (λ k. new_pass table k opened.history (numbers_of opened.limits told)) 0 served
   pub closes : Closes opened from (map (λ desk. desk.pass) served) closed to
 
--- The store was opened, all desks were served from the office that was opened on, and the keeper has what the last
--- office has taken.
+-- The store was opened, all desks were served starting from the office that was opened, and the keeper has what the
+-- last office has taken.
 pub record OpensAndServes {L : Type 0} (may : Option KeptTables → Type 0) (tells : LineTells L)
     (before after : Outside L) (end : DeskEnd) : Type 0 where
   pub first : OfficeState
@@ -59,9 +59,10 @@ pub record OpensAndServes {L : Type 0} (may : Option KeptTables → Type 0) (tel
   pub serves : ServesHall tells first opened.told before.faults before.desks last after.faults after.desks end
   pub keeps : Keeps after.kept last
 
--- How serving ends. Status 0: all lines were served, and each door is closed. Status 9: the lines that came were served,
--- and a door failed. With the others the store wasn't opened, and the keeper has what it had: 5, a call of it failed,
--- and with 6 and 7 none did; 6, memory was wanted; 7, what it has isn't what a history leaves.
+-- How serving ends. Status 0: all lines were served, and each door is closed. Status 9: the lines that came were
+-- served, and a door failed. With any other status the store wasn't opened, and the keeper has what it had. With 5 a
+-- call of it failed, and with 6 and 7 none did. Status 6: memory ran out. Status 7: what the keeper has isn't what a
+-- history leaves.
 abbrev pub EndsServing : {L : Type 0} → (Option KeptTables → Type 0) → LineTells L → Outside L
     → Outside L → ℕ → Type 0
 EndsServing may tells before after status =
@@ -72,7 +73,7 @@ EndsServing may tells before after status =
     ⊎ ((status ≡ 7) × Stays before.kept after.kept × (after.faults ≡ before.faults)
     × ((damage : Damage) × IfSome after.kept (λ tables. IsDamage standard tables damage)))
 
--- With this status no line was served: the words mean nothing, or the store wasn't opened.
+-- With this status no line was served: the words have no meaning, or the store wasn't opened.
 abbrev pub IsUnserved : ℕ → Type 0
 IsUnserved status = (status ≡ 1) ⊎ ((status ≡ 5) ⊎ ((status ≡ 6) ⊎ (status ≡ 7)))
 
@@ -89,7 +90,7 @@ fault_status (faults.KeeperFault keeper) = 5
 fault_status (faults.StoreDamaged keeper damage) = 7
 fault_status (faults.NoMemory keeper) = 6
 
--- An office was served by a hall and closed, which left its keeper so, and this is the status.
+-- A hall served an office and closed it, which left its keeper in this state, and this is the status.
 abbrev pub ClosesOffice : {K L : Type 0} → (K → Option KeptTables) → (K → ℕ) → LineTells L
     → KeptOffice K → List (DeskState L) → K → List (DeskState L) → ℕ → Type 0
 ClosesOffice tables counts tells office desks keeper desks_now status =

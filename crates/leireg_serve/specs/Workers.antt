@@ -7,7 +7,7 @@ use Rattle.leireg_serve.specs.declared.desk.Desk.{Desk}
 use Rattle.leireg_serve.specs.declared.workers.Supplies.{Supplies}
 use Rattle.leireg_serve.specs.declared.workers.Worker.{Worker}
 
--- There is a router of all routes, and room for so many workers and for what they leave.
+-- There is a router of all routes, and room for this many workers and for what they leave.
 abbrev pub HasRoom : {D C : Type 0} → ℕ → Supplies D C → Type 0
 HasRoom count supplies = (supplies.router.now ≡ routes)
     × (supplies.workers.items ≡ []) × (count ≤ vec_capacity supplies.workers)

@@ -1,4 +1,4 @@
-//! A desk: a door whose lines are served one after the other, by a clock.
+//! A desk: a door whose lines are served one after another, and a clock.
 ghost use Rattle.std.specs.Prelude.{◌≡◌, true, false};
 ghost use Rattle.http_heads.specs.Routes.{routes};
 ghost use Rattle.lei_outside.specs.Doors.{TakesBack};
@@ -13,14 +13,14 @@ use std::alloc::Global;
 use std::sync::Wait;
 use std::thread::Threads;
 
-/// A worker's door, through which its lines come, and its clock.
+/// A worker's door, which its lines come through, and its clock.
 #[derive(Drop)]
 pub struct Desk<D, C> {
     pub door: D,
     pub clock: C,
 }
 
-/// Why a desk is served no further.
+/// Why serving a desk ended.
 #[derive(Clone, Copy, Debug, PartialEq, Eq)]
 pub enum DeskEnd {
     /// The door is closed.
@@ -29,10 +29,10 @@ pub enum DeskEnd {
     Failed,
 }
 
-/// Serves the lines of a desk's door, one after the other, until the door is closed or fails, by the router of all
-/// routes. What is asked on them a caller puts to the office of its hall, each request in one turn. Each line is given
-/// back to the door before the next one is asked for. How a line's serving ends has no part in how the desk's does. The
-/// caller's pass comes back.
+/// Serves the lines of a desk's door, one after another, until the door is closed or fails, with the router of all
+/// routes. A caller puts the requests on them to the office of its hall, each in one turn. Each line is returned to the
+/// door before the next one is requested. How serving a line ends doesn't affect how serving the desk ends. The
+/// caller's pass is returned.
 pub fn serve_desk<R: Threads + Wait + Sync, K: Keeper, D: Door, C: Clock, G: Gate>(
     rt: &R,
     alloc: Global,
@@ -58,7 +58,7 @@ pub fn serve_desk<R: Threads + Wait + Sync, K: Keeper, D: Door, C: Clock, G: Gat
     unreachable!()
 }
 
-// Serves the line that is out, gives it back to its door, and says how its serving ended.
+// Serves the line that is out, returns it to its door, and reports how serving it ended.
 fn serve_line<R: Threads + Wait + Sync, K: Keeper, D: Door, C: Clock, G: Gate>(
     rt: &R,
     alloc: Global,

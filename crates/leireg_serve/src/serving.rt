@@ -22,10 +22,10 @@ use std::alloc::Global;
 use std::sync::Wait;
 use std::thread::Threads;
 
-/// Serves the register that a keeper has, if the words ask for it. Each desk has a worker, and all workers serve at
-/// once, each the lines of its door, one after the other, until the door is closed or fails. Returns the status to end
-/// with, and gives the keeper and the desks back, in order. It writes nothing but what goes to the lines. Uploads pass
-/// the gate before their turns. All memory that workers need beside what requests take is taken before they start.
+/// Serves the register that a keeper has, if the words ask for it. Each desk has a worker, and all workers serve at the
+/// same time, each the lines of its door, one after another, until the door is closed or fails. Returns the exit
+/// status, and the keeper and the desks, in order. It writes nothing but what goes to the lines. Uploads pass the gate
+/// before their turns. All memory that workers need, apart from what requests take, is allocated before they start.
 pub fn serve<
     R: Threads + Wait + Sync,
     K: Keeper + Send,
@@ -64,7 +64,7 @@ where
     }
 }
 
-// Takes what the workers need, opens the register that a keeper has and serves it at the desks.
+// Allocates what the workers need, opens the register that a keeper has and serves it at the desks.
 fn serve_over<
     R: Threads + Wait + Sync,
     K: Keeper + Send,
@@ -135,7 +135,7 @@ where
     }
 }
 
-// The status of a refusal to open a store, and the keeper that comes back.
+// The status of a refusal to open a store, and the keeper that is returned.
 fn refused<K: Keeper>(fault: OpenFault<K>) -> (u8, K)
     ensures status { result.0 ≡ fault_status fault }
     ensures back { result.1 ≡ keeper_back fault }
@@ -147,8 +147,8 @@ fn refused<K: Keeper>(fault: OpenFault<K>) -> (u8, K)
     }
 }
 
-// Opens a hall over the office, has the workers serve and closes the hall and the office. If there is no memory for the
-// hall, nothing is served.
+// Opens a hall over the office, has the workers serve, and closes the hall and the office. If memory for the hall runs
+// out, nothing is served.
 fn serve_office<
     'a,
     R: Threads + Wait + Sync,

@@ -1,4 +1,4 @@
-//! What a server is asked for.
+//! What a server is asked to do.
 ghost use Rattle.std.specs.Prelude.{◌≤◌, map, string_bytes, IfOk};
 ghost use Rattle.program_words.specs.Reading.{Finds};
 ghost use Rattle.program_words.specs.Words.{meaning};
@@ -7,7 +7,7 @@ ghost use Rattle.leireg_serve.specs.Words.{served_by};
 use program_words::{Command, WantedRun, WordsFault, wanted};
 use std::alloc::Global;
 
-/// What a server is asked for by these words, which are the program's without its name.
+/// What these words, which are the program's without its name, ask a server to do.
 pub fn server_of<'a>(alloc: Global, words: &'a [String]) -> Result<WantedRun<'a>, WordsFault>
     ensures meant { Finds meaning (served_by (map string_bytes words.now)) result }
     ensures workers { IfOk result (λ run. (1 ≤ run.workers) × (run.workers ≤ 64)) }

@@ -1,4 +1,4 @@
-//! The workers of a server: each has a desk and a pass, and they serve at once.
+//! The workers of a server: each has a desk and a pass, and they serve at the same time.
 ghost use Rattle.std.specs.List.{AllZip};
 ghost use Rattle.std.specs.Prelude.{◌≡◌, ℕ, ◌≤◌, ◌<◌, [], ◌∷◌, length, map, All, Some, IsSome, IfOk, slice_index_or, vec_capacity};
 ghost use Rattle.std.specs.Thread.{IsSync};
@@ -21,17 +21,17 @@ use std::thread::Threads;
 /// The greatest number of workers. This project's profile.
 const MOST_WORKERS: usize = 64;
 
-/// A desk, the pass by which its lines are served, and how that ended. The router is that of all workers.
+/// A desk, the pass that its lines are served by, and how that ended. All workers share the router.
 #[derive(Drop)]
 pub struct Worker<'a, D, C> {
     pub router: &'a Router<Place>,
     pub desk: Desk<D, C>,
-    // taken out while the desk is served
+    // removed while the desk is served
     pub pass: Option<Pass>,
     pub end: DeskEnd,
 }
 
-/// What the workers of a server take: the router of all routes, which they share, and room for them and for what they
+/// What the workers of a server need: the router of all routes, which they share, and room for them and for what they
 /// leave.
 #[derive(Drop)]
 pub struct Supplies<'a, D, C> {
@@ -42,7 +42,7 @@ pub struct Supplies<'a, D, C> {
 }
 
 impl<'a, D: Drop, C: Drop> Supplies<'a, D, C> {
-    /// The supplies of so many workers.
+    /// The supplies of this many workers.
     pub fn of(alloc: Global, router: &'a Router<Place>, count: usize) -> Result<Self, NoMemory>
         requires { router.now ≡ routes }
         ensures { IfOk result (HasRoom count) }
@@ -56,7 +56,7 @@ impl<'a, D: Drop, C: Drop> Supplies<'a, D, C> {
     }
 }
 
-/// A worker for each of these desks, with the pass at the same place.
+/// A worker for each of these desks, with the pass at the same index.
 pub fn make_workers<'a, D: Drop, C: Drop>(
     desks: Vec<Desk<D, C>>,
     passes: Vec<Pass>,
@@ -85,8 +85,8 @@ pub fn make_workers<'a, D: Drop, C: Drop>(
     workers
 }
 
-/// The workers serve at once, each the lines of its desk by its pass. Where no thread can be made, they serve one after
-/// the other.
+/// The workers serve at the same time, each the lines of its desk by its pass. If no thread can be started, they serve
+/// one after another.
 pub fn serve_all<
     'a,
     R: Threads + Wait + Sync,
@@ -111,7 +111,7 @@ where
     workers
 }
 
-// The same with the workers where they stand.
+// The same, with the workers in place.
 fn serve_each<
     'a,
     R: Threads + Wait + Sync,
@@ -162,7 +162,8 @@ fn serve_worker<R: Threads + Wait + Sync, K: Keeper, D: Door, C: Clock, G: Gate>
     worker.end = end;
 }
 
-/// The desks and the passes of the workers, in order, and how all ended: closed if each is, and failed otherwise.
+/// The desks and the passes of the workers, in order, and how all ended: closed if all are closed, and failed
+/// otherwise.
 pub fn take_apart<'a, D: Drop, C: Drop>(
     workers: Vec<Worker<'a, D, C>>,
     mut desks: Vec<Desk<D, C>>,

@@ -1,4 +1,4 @@
--- Connections over a stream, and the door through which they come, as contracts see them.
+-- Connections over a stream, and the door that they come through, as contracts see them.
 use Rattle.std.specs.Prelude.{◌≡◌, ◌<◌, ◌-◌, ◌⊎◌, ℕ, Bool, false, true, Option, None, Some, Result, Ok, Err}
 use Rattle.lei_outside.specs.Count.{counted}
 use Rattle.lei_outside.specs.declared.door.Came.{Came}
@@ -17,15 +17,15 @@ pub record ListenerState : Type 0 where
   pub out : Bool
   pub faults : ℕ
 
--- What came of waiting for a connection: one of those that are still to be given; none, where all were; or it failed,
--- which it always does without a listener.
+-- What waiting for a connection results in: one of those that are still to be given, or none if all were given, or a
+-- failure. Without a listener it always fails.
 abbrev pub Waits : {S E : Type 0} → ListenerState → Result (Option S) E → Type 0
 Waits door (Ok (Some stream)) = (door.listens ≡ true) × (0 < door.to_give)
 Waits door (Ok None) = (door.listens ≡ true) × (door.to_give ≡ 0)
 Waits door (Err fault) = (door.listens ≡ false) ⊎ (0 < door.to_give)
 
--- What a door's call does to it: it gave one of its lines, which is out now; it is closed, exactly where it has a
--- listener and gave them all; or the call failed, which is counted.
+-- What a door's call does to it. It gave one of its lines, which is out now. Or it is closed, exactly if it has a
+-- listener and gave all its lines. Or the call failed, which is counted.
 abbrev pub Gives : {L : Type 0} → ListenerState → Came L → ListenerState → Type 0
 Gives old (Came.Line line) new = (old.listens ≡ true) × (0 < old.to_give)
     × (new ≡ record old { to_give = old.to_give - 1; out = true })

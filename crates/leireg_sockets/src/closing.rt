@@ -7,16 +7,16 @@ use std::time::{Clock, Duration, Instant};
 // profile.
 const CLOSING_BYTES: usize = 8_388_608;
 
-// How long a peer may be silent before it is taken to send no more, in milliseconds.
+// How long a peer may be silent before it counts as sending nothing more, in milliseconds.
 const SILENCE: u64 = 200;
 
 // How many bytes are read at a time.
 const BLOCK: usize = 16_384;
 
-/// Closes a connection so that its peer gets what was written. If it were closed while bytes of the peer are unread,
-/// the system would reset it, and the peer would lose the last reply. So no more is sent, and what the peer still sends
-/// is read and dropped until the peer closes or is silent for 200 milliseconds, for at most this time and at most 8
-/// MiB.
+/// Closes a connection so that its peer gets what was written. If the connection were closed while bytes of the peer
+/// are unread, the system would reset it, and the peer would lose the last reply. So nothing more is sent. What the
+/// peer still sends is read and dropped until the peer closes or is silent for 200 milliseconds, for at most this time
+/// and at most 8 MiB.
 pub fn close<R: Clock>(rt: &R, mut stream: TcpStream, time: Duration) {
     let Ok(begin) = Instant::now(rt) else {
         return;
@@ -37,8 +37,8 @@ pub fn close<R: Clock>(rt: &R, mut stream: TcpStream, time: Duration) {
     }
 }
 
-// How long the next read may wait within a time that began at this moment, or none if it has passed or the clock can't
-// be read.
+// How long the next read may wait within a time that started at this moment, or `None` if it has passed or the clock
+// can't be read.
 fn wait_left<R: Clock>(rt: &R, begin: Instant, time: Duration) -> Option<Duration> {
     let passed = begin.elapsed(rt).ok()?;
     let left = time.checked_sub(passed)?;
@@ -49,7 +49,7 @@ fn wait_left<R: Clock>(rt: &R, begin: Instant, time: Duration) -> Option<Duratio
     }
 }
 
-// How many bytes come within a time, or none at the end, after the time and after a failure.
+// How many bytes come within a time, or `None` at the end, after the time and after a failure.
 fn read_within(stream: &mut TcpStream, buffer: &mut [u8], time: Duration) -> Option<usize> {
     stream.set_read_timeout(Some(time)).ok()?;
     match stream.read(buffer) {

@@ -1,4 +1,4 @@
-//! How long a peer may take, and what of it has passed.
+//! How long a peer may take, and how much of that time has passed.
 use std::io;
 use std::net::TcpStream;
 use std::time::{Clock, Duration, Instant};
@@ -6,21 +6,22 @@ use std::time::{Clock, Duration, Instant};
 /// How long a peer may take. This project's profile.
 #[derive(Clone, Copy)]
 pub struct Deadlines {
-    /// For the next byte, in either direction: of an idle connection, of a request that has begun, and of a reply.
+    /// For the next byte, in either direction: on an idle connection, within a request that has started, and in a
+    /// reply.
     pub silence: Duration,
-    /// For a whole request, from its first byte to the first write behind it.
+    /// For a whole request, from its first byte to the first write after it.
     pub request: Duration,
-    /// For all replies to what one read gave, from the first write to the next read that gives a byte.
+    /// For all replies to the requests of one read, from the first write to the next read that gives a byte.
     pub reply: Duration,
     /// For the connection. After this time no further request is read from it.
     pub life: Duration,
-    /// For what the peer still sends after the last reply.
+    /// For reading what the peer still sends after the last reply.
     pub closing: Duration,
 }
 
 impl Deadlines {
-    /// The deadlines of a server: 5 seconds for a byte, 30 for a request, 10 minutes for replies, 10 for a connection,
-    /// and a second for its end.
+    /// The deadlines of a server: 5 seconds for a byte, 30 seconds for a request, 10 minutes for replies, 10 minutes
+    /// for a connection, and one second for its end.
     pub fn standard() -> Self {
         Deadlines {
             silence: Duration::from_secs(5),
@@ -31,27 +32,27 @@ impl Deadlines {
         }
     }
 
-    /// Lets each read and write of a stream wait for a byte no longer than silence may last.
+    /// Limits how long each read and write of a stream waits for a byte, to the longest silence.
     pub fn apply(&self, stream: &TcpStream) -> io::Result<()> {
         stream.set_read_timeout(Some(self.silence))?;
         stream.set_write_timeout(Some(self.silence))
     }
 }
 
-/// What a connection does, with the moment since when. `None` is a moment that the clock couldn't tell.
+/// What a connection is doing, and since which moment. `None` is a moment at which the clock couldn't be read.
 #[derive(Clone, Copy)]
 enum Turn {
-    /// No byte came yet.
+    /// No byte has come yet.
     New,
-    /// The peer sends: a byte was read, and nothing was written since.
+    /// The peer is sending: a byte was read, and nothing has been written since.
     Request(Option<Instant>),
-    /// The peer is sent to: a byte was written, and none was read since.
+    /// Replies are being sent: a byte was written, and none has been read since.
     Reply(Option<Instant>),
 }
 
-/// Whether a connection is late. A request begins with the first byte that is read after the accept or a write, and
-/// lasts until the next write; the replies begin there, and last until the next byte is read. The connection's life
-/// begins with the accept, and is looked at between two requests alone. If the clock can't be read, all are late.
+/// Whether a connection is late. A request starts with the first byte that is read after the accept or a write, and
+/// lasts until the next write. The replies start there, and last until the next byte is read. The connection's life
+/// starts with the accept, and is checked only between two requests. If the clock can't be read, all are late.
 #[derive(Drop)]
 pub struct Watch<'a, R> {
     rt: &'a R,
@@ -71,13 +72,13 @@ impl<'a, R: Clock> Watch<'a, R> {
         }
     }
 
-    /// The clock, and how long the end of the connection may take.
+    /// The clock, and how long closing the connection may take.
     pub fn closing(&self) -> (&'a R, Duration) {
         (self.rt, self.deadlines.closing)
     }
 
-    /// Whether a read comes too late for its request. What comes after a write is another request, for which the
-    /// connection may be too old.
+    /// Whether a read comes too late for its request. What is read after a write is another request, and the connection
+    /// may be too old for it.
     pub fn is_late_to_read(&self) -> bool {
         match self.turn {
             Turn::New => false,
@@ -94,7 +95,7 @@ impl<'a, R: Clock> Watch<'a, R> {
         }
     }
 
-    /// Whether a write comes too late for the replies that it is one of. What is written first behind a read is in
+    /// Whether a write comes too late for the replies that it belongs to. The first write after a read is always in
     /// time.
     pub fn is_late_to_write(&self) -> bool {
         match self.turn {
@@ -112,7 +113,7 @@ impl<'a, R: Clock> Watch<'a, R> {
     }
 }
 
-// Whether so much time has passed since a moment, or one can't tell.
+// Whether this much time has passed since a moment, or the clock can't be read.
 fn has_passed<R: Clock>(rt: &R, since: Option<Instant>, time: Duration) -> bool {
     match since {
         Some(since) => match since.elapsed(rt) {

@@ -1,4 +1,4 @@
-//! A door through which the connections of a listener come.
+//! A door that the connections of a listener come through.
 ghost use Rattle.std.specs.Prelude.{◌≡◌, ◌≤◌, None, true, false, is_some};
 ghost use Rattle.lei_outside.specs.Count.{Rose};
 ghost use Rattle.lei_outside.specs.Doors.{Comes, IsFailed, is_line};
@@ -13,12 +13,12 @@ use std::net::{TcpListener, TcpStream};
 use std::thread::sleep;
 use std::time::{Clock, Duration};
 
-// How long a door waits after a failure that may pass, before it asks for a connection again, in milliseconds.
+// How long a door waits after a failure that may pass, before it accepts again, in milliseconds.
 const PAUSE: u64 = 100;
 
-/// A door over a listener, through which so many connections come, one after the other. Without a listener each call
-/// fails. The operator hears of the address at the first call, and of failures that may pass. A connection that comes
-/// back is closed. It tells nothing of its lines.
+/// A door over a listener, through which a given number of connections come, one after another. Without a listener each
+/// call fails. The operator is informed of the address at the first call, and of failures that may pass. A connection
+/// that comes back is closed. The door tells nothing of its lines.
 #[derive(Drop)]
 pub struct TcpDoor<'a, R, O> {
     rt: &'a R,
@@ -28,7 +28,7 @@ pub struct TcpDoor<'a, R, O> {
     to_give: u64,
     out: bool,
     faults: u64,
-    // Whether the operator has heard of the address.
+    // Whether the operator was informed of the address.
     announced: bool,
 }
 
@@ -47,7 +47,7 @@ impl<'a, R, O> Model for TcpDoor<'a, R, O> {
 }
 
 impl<'a, R, O> TcpDoor<'a, R, O> {
-    /// A door through which at most so many connections come, each with these deadlines.
+    /// A door through which at most this many connections come, each with these deadlines.
     pub fn new(
         rt: &'a R,
         listener: Option<&'a TcpListener>,
@@ -118,7 +118,7 @@ impl<'a, R: Clock, O: Operator> Door for TcpDoor<'a, R, O> {
 }
 
 impl<'a, R: Clock, O: Operator> TcpDoor<'a, R, O> {
-    // The next connection, and none if all were given.
+    // The next connection, or `None` if all were given.
     fn wait(&mut self) -> Result<Option<TcpStream>, Failed>
         ensures waits { Waits self.new result }
         ensures same { self.new ≡ self.old }
@@ -134,7 +134,7 @@ impl<'a, R: Clock, O: Operator> TcpDoor<'a, R, O> {
         Ok(Some(stream))
     }
 
-    // Lets the operator know, once, where the door listens.
+    // Informs the operator, once, of the address that the door listens at.
     fn announce(&mut self, listener: &TcpListener)
         ensures { self.new ≡ self.old }
     {
@@ -148,8 +148,8 @@ impl<'a, R: Clock, O: Operator> TcpDoor<'a, R, O> {
     }
 }
 
-// The next connection that can be served: its deadlines are set, and what is written to it is sent at once. One that is
-// gone before that is passed over, and so is a failure that may pass, after a pause.
+// The next connection that can be served: its deadlines are set, and what is written to it is sent at once. A
+// connection that ends before that is skipped. A failure that may pass is skipped too, after a pause.
 fn accept<R: Clock, O: Operator>(
     rt: &R,
     listener: &TcpListener,
@@ -183,16 +183,16 @@ fn accept<R: Clock, O: Operator>(
 
 // Whether another call may succeed after a failure to accept a connection.
 enum Passing {
-    // The connection is gone, or a signal came: at once.
+    // The connection is gone, or a signal came: try again at once.
     AtOnce,
-    // Descriptors or memory ran out, or the network has a fault: after a while.
+    // Descriptors or memory ran out, or the network has a fault: try again after a while.
     Later,
-    // The listener is none.
+    // The listener is invalid.
     Never,
 }
 
 impl Passing {
-    // Linux's accept also reports faults of the connection that came and of the network.
+    // On Linux, accept also reports faults of the incoming connection and of the network.
     fn of(fault: &io::Error) -> Passing {
         match fault.kind() {
             ErrorKind::Interrupted | ErrorKind::ConnectionAborted | ErrorKind::ConnectionReset => {
@@ -207,7 +207,7 @@ impl Passing {
     }
 }
 
-// Linux's numbers of faults that don't pass: what is no open descriptor, or no socket.
+// Linux's numbers for faults that don't pass: not an open descriptor, or not a socket.
 const BAD_DESCRIPTOR: i32 = 9;
 
 const NO_SOCKET: i32 = 88;

@@ -1,5 +1,5 @@
-//! Connections over TCP, and the door through which they come, with the deadlines that keep a slow peer from holding a
-//! server up.
+//! TCP connections, and the door that they come through, with the deadlines that keep a slow peer from holding up a
+//! server.
 #![tactic(auto)]
 
 mod closing;

@@ -14,9 +14,9 @@ use std::marker::Model;
 use std::net::TcpStream;
 use std::time::Clock;
 
-/// A link over a stream, as a connection, which tells nothing of its bytes by itself. A read or a write that comes
-/// behind its deadline fails, and so does one that waited for as long as the stream lets it. Contracts see the stream
-/// and the numbers of reads and of writes that failed, which stand still at their last value.
+/// A link over a stream, such as a connection, which tells nothing of its own bytes. A read or a write that comes after
+/// its deadline fails, and so does one that waited as long as the stream allows. Contracts see the stream and the
+/// numbers of reads and of writes that failed, which stop at their greatest value.
 #[derive(Drop)]
 pub struct StreamLink<'a, R, S> {
     stream: S,
@@ -35,7 +35,7 @@ impl<'a, R, S> Model for StreamLink<'a, R, S> {
 }
 
 impl<'a, R: Clock, S> StreamLink<'a, R, S> {
-    /// A link over a stream that has just come. The stream itself bounds how long a read or a write waits for a byte.
+    /// A link over a stream that has just come. The stream itself limits how long a read or a write waits for a byte.
     pub fn new(rt: &'a R, deadlines: Deadlines, stream: S) -> Self
         ensures { result ≡ record { stream = stream; read_faults = 0; write_faults = 0 } }
     {
@@ -49,8 +49,8 @@ impl<'a, R: Clock, S> StreamLink<'a, R, S> {
 }
 
 impl<'a, R: Clock> StreamLink<'a, R, TcpStream> {
-    /// Closes the connection. If a read or a write failed, it is closed at once; otherwise so that the peer gets what
-    /// was written.
+    /// Closes the connection. If a read or a write failed, it is closed at once, and otherwise so that the peer gets
+    /// what was written.
     pub fn close(self) {
         if self.read_faults == 0 && self.write_faults == 0 {
             let (rt, time) = self.watch.closing();
@@ -129,7 +129,7 @@ fn read_in_time<R: Clock, S: Read>(
     Ok(count)
 }
 
-// One read, begun again where a signal stopped it before it took a byte.
+// One read, repeated if a signal stopped it before it took a byte.
 fn read_once<S: Read>(stream: &mut S, buffer: &mut [u8]) -> Result<usize, Failed>
     ensures within { IfOk result (λ count. count ≤ length buffer.new) }
     ensures stream { ReadConsumes (S.remaining stream.old) (S.remaining stream.new) result buffer.new }
@@ -164,7 +164,7 @@ fn write_in_time<R: Clock, S: Write>(
     Ok(count)
 }
 
-// One write, begun again where a signal stopped it before it took a byte. It fails too where it takes nothing.
+// One write, repeated if a signal stopped it before it took a byte. A write that takes nothing fails as well.
 fn write_once<S: Write>(stream: &mut S, piece: &[u8]) -> Result<usize, Failed>
     ensures within { IfOk result (λ count. (0 < count) × (count ≤ length piece.now)) }
     ensures stream { WriteAppends (S.contents stream.old) (S.contents stream.new) result piece.now }

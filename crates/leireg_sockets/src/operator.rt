@@ -2,12 +2,12 @@
 use std::io;
 use std::net::SocketAddr;
 
-/// The person who runs a server, and is told what becomes of its listener.
+/// The person who runs a server, and who is informed of what happens to its listener.
 pub trait Operator {
-    /// Connections to this address are taken from now on.
+    /// From now on, connections to this address are accepted.
     fn note_listening(&mut self, address: SocketAddr);
 
-    /// A connection could not be taken, and the door tries again. This is called for the first of several failures in a
-    /// row.
+    /// A connection couldn't be accepted, and the door tries again. This is called for the first of several failures in
+    /// a row.
     fn note_accept_fault(&mut self, fault: &io::Error);
 }

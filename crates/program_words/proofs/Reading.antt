@@ -1,4 +1,4 @@
--- What `clap` says of words, as what is read of them.
+-- What `clap` says of words, as what is read from them.
 use Rattle.std.proofs.Common.{◌≡◌, ◌∙◌, Bool, true, false, ◌&&◌, List, [], ◌∷◌, Some, None, refl, sym, ap, inl, inr}
 use Rattle.clap.specs.Faults.{fault_of, is_free_app, is_simple_and_free}
 use Rattle.clap.specs.Kinds.{HasKind, IsAmong, Kinds}
@@ -22,16 +22,16 @@ left_of : (a b : Bool) → (a && b) ≡ true → a ≡ true
 left_of true b is = refl
 left_of false b is = cc
 
--- a command of which all is known is one of which the matches are
+-- if everything is known of a command, everything is known of its matches
 pub is_simple-of : (app : App) → is_simple_and_free app ≡ true → is_simple app ≡ true
 is_simple-of app is = left_of (is_simple app) (is_free_app (built app)) is
 
--- words that are taken are read
+-- words that are accepted are read
 pub read-taken : (app : App) (words : List Text) (rows : List Row) → fault_of app words ≡ [] → rows ≡ matches_of app words → read_by app words ≡ Some rows
 unfolding read_by
 read-taken app words rows none is = with_none (fault_of app words) (matches_of app words) none ∙ ap Some (sym is)
 
--- words that are refused for another cause than memory aren't
+-- words that are refused for a cause other than memory aren't read
 pub read-refused : (app : App) (words : List Text) (fault : Error) → HasKind (fault_of app words) fault → (kind_of fault ≡ kind.OutOfMemory → ⊥)
     → read_by app words ≡ None
 unfolding read_by

@@ -8,18 +8,18 @@ use Rattle.clap.specs.Simple.{App, matches_of, new_rule, new_shape, with_rule}
 use Rattle.clap.specs.Faults.{fault_of}
 use Rattle.clap.specs.declared.builder.action.ArgAction.TheVariants.{Set}
 
--- A command of this name that has no option yet, not even one for help. All words that it is given are its arguments.
+-- A command with this name that has no option yet, not even one for help. All words that it is given are its arguments.
 abbrev pub plain : Text → App
 plain name = record {
   top = record (new_shape name) { no_binary_name = true; disable_help_flag = true };
   subs = [];
 }
 
--- the command with an option of this name, as in `--name TEXT` and `--name=TEXT`, which may stand once
+-- the command with an option of this name, as in `--name TEXT` and `--name=TEXT`, which may occur once
 abbrev pub with_option : Text → App → App
 with_option name app = with_rule app (record (new_rule name) { long = Some name; action = Some Set })
 
--- the command with one more text, which stands behind those before it
+-- the command with one more text, which comes after the previous ones
 abbrev pub with_text : Text → App → App
 with_text name app = with_rule app (record (new_rule name) { action = Some Set })
 
@@ -67,7 +67,7 @@ abbrev pub unless_fault : Kinds → List Row → Option (List Row)
 unless_fault [] rows = Some rows
 unless_fault (fault ∷ faults) rows = None
 
--- What `clap`'s stated reading makes of the words behind the first, by this command: the texts under their names, and
--- nothing where it refuses the words.
+-- What `clap`'s stated reading makes of the words after the first, by this command: the texts under their names, or
+-- nothing if it refuses the words.
 unfoldable pub read_by : App → List Text → Option (List Row)
 read_by app words = unless_fault (fault_of app words) (matches_of app words)

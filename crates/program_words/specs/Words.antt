@@ -1,4 +1,4 @@
--- Words: what the words behind the program's name ask for. This project's profile.
+-- Words: what the words after the program's name ask for. This project's profile.
 use Rattle.std.specs.Prelude.{◌≡◌, ◌≤◌, ℕ, List, [], ◌∷◌, codes, if◌then◌else◌, Option, Some, None, option_map, option_and_then}
 use Rattle.std.specs.Str.{bytes_eq}
 use Rattle.register_words.specs.declared.sheets.Form.{Form}
@@ -11,9 +11,10 @@ use Rattle.program_words.specs.declared.runs.Command.{Command}
 use Rattle.program_words.specs.declared.runs.Command.TheVariants as commands
 use Rattle.program_words.specs.declared.runs.WantedRun.{WantedRun}
 
--- To answer the lines of the input, to answer over HTTP, to patch a copy of this sheet and form by a delta, to search the
--- names of a copy of this form, to mirror the tables of a register, to report on the group of an entity, or on all, by two copies of this form, to say
--- whether a text is an LEI, to make the check digits of a text, or to make up a register of so many records.
+-- What the program may be asked to do: answer the lines of the input; answer over HTTP; patch a copy of this sheet and
+-- form by a delta; search the names of a copy of this form; mirror the tables of a register; report on the group of an
+-- entity, or on all, from two copies of this form; say whether a text is an LEI; compute the check digits for a text;
+-- or generate a register with this many records.
 pub data Invocation : Type 0 where
   to_answer_lines : Invocation
   to_serve : Invocation
@@ -25,8 +26,8 @@ pub data Invocation : Type 0 where
   to_make_digits : Text → Invocation
   to_make_up : ℕ → Invocation
 
--- What is to be done, and with what: the path of a store, those of a first and of a second file, and of a server its
--- port, how many workers it has and how many connections each of them takes. A number that isn't asked for is 0.
+-- What is to be done, and with what: the path of a store, the paths of a first and of a second file, and for a server
+-- its port, its number of workers and how many connections each worker takes. A number that isn't given is 0.
 pub record Meant : Type 0 where
   pub invocation : Invocation
   pub store : Option Text
@@ -36,7 +37,7 @@ pub record Meant : Type 0 where
   pub workers : ℕ
   pub connections : ℕ
 
--- an invocation for which nothing else is asked
+-- an invocation without any further argument
 abbrev pub only : Invocation → Meant
 only invocation = record {
   invocation = invocation;
@@ -50,20 +51,20 @@ only invocation = record {
 
 -- ---- what each command means, by the texts under its names
 
--- Lines are answered from a store, where a path is given: any text, the empty one too.
+-- Lines are answered from a store, if a path is given: any text, including the empty one.
 abbrev pub lines_meant : List Row → Option Meant
 lines_meant rows = Some (record (only to_answer_lines) { store = first_of (codes "store") rows })
 
--- the number in this range that stands under this name
+-- the number in this range under this name
 abbrev pub number_under : Text → ℕ → ℕ → List Row → Option ℕ
 number_under name low high rows = option_and_then (number_within low high) (first_of name rows)
 
--- how many connections each worker takes: 4,294,967,295 where it isn't said
+-- how many connections each worker takes: 4,294,967,295 by default
 abbrev pub connections_told : Option Text → Option ℕ
 connections_told None = Some 4_294_967_295
 connections_told (Some text) = number_within 1 4_294_967_295 text
 
--- a server by its numbers, and nothing where one of them can't be read
+-- a server by its numbers, or nothing if one of them can't be read
 abbrev pub serve_by : Option ℕ → Option ℕ → Option ℕ → Option Text → Option Meant
 serve_by (Some port) (Some workers) (Some connections) store = Some (record (only to_serve) {
   store = store;
@@ -80,7 +81,7 @@ abbrev pub serve_meant : List Row → Option Meant
 serve_meant rows = serve_by (number_under (codes "port") 0 65_535 rows) (number_under (codes "workers") 1 64 rows)
     (connections_told (first_of (codes "connections") rows)) (first_of (codes "store") rows)
 
--- a copy is patched by a sheet, a form and two files, and nothing where one of them can't be read
+-- a copy is patched by a sheet, a form and two files, or nothing if one of them can't be read
 abbrev pub apply_by : Option Sheet → Option Form → Option Text → Option Text → Option Meant
 apply_by (Some sheet) (Some form) (Some copy) (Some delta) =
     Some (record (only (to_patch sheet form)) { first = Some copy; second = Some delta })
@@ -89,13 +90,13 @@ apply_by (Some sheet) (Some form) None delta = None
 apply_by (Some sheet) None copy delta = None
 apply_by None form copy delta = None
 
--- The file of the copy is the first, and that of the delta the second. A path may be any text, the empty one too.
+-- The file of the copy is the first, and that of the delta the second. A path may be any text, including the empty one.
 abbrev pub apply_meant : List Row → Option Meant
 apply_meant rows = apply_by (option_and_then sheet_of (first_of (codes "TABLE") rows))
     (option_and_then form_of (first_of (codes "FORM") rows))
     (first_of (codes "COPY") rows) (first_of (codes "DELTA") rows)
 
--- names of a copy are searched by a form and a file, and nothing where one of them can't be read
+-- names of a copy are searched by a form and a file, or nothing if one of them can't be read
 abbrev pub search_by : Option Form → Option Text → Option Meant
 search_by (Some form) (Some copy) = Some (record (only (to_search form)) { second = Some copy })
 search_by (Some form) None = None
@@ -105,11 +106,11 @@ search_by None copy = None
 abbrev pub search_meant : List Row → Option Meant
 search_meant rows = search_by (option_and_then form_of (first_of (codes "FORM") rows)) (first_of (codes "COPY") rows)
 
--- A mirror is asked for by its name alone.
+-- A mirror is requested by its name alone.
 abbrev pub mirror_meant : List Row → Option Meant
 mirror_meant rows = Some (only to_mirror)
 
--- a report is made by a text that says on whom, a form and two files, and nothing where one of them can't be read
+-- a report is made by a text that names its subject, a form and two files, or nothing if one of them can't be read
 abbrev pub group_by : Option Text → Option Form → Option Text → Option Text → Option Meant
 group_by (Some who) (Some form) (Some lei) (Some rr) =
     Some (record (only (to_report who form)) { first = Some lei; second = Some rr })
@@ -118,18 +119,18 @@ group_by (Some who) (Some form) None rr = None
 group_by (Some who) None lei rr = None
 group_by None form lei rr = None
 
--- The file of the copy of `lei` is the first, and that of the copy of `rr` the second. A report may be wanted on any
--- text, the empty one too.
+-- The file of the copy of `lei` is the first, and that of the copy of `rr` the second. The subject of a report may be
+-- any text, including the empty one.
 abbrev pub group_meant : List Row → Option Meant
 group_meant rows = group_by (first_of (codes "WHO") rows)
     (option_and_then form_of (first_of (codes "FORM") rows))
     (first_of (codes "LEICOPY") rows) (first_of (codes "RRCOPY") rows)
 
--- Any text is checked, the empty one too.
+-- Any text is checked, including the empty one.
 abbrev pub check_meant : List Row → Option Meant
 check_meant rows = option_map (λ text. only (to_check text)) (first_of (codes "CODE") rows)
 
--- Check digits are made of any text, the empty one too.
+-- Check digits are computed for any text, including the empty one.
 abbrev pub digits_meant : List Row → Option Meant
 digits_meant rows = option_map (λ text. only (to_make_digits text)) (first_of (codes "TEXT") rows)
 
@@ -139,7 +140,7 @@ demo_meant rows = option_map (λ records. only (to_make_up records)) (number_und
 
 -- ---- what the words mean
 
--- The first word is the command's name, byte by byte, and the words behind it are read by that command.
+-- The first word is the command's name, byte by byte, and that command reads the words after it.
 abbrev pub meant_by : Text → List Text → Option Meant
 meant_by name words =
     if bytes_eq name (codes "lines") then option_and_then lines_meant (read_by lines_app words)
@@ -153,14 +154,14 @@ meant_by name words =
     else (if bytes_eq name (codes "demo") then option_and_then demo_meant (read_by demo_app words)
     else None))))))))
 
--- What the words behind the program's name ask for, and nothing where they are no command.
+-- What the words after the program's name ask for, or nothing if they aren't a command.
 abbrev pub meant : List Text → Option Meant
 meant [] = None
 meant (name ∷ words) = meant_by name words
 
--- ---- what is read of them
+-- ---- what is read from them
 
--- what a command was read for
+-- the invocation that a command was read from
 abbrev pub invocation_of : Command → Invocation
 invocation_of commands.Lines = to_answer_lines
 invocation_of commands.Serve = to_serve
@@ -172,7 +173,7 @@ invocation_of (commands.Check code) = to_check code.now
 invocation_of (commands.Digits text) = to_make_digits text.now
 invocation_of (commands.Demo records) = to_make_up records
 
--- what a run was read for
+-- the meaning that a run was read from
 abbrev pub meaning : WantedRun → Meant
 meaning run = record {
   invocation = invocation_of run.command;
@@ -184,7 +185,7 @@ meaning run = record {
   connections = run.connections;
 }
 
--- The number of records that a command makes up lies in its range.
+-- The number of records that a command generates is in its range.
 abbrev pub IsInRange : Command → Type 0
 IsInRange commands.Lines = Unit {0}
 IsInRange commands.Serve = Unit {0}
@@ -196,6 +197,6 @@ IsInRange (commands.Check code) = Unit {0}
 IsInRange (commands.Digits text) = Unit {0}
 IsInRange (commands.Demo records) = (2 ≤ records) × (records ≤ 100_000)
 
--- The numbers of a run lie in their ranges: that of its command, and the workers of a server.
+-- The numbers of a run are in their ranges: that of its command, and the workers of a server.
 abbrev pub AreInRange : WantedRun → Type 0
 AreInRange run = IsInRange run.command × (run.command ≡ commands.Serve → (1 ≤ run.workers) × (run.workers ≤ 64))

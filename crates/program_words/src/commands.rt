@@ -1,4 +1,4 @@
-//! The commands of the program as they are handed to `clap`, and what it reads by them.
+//! The commands of the program as they are given to `clap`, and what `clap` reads by them.
 ghost use Rattle.std.specs.Prelude.{◌≡◌, true, map, string_bytes, IfOk};
 ghost use Rattle.clap.specs.Simple.{app_of};
 ghost use Rattle.clap.specs.Faults.{is_simple_and_free};
@@ -13,7 +13,7 @@ use clap::{Arg, ArgAction, ArgMatches, Command};
 use lei_outside::NoMemory;
 use std::alloc::Global;
 
-// A command of this name that has no option yet.
+// A command with this name that has no option yet.
 fn plain<'a>(alloc: Global, name: &'a str) -> Command<'a>
     ensures { app_of result ≡ plain name.now }
 {
@@ -112,7 +112,7 @@ pub fn demo_command<'a>(alloc: Global) -> Result<Command<'a>, NoMemory>
     with_text(alloc, plain(alloc, "demo"), "N")
 }
 
-/// What is read of the words by a command.
+/// What a command reads from the words.
 pub fn read<'a>(command: Command<'a>, words: &'a [String]) -> Result<ArgMatches<'a>, WordsFault>
     requires simple { is_simple_and_free (app_of command) ≡ true }
     ensures { Finds (λ matches. rows_of (found_of matches))

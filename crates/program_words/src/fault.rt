@@ -1,13 +1,13 @@
-//! Why words aren't read.
+//! Why words can't be read.
 use lei_outside::NoMemory;
 use std::alloc::AllocError;
 
-/// Why the words behind the program's name aren't read.
+/// Why the words after the program's name can't be read.
 #[derive(Clone, Copy)]
 pub enum WordsFault {
-    /// They are no command.
+    /// They aren't a command.
     Usage,
-    /// Memory was wanted.
+    /// Memory ran out.
     NoMemory,
 }
 

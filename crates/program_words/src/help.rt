@@ -1,4 +1,4 @@
-//! How the program is called, told to a person.
+//! How the program is called, explained to a person.
 
 const COMMANDS: &'static str = "usage: leireg COMMAND
   lines   answers each line of the standard input
@@ -63,8 +63,8 @@ makes up a register, publishes it, and tells what became of it
   N  how many records it has, from 2 to 100000
 example: leireg demo 1000";
 
-/// How the command of this name is called: its usage, each option with its range, and an example, in lines of which the
-/// last has no end. For a word that names none, the commands that there are.
+/// How the command with this name is called: its usage, each option with its range, and an example, in lines; the last
+/// line has no line end. For a word that names no command, the list of commands.
 pub fn help_of(name: &str) -> &'static str {
     match name {
         "lines" => LINES,

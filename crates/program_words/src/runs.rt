@@ -1,4 +1,4 @@
-//! What is wanted of the program.
+//! What the program is asked to do.
 ghost use Rattle.std.specs.Prelude.{◌≡◌, ◌≤◌, Some, IfOk, IfSome, codes, map, option_and_then, option_map, string_bytes};
 ghost use Rattle.clap.specs.Matches.{found_of};
 ghost use Rattle.clap.specs.Walk.{first_of, rows_of};
@@ -16,13 +16,13 @@ use copy_csv::{Form, Sheet};
 use register_words::{form_of, number_within, sheet_of};
 use std::alloc::Global;
 
-/// How many connections a worker takes where it isn't said, and at most. This project's profile.
+/// How many connections a worker takes by default, and at most. This project's profile.
 const MOST_CONNECTIONS: u32 = 4_294_967_295;
 /// The greatest number of workers. This project's profile.
 const MOST_WORKERS: u32 = 64;
 /// The greatest port.
 const MOST_PORT: u32 = 65_535;
-/// The greatest number of records that are made up. This project's profile.
+/// The greatest number of generated records. This project's profile.
 const MOST_RECORDS: u32 = 100_000;
 
 /// A command of the program, with its text or number. This project's profile.
@@ -36,40 +36,40 @@ pub enum Command<'a> {
     Apply(Sheet, Form),
     /// To search the names of a copy of `lei` in this form.
     Search(Form),
-    /// To keep the three tables of a register up to date by its copies and deltas.
+    /// To keep the three tables of a register up to date from its copies and deltas.
     Mirror,
-    /// To report on the group of an entity by copies of `lei` and `rr` in this form. With `ALL` in place of an LEI, to
+    /// To report on the group of an entity from copies of `lei` and `rr` in this form. With `ALL` instead of an LEI, to
     /// report which parents disagree.
     Group(&'a str, Form),
     /// To say whether a text is a code.
     Check(&'a str),
-    /// To make the check digits of the first 18 characters of a code.
+    /// To compute the check digits for the first 18 characters of a code.
     Digits(&'a str),
-    /// To make up a register of so many records, and to tell what became of it.
+    /// To generate a register with this many records, and to report the result.
     Demo(u32),
 }
 
-/// What is wanted of the program: a command, and what it is done with. A path may be any text, the empty one too.
+/// What the program is asked to do: a command, and its arguments. A path may be any text, including the empty one.
 #[derive(Clone, Copy)]
 pub struct WantedRun<'a> {
     pub command: Command<'a>,
-    /// The path of the store of `lines` and `serve`; None where the register is in memory.
+    /// The path of the store of `lines` and `serve`; None if the register is in memory.
     pub store: Option<&'a str>,
     /// The path of the copy that `apply` patches, or of the copy of `lei` that `group` reads.
     pub first: Option<&'a str>,
-    /// The path of the delta by which `apply` patches it, of the copy that `search` opens, or of the copy of `rr` that
-    /// `group` reads.
+    /// The path of the delta that `apply` uses, of the copy that `search` opens, or of the copy of `rr` that `group`
+    /// reads.
     pub second: Option<&'a str>,
     /// The port of `serve`; at 0 the machine chooses one.
     pub port: u16,
-    /// How many workers answer requests at once.
+    /// How many workers answer requests at the same time.
     pub workers: u32,
     /// How many connections each of them takes.
     pub connections: u64,
 }
 
-/// What these words ask for, which are the program's words without its name. `clap` reads those behind the first, as
-/// the options and texts of the command that the first one names.
+/// What these words ask for: the program's words without its name. `clap` reads those after the first, as the options
+/// and texts of the command that the first one names.
 pub fn wanted<'a>(alloc: Global, words: &'a [String]) -> Result<WantedRun<'a>, WordsFault>
     ensures meant { Finds meaning (meant (map string_bytes words.now)) result }
     ensures range { IfOk result AreInRange }
@@ -172,7 +172,7 @@ fn wanted_demo<'a>(alloc: Global, words: &'a [String]) -> Result<WantedRun<'a>, 
     demo_of(&matches).ok_or(WordsFault::Usage)
 }
 
-// A command for which nothing else is asked.
+// A command without any further argument.
 fn only<'a>(command: Command<'a>) -> WantedRun<'a>
     ensures meant { meaning result ≡ only (invocation_of command.entry) }
     ensures command { result.command ≡ command.entry }

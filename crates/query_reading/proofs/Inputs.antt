@@ -33,7 +33,7 @@ texts_all says (Some want ∷ frames) (reply ∷ replies) same =
     let rest : length replies ≡ length (asks_of frames) = omega (arith, same) in
     ap (λ xs. query_bytes reply ++ xs) (texts_all says frames replies rest)
 
--- what was read in the place of the last is answered as what was meant may be
+-- what was read instead of the last is answered as what was meant may be
 abbrev pub AnswersAlike : {A Q H : Type 0} → Steps A (QueryAsked Q H) QueryReply → Type 0
 AnswersAlike {A} {Q} {H} step = (meant read : QueryAsked Q H) (old new : A) (moments : List ℤ) (reply : QueryReply)
     → ReadsAs meant read → step old read moments reply new → step old meant moments reply new

@@ -1,4 +1,4 @@
--- What was served, as it is for another answerer that does alike.
+-- What was served, as it is for another answerer that acts alike.
 use Rattle.std.proofs.Common.{ℕ, ℤ, List, [], ◌∷◌, ◌++◌, inl, inr, Option, None, Some, refl, sym, subst}
 use Rattle.request_loop.specs.Frames.{Rules, asks_of}
 use Rattle.request_loop.specs.Moments.{ClockGives}
@@ -11,7 +11,7 @@ use Rattle.request_loop.specs.declared.frames.Want.{Want}
 abbrev pub Steps : Type 0 → Type 0 → Type 0 → Type 1
 Steps A W P = A → W → List ℤ → P → A → Type 0
 
--- whatever is like the one before a step goes on, by a step of its own, to what is like the other
+-- whatever is like the state before a step goes, by its own step, to what is like the state after it
 abbrev pub DoesAlike : {A B W P : Type 0} → Steps A W P → (B → A → Type 0) → Steps B W P → Type 0
 DoesAlike {A} {B} {W} {P} step like other =
     (old new : A) (ask : W) (moments : List ℤ) (reply : P) (own : B) → like own old → step old ask moments reply new

@@ -16,7 +16,7 @@ use Rattle.query_reading.proofs.QueryFronts.{Grammars}
 abbrev IsOther : ℕ → Type 0
 IsOther byte = byte ≢ 10
 
--- a part before the first LF, and what comes after it
+-- a part before the first LF, and what follows it
 cut_once : (p q a b : List ℕ) → HasNoEnd p → HasNoEnd q → p ++ 10 ∷ a ≡ q ++ 10 ∷ b → (p ≡ q) × (a ≡ b)
 cut_once [] [] a b none other same = (refl, (let tails : a ≡ b = cc in tails))
 cut_once [] (y ∷ q) a b none other same = absurd (All-head IsOther y q other (let head : y ≡ 10 = cc in head))

@@ -43,9 +43,9 @@ are_meant {Q} {H} says meant read (inr (asked, is, takes, refused)) =
     (option_map wanted r) in
     subst R (sym refused) (subst M (sym is) (memory_meant says asked takes))
 
--- ---- a frame is whole
+-- ---- a frame is complete
 
--- nothing is held of what comes after it
+-- nothing is held of what follows it
 holds_rest : {Q H : Type 0} (says : Grammars Q H) (rest : List ℕ) → HoldsQuery says (FrameStage.Line 0) rest rest
 holds_rest says rest = (refl, omega arith, HasNoEnd-nil)
 
@@ -97,7 +97,7 @@ says_so {Q} {H} says line some short =
 
 -- ---- a line whose frame has no packet
 
--- one that is read as it stands
+-- a frame that is read as it is
 pub line_frame : {Q H : Type 0} (says : Grammars Q H) (held : List ℕ) (end : ℕ) (meaning : Option (LineMeaning Q H))
     (meant read : Option (QueryAsked Q H)) → end < length held → Ends held (take end held) (drop (end + 1) held)
     → said says (line_of (take end held)) ≡ meaning → packet_size meaning ≡ 0 → asked_with meaning [] ≡ meant
@@ -212,14 +212,14 @@ skipped_frame {Q} {H} says bytes held part after count size refusal want within 
     (subst E parts ends) (length-take-le size after whole ∙ sym (ap packet_size is)) (ap (λ m. asked_with m packet) is)
     (inl refl))
 
--- what is dropped of bytes after those that were dropped before
+-- what is dropped from bytes after those that were dropped before
 pub drop-after : (xs ys : List ℕ) (n : ℕ) → drop (length xs + n) (xs ++ ys) ≡ drop n ys
 drop-after [] ys n = let none : length {A = ℕ} [] + n ≡ n = omega arith in ap (λ k. drop k ys) none
 drop-after (x ∷ xs) ys n =
     let more : length (x ∷ xs) + n ≡ suc (length xs + n) = omega arith in
     ap (λ k. drop k (x ∷ (xs ++ ys))) more ∙ drop-after xs ys n
 
--- of a packet that is skipped all that is held was dropped
+-- of a packet that is skipped, all that is held was dropped
 pub skips_on : {Q H : Type 0} (says : Grammars Q H) (bytes held : List ℕ) (refusal : QueryRefusal) (left : ℕ)
     → length held < left → HoldsQuery says (FrameStage.Skipped refusal left) held bytes
     → ReadsMore (query_rules says) (HoldsQuery says (FrameStage.Skipped refusal
@@ -259,7 +259,7 @@ skips_on {Q} {H} says bytes held refusal left short (part, dropped, ends, is, so
 
 -- ---- lines that are too long
 
--- every list of bytes has an end of a line, or none
+-- every list of bytes has a line end, or none
 abbrev Parted : List ℕ → Type 0
 Parted bytes = HasNoEnd bytes ⊎ ((part : List ℕ) × (after : List ℕ) × Ends bytes part after)
 
@@ -280,7 +280,7 @@ parted (byte ∷ bytes) = elim (eqb_tells byte 10) [
     },
   )
 
--- the line goes on to the end of its own
+-- the line continues to its own end
 ends_after : (bytes dropped held part after : List ℕ) → bytes ≡ dropped ++ held → HasNoEnd dropped
     → Ends held part after
     → Ends bytes (dropped ++ part) after
@@ -313,7 +313,7 @@ long_ends {Q} {H} says bytes held end want (dropped, parts, none, long) ends wit
     (ends_after bytes dropped held (take end held) (drop (end + 1) held) parts none ends) (sym (ap packet_size is))
     (ap (λ m. asked_with m []) is) (inl refl))
 
--- ---- where the input ends
+-- ---- if the input ends
 
 long_asked : {Q H : Type 0} (says : Grammars Q H) (bytes dropped held : List ℕ) → bytes ≡ dropped ++ held
     → HasNoEnd dropped → query_limit + 1 < length dropped → Parted held

@@ -1,4 +1,4 @@
--- What an input asks, and what is answered to it.
+-- What an input asks, and the replies to it.
 use Rattle.std.specs.Prelude.{◌≡◌, ℕ, ℤ, List, [], ◌∷◌, ◌++◌, Option, option_map}
 use Rattle.lei_outside.specs.Told.{Grows}
 use Rattle.request_loop.specs.Frames.{Frames, asks_of}
@@ -13,7 +13,7 @@ use Rattle.query_reading.specs.declared.asked.QueryAsked.{QueryAsked}
 use Rattle.query_reading.specs.declared.grammar.LineMeaning.{LineMeaning}
 use Rattle.query_reading.specs.declared.reply.QueryReply.{QueryReply}
 
--- These bytes ask this, in order: first their whole frames, one after the other, and then the line that is left, which
+-- These bytes ask this, in order: first their complete frames, one after another, and then the line that is left, which
 -- lacks its end or a part of its packet.
 pub record AsksInOrder {Q H : Type 0} (says : Line → LineMeaning Q H) (bytes : List ℕ)
     (asks : List (QueryAsked Q H)) : Type 0 where
@@ -25,8 +25,8 @@ pub record AsksInOrder {Q H : Type 0} (says : Line → LineMeaning Q H) (bytes :
   pub line_is : IsFirstLine rest line
   pub asks_are : asks ≡ asks_of (frames ++ option_map wanted (asked_at_end (said says line)) ∷ [])
 
--- All that these bytes ask was answered, in order, by steps from one state of the answerer to another. What was written
--- are the bytes of the replies, in order.
+-- All that these bytes ask was answered, in order, by steps from one state of the answerer to another. The written
+-- bytes are those of the replies, in order.
 pub record AnswersInput {A Q H : Type 0} (step : A → QueryAsked Q H → List ℤ → QueryReply → A → Type 0)
     (says : Line → LineMeaning Q H) (old : A) (written : Option (List ℕ)) (bytes : List ℕ) (new : A)
     (written_now : Option (List ℕ)) : Type 0 where

@@ -9,20 +9,21 @@ use Rattle.query_reading.specs.declared.refusal.QueryRefusal.TheVariants.{NoMemo
 abbrev pub query_limit : ℕ
 query_limit = 4_096
 
--- What a line says by a grammar: an empty line nothing, and a line that is too long is refused, whatever stands in it.
+-- What a line says by a grammar: an empty line says nothing, and a line that is too long is refused, whatever it
+-- contains.
 abbrev pub said : {Q H : Type 0} → (Line → LineMeaning Q H) → Line → Option (LineMeaning Q H)
 said says line =
     if length line == 0 then None
     else (if nat_lt query_limit (length line) then Some (LineMeaning.Refused TooLong) else Some (says line))
 
--- A query that is whole by itself.
+-- A query without a packet.
 abbrev pub IsWhole : {Q H : Type 0} → LineMeaning Q H → Type 0
 IsWhole (LineMeaning.Refused refusal) = ⊥
 IsWhole (LineMeaning.Query query) = Unit {0}
 IsWhole (LineMeaning.Packet head size) = ⊥
 IsWhole (LineMeaning.Skipped refusal size) = ⊥
 
--- What a line says was read; or it is a query that is whole by itself, and memory ran out, which is its refusal.
+-- What a line says was read; or it is a query without a packet, and memory ran out, which is its refusal.
 abbrev pub IsMeaning : {Q H : Type 0} → (Line → LineMeaning Q H) → Line → Option (LineMeaning Q H) → Type 0
 IsMeaning says line read =
     (read ≡ said says line)
@@ -37,8 +38,7 @@ packet_size (Some (LineMeaning.Query query)) = 0
 packet_size (Some (LineMeaning.Packet head size)) = size
 packet_size (Some (LineMeaning.Skipped refusal size)) = size
 
--- What is asked by a line that says this, if these bytes are its packet. A packet that is skipped is looked at by
--- nobody.
+-- What is asked by a line that says this, if these bytes are its packet. Nobody reads a packet that is skipped.
 abbrev pub asked_with : {Q H : Type 0} → Option (LineMeaning Q H) → List ℕ → Option (QueryAsked Q H)
 asked_with None packet = None
 asked_with (Some (LineMeaning.Refused refusal)) packet = Some (QueryAsked.Refuse refusal)

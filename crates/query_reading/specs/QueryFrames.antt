@@ -13,13 +13,13 @@ use Rattle.query_reading.specs.declared.refusal.QueryRefusal.TheVariants.{NoMemo
 use Rattle.query_reading.specs.declared.reply.QueryReply.{QueryReply}
 use Rattle.query_reading.specs.declared.stage.FrameStage.{FrameStage}
 
--- What is asked, where the session goes on after the reply.
+-- What is asked, if the session continues after the reply.
 abbrev pub wanted : {Q H : Type 0} → QueryAsked Q H → Want (QueryAsked Q H) NoEnd
 wanted what = record { asked = what; ends = None }
 
 -- ---- frames
 
--- The bytes begin with a line, its end and its packet, which want this or nothing, and go on with the rest.
+-- The bytes start with a line, its end and its packet, which want this or nothing, and the rest follows.
 pub record IsQueryFrame {Q H : Type 0} (says : Line → LineMeaning Q H) (bytes : List ℕ)
     (frame : Option (Want (QueryAsked Q H) NoEnd)) (rest : List ℕ) : Type 0 where
   pub part : List ℕ
@@ -28,14 +28,14 @@ pub record IsQueryFrame {Q H : Type 0} (says : Line → LineMeaning Q H) (bytes 
   pub size : length packet ≡ packet_size (said says (line_of part))
   pub frame_is : frame ≡ option_map wanted (asked_with (said says (line_of part)) packet)
 
--- The bytes begin with a line and its end, and fewer bytes follow than are its packet.
+-- The bytes start with a line and its end, and fewer bytes follow than its packet has.
 pub record LacksPacket {Q H : Type 0} (says : Line → LineMeaning Q H) (bytes : List ℕ) : Type 0 where
   pub part : List ℕ
   pub after : List ℕ
   pub ends : Ends bytes part after
   pub short : length after < packet_size (said says (line_of part))
 
--- The bytes begin a line that has no end yet, or a packet isn't whole yet.
+-- The bytes are the start of a line that has no end yet, or a packet isn't complete yet.
 abbrev pub IsBegun : {Q H : Type 0} → (Line → LineMeaning Q H) → List ℕ → Type 0
 IsBegun says bytes = HasNoEnd bytes ⊎ LacksPacket says bytes
 
@@ -45,30 +45,30 @@ IsFirstLine bytes line =
     (HasNoEnd bytes × (line ≡ bytes))
     ⊎ ((part : List ℕ) × (after : List ℕ) × Ends bytes part after × (line ≡ line_of part))
 
--- ---- want of memory
+-- ---- lack of memory
 
--- It takes memory to read: each query and each packet may.
+-- Reading it takes memory: each query and each packet may.
 abbrev pub TakesMemory : {Q H : Type 0} → QueryAsked Q H → Type 0
 TakesMemory (QueryAsked.Refuse refusal) = ⊥
 TakesMemory (QueryAsked.Query query) = Unit {0}
 TakesMemory (QueryAsked.Packet head packet) = Unit {0}
 
--- Where there is no memory to read what the first asks, the refusal for that is read in its place.
+-- If memory to read what the first asks runs out, the refusal for that is read instead.
 abbrev pub ReadsAs : {Q H : Type 0} → QueryAsked Q H → QueryAsked Q H → Type 0
 ReadsAs meant read = TakesMemory meant × (read ≡ QueryAsked.Refuse NoMemory)
 
--- What is asked was read so, if anything is.
+-- What is asked was read like this, if anything is asked.
 abbrev pub IsReadAs : {Q H : Type 0} → Option (QueryAsked Q H) → Option (QueryAsked Q H) → Type 0
 IsReadAs {Q} {H} meant read =
     (read ≡ meant)
     ⊎ ((asked : QueryAsked Q H) × (meant ≡ Some asked) × TakesMemory asked
     × (read ≡ Some (QueryAsked.Refuse NoMemory)))
 
--- Where the input ends with these bytes, of which no frame is whole, their one line asks this.
+-- If the input ends with these bytes, which have no complete frame, their only line asks this.
 abbrev pub EndsAsked : {Q H : Type 0} → (Line → LineMeaning Q H) → List ℕ → Option (QueryAsked Q H) → Type 0
 EndsAsked says bytes read = (line : Line) × IsFirstLine bytes line × IsReadAs (asked_at_end (said says line)) read
 
--- And it wants that.
+-- The same, with what is asked as a want.
 abbrev pub EndsInput : {Q H : Type 0} → (Line → LineMeaning Q H) → List ℕ
     → Option (Want (QueryAsked Q H) NoEnd) → Type 0
 EndsInput {Q} {H} says bytes frame =
@@ -87,7 +87,7 @@ query_rules says = record {
   text = λ want reply. query_bytes reply;
 }
 
--- A whole frame stays one where more bytes come after it.
+-- A complete frame stays complete if more bytes come after it.
 pub query_whole_on : {Q H : Type 0} (says : Line → LineMeaning Q H) (bytes rest more : List ℕ)
     (frame : Option (Want (QueryAsked Q H) NoEnd)) → IsQueryFrame says bytes frame rest
     → IsQueryFrame says (bytes ++ more) frame (rest ++ more)
@@ -104,10 +104,11 @@ query_whole_on says bytes rest more frame is = record {
   frame_is = is.frame_is;
 }
 
--- ---- what is held of a frame that isn't whole
+-- ---- what is held of an incomplete frame
 
--- The bytes since the last frame are held up to here, by how far the frame was read: all of them; of a line that is too
--- long those after a front that was dropped; of a packet all; of one that is skipped those after a front.
+-- The bytes since the last frame are held up to here, depending on how far the frame was read. In a line all of them
+-- are held; in a line that is too long, those after a front that was dropped; in a packet, all of it; in a skipped
+-- packet, those after a front.
 abbrev pub HoldsQuery : {Q H : Type 0} → (Line → LineMeaning Q H) → FrameStage H → List ℕ → List ℕ → Type 0
 HoldsQuery says (FrameStage.Line seen) held bytes =
     (held ≡ bytes) × (seen ≤ length held) × HasNoEnd (take seen held)

@@ -3,7 +3,7 @@ use Rattle.std.specs.Prelude.{ℕ, List, [], ◌∷◌, ◌++◌, codes, decimal
 use Rattle.query_reading.specs.declared.refusal.QueryRefusal.{QueryRefusal}
 use Rattle.query_reading.specs.declared.refusal.QueryRefusal.TheVariants.{TooLong, NoRoute, Path, NoWord, TooManyWords, Truncated, DeltaNotRead, WrongBase, OlderDelta, NothingHeld, NotRead, MirrorFull, NoMemory}
 
--- The status code of a refusal, after those of HTTP (RFC 9110).
+-- The status code of a refusal, following HTTP (RFC 9110).
 abbrev pub query_code : QueryRefusal → ℕ
 query_code TooLong = 413
 query_code NoRoute = 404
@@ -35,7 +35,7 @@ query_name NotRead = codes "NOT_READ"
 query_name MirrorFull = codes "MIRROR_FULL"
 query_name NoMemory = codes "NO_MEMORY"
 
--- What stands after the name: of a wrong base both numbers, the one that is held and the one that the delta goes from.
+-- What follows the name: for a wrong base both numbers, the one that is held and the one that the delta starts from.
 abbrev pub query_numbers : QueryRefusal → List ℕ
 query_numbers TooLong = []
 query_numbers NoRoute = []

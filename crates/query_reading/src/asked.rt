@@ -1,14 +1,14 @@
-//! What is asked.
+//! What queries ask.
 use crate::refusal::QueryRefusal;
 use lei_outside::Shared;
 
-/// What is asked by a line, and by the packet that comes after it if it announces one.
+/// What is asked by a line, and by the packet after it if the line announces one.
 #[derive(Drop)]
 pub enum QueryAsked<Q, H> {
-    /// The line was refused as it was read.
+    /// The line was refused when it was read.
     Refuse(QueryRefusal),
-    /// A query that is whole by itself.
+    /// A query without a packet.
     Query(Q),
-    /// What the line says of its packet, and the bytes of this.
+    /// What the line says of its packet, and the packet's bytes.
     Packet(H, Shared),
 }

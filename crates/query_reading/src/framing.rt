@@ -18,19 +18,19 @@ use line_reading::{NoEnd, WriteBuffer, line_of, next_end};
 use request_loop::{Framing, Front, Want, Wire};
 use std::alloc::Global;
 
-/// Cuts an input into lines and the packets that they announce, by a grammar. A line that is too long isn't held, and
-/// no packet that is refused. While it waits for a packet it only counts bytes.
+/// Cuts an input into lines and the packets that they announce, by a grammar. A line that is too long isn't held, nor
+/// is a packet that is refused. While the framing waits for a packet it only counts bytes.
 #[derive(Drop)]
 pub struct QueryFraming<G: Grammar> {
     pub alloc: Global,
     pub grammar: G,
-    /// How far the frame was read that isn't whole yet.
+    /// How far the incomplete frame was read.
     pub stage: FrameStage<G::Head>,
     /// The reply that is being written.
     pub reply: WriteBuffer,
 }
 
-// What stands at the front of bytes, by the queries and the packets of a grammar.
+// What is at the front of bytes, by the queries and the packets of a grammar.
 type QueryFront<G> = Front<QueryAsked<<G as Grammar>::Query, <G as Grammar>::Head>, NoEnd>;
 
 impl<G: Grammar> QueryFraming<G> {
@@ -51,7 +51,7 @@ impl<G: Grammar> QueryFraming<G> {
         })
     }
 
-    // Reads on in a line, of which so many bytes were searched for its end.
+    // Continues a line. This many of its bytes were already searched for its end.
     fn read_line(&mut self, held: &[u8], seen: usize) -> QueryFront<G>
         ensures { (bytes : List ℕ) → HoldsQuery G.says (Stages.Line seen) held.now bytes
             → ReadsFront (query_rules G.says) (HoldsQuery G.says self.new.stage) [] bytes held.now result }
@@ -62,7 +62,7 @@ impl<G: Grammar> QueryFraming<G> {
         }
     }
 
-    // Waits for the end of a line that these bytes begin.
+    // Waits for the end of a line that starts with these bytes.
     fn wait(&mut self, held: &[u8]) -> QueryFront<G>
         ensures { HasNoEnd held.now
             → ReadsFront (query_rules G.says) (HoldsQuery G.says self.new.stage) [] held.now held.now result }
@@ -97,7 +97,7 @@ impl<G: Grammar> QueryFraming<G> {
         }
     }
 
-    // Reads the packet of so many bytes that comes after the line that ends there, or waits for it.
+    // Reads the packet of this many bytes after the line that ends there, or waits for it.
     fn begin_packet(&mut self, held: &[u8], end: usize, head: G::Head, size: usize) -> QueryFront<G>
         requires within { end < length held.now }
         ensures { Ends held.now (take end held.now) (drop (end + 1) held.now)
@@ -114,7 +114,7 @@ impl<G: Grammar> QueryFraming<G> {
         Front::Whole(Some(want_of(asked)), end + 1 + size)
     }
 
-    // Skips the packet of so many bytes that comes after the line that ends there, as far as it is held.
+    // Skips the packet of this many bytes after the line that ends there, or the part of it that is held.
     fn begin_skipped(
         &mut self,
         held: &[u8],
@@ -136,7 +136,7 @@ impl<G: Grammar> QueryFraming<G> {
         Front::Whole(Some(want_of(QueryAsked::Refuse(refusal))), end + 1 + size)
     }
 
-    // Reads on in a line that is too long.
+    // Continues a line that is too long.
     fn skip_line(&mut self, held: &[u8]) -> QueryFront<G>
         requires { self.old.stage ≡ Stages.LongLine }
         ensures { (bytes : List ℕ) → HoldsQuery G.says Stages.LongLine held.now bytes
@@ -154,7 +154,7 @@ impl<G: Grammar> QueryFraming<G> {
         }
     }
 
-    // Reads on in a packet of so many bytes.
+    // Continues a packet of this many bytes.
     fn read_packet(&mut self, held: &[u8], head: G::Head, size: usize) -> QueryFront<G>
         requires { self.old.stage ≡ Stages.Packet head size }
         ensures { (bytes : List ℕ) → HoldsQuery G.says (Stages.Packet head size) held.now bytes
@@ -168,7 +168,7 @@ impl<G: Grammar> QueryFraming<G> {
         Front::Whole(Some(want_of(asked)), size)
     }
 
-    // Reads on in a packet that is refused, of which so many bytes are left.
+    // Continues a refused packet, with this many bytes left.
     fn skip_packet(&mut self, held: &[u8], refusal: QueryRefusal, left: usize) -> QueryFront<G>
         ensures { (bytes : List ℕ) → HoldsQuery G.says (Stages.Skipped refusal left) held.now bytes
             → ReadsFront (query_rules G.says) (HoldsQuery G.says self.new.stage) [] bytes held.now result }
@@ -181,7 +181,7 @@ impl<G: Grammar> QueryFraming<G> {
         Front::Whole(Some(want_of(QueryAsked::Refuse(refusal))), left)
     }
 
-    // What is asked by the line of which the first so many bytes have no end, where the input ends.
+    // What the last line asks, if the input ends. Its end isn't among this many first bytes.
     fn last_of(&self, held: &[u8], seen: usize) -> Option<QueryAsked<G::Query, G::Head>>
         ensures { (bytes : List ℕ) → HoldsQuery G.says (Stages.Line seen) held.now bytes
             → EndsAsked G.says bytes result }
@@ -191,7 +191,7 @@ impl<G: Grammar> QueryFraming<G> {
     }
 }
 
-// The first line of the bytes, of which the first so many have no end.
+// The first line of the bytes. Its end isn't among this many first bytes.
 fn first_line(held: &[u8], seen: usize) -> &[u8]
     requires { seen ≤ length held.now }
     ensures { HasNoEnd (take seen held.now) → IsFirstLine held.now result.now }
@@ -202,7 +202,7 @@ fn first_line(held: &[u8], seen: usize) -> &[u8]
     }
 }
 
-// What a line says, if it isn't empty. Where there is no memory to read it, it is refused.
+// What a line says, if it isn't empty. If memory to read it runs out, it is refused.
 fn meaning_of<G: Grammar>(
     grammar: &G,
     alloc: Global,
@@ -222,7 +222,7 @@ fn meaning_of<G: Grammar>(
     }
 }
 
-// What is asked by a line that says this, where the input ends before its packet does.
+// What is asked by a line that says this, if the input ends before its packet does.
 fn asked_last<Q: Drop, H: Copy>(meaning: Option<LineMeaning<Q, H>>) -> Option<QueryAsked<Q, H>>
     ensures { result ≡ asked_at_end meaning }
 {
@@ -235,7 +235,7 @@ fn asked_last<Q: Drop, H: Copy>(meaning: Option<LineMeaning<Q, H>>) -> Option<Qu
     }
 }
 
-// What is asked by a packet, whose bytes are copied once. Where there is no memory for that, its refusal.
+// What is asked by a packet, whose bytes are copied once. If memory for that runs out, its refusal.
 fn packet_of<Q: Drop, H: Copy>(alloc: Global, head: H, packet: &[u8]) -> QueryAsked<Q, H>
     ensures { (result ≡ Asking.Packet head packet.now) ⊎ (result ≡ Asking.Refuse Refusing.NoMemory) }
 {
@@ -245,7 +245,7 @@ fn packet_of<Q: Drop, H: Copy>(alloc: Global, head: H, packet: &[u8]) -> QueryAs
     }
 }
 
-// What is wanted where this is asked.
+// What is wanted if this is asked.
 fn want_of<Q: Drop, H: Copy>(asked: QueryAsked<Q, H>) -> Want<QueryAsked<Q, H>, NoEnd>
     ensures { result ≡ wanted asked }
 {

@@ -1,4 +1,4 @@
-//! What lines say.
+//! The meaning of lines.
 ghost use Rattle.std.specs.Prelude.{◌≡◌, ℕ, List, IfOk, OnErr};
 ghost use Rattle.query_reading.specs.Meanings.{IsWhole};
 ghost use Rattle.query_reading.specs.declared.grammar.LineMeaning.{LineMeaning as Meaning};
@@ -10,30 +10,30 @@ use std::alloc::Global;
 /// The greatest length of a line, without its end, in bytes. This project's profile.
 pub const MAX_QUERY: usize = 4_096;
 
-/// What a line says, of queries of type `Q` and of packets that the line says `H` of.
+/// What a line says, with queries of type `Q`, and with `H` for what the line says of its packet.
 #[derive(Drop)]
 pub enum LineMeaning<Q, H> {
     /// It is refused.
     Refused(QueryRefusal),
-    /// A query that is whole by itself.
+    /// A query without a packet.
     Query(Q),
-    /// So many bytes follow the line's end.
+    /// This many bytes follow the line's end.
     Packet(H, usize),
-    /// It is refused, and so many bytes that follow the line's end are skipped.
+    /// It is refused, and this many bytes after the line's end are skipped.
     Skipped(QueryRefusal, usize),
 }
 
-/// A grammar: what a line says that isn't empty and not too long.
+/// A grammar: what a line says, if it isn't empty or too long.
 pub trait Grammar: Drop {
     type Query: Drop;
 
-    /// What a line says of the packet that it announces, but for its size.
+    /// What a line says of the packet that it announces, except for its size.
     type Head: Copy;
 
     /// What a line says.
     ghost says: { List ℕ → Meaning Self.Query Self.Head };
 
-    /// Reads a line, without its end. Its one error is want of memory for a query that is whole by itself.
+    /// Reads a line, without its end. The only error is lack of memory for a query without a packet.
     fn read(
         &self,
         alloc: Global,

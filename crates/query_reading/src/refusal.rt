@@ -5,27 +5,27 @@
 pub enum QueryRefusal {
     /// The line is too long.
     TooLong,
-    /// The line's first word is none of those that are known.
+    /// The line's first word isn't a known one.
     NoRoute,
-    /// A word of the line is missing, too many or of another form, or the line isn't UTF-8.
+    /// The line has too few or too many words or a word of another form, or it isn't UTF-8.
     Path,
-    /// The text that is looked for has no word.
+    /// The search text has no word.
     NoWord,
-    /// The text that is looked for has too many words.
+    /// The search text has too many words.
     TooManyWords,
     /// The input ends before the packet does.
     Truncated,
-    /// The packet is no delta of the sheet and the form that are wanted.
+    /// The packet isn't a delta of the required sheet and form.
     DeltaNotRead,
-    /// The number of the publication that is held, and the other one that the delta goes from.
+    /// The number of the publication that is held, and the different one that the delta starts from.
     WrongBase(u32, u32),
     /// The delta lacks columns that are held.
     OlderDelta,
     /// Nothing is held yet that could be shown.
     NothingHeld,
-    /// The packet is no copy, or no delta, of the table that the line names.
+    /// The packet isn't a copy or a delta of the table that the line names.
     NotRead,
-    /// The packet would be kept, and there is no room for it.
+    /// The packet would have to be kept, and there is no room for it.
     MirrorFull,
     /// Memory ran out.
     NoMemory,
@@ -35,7 +35,7 @@ impl QueryRefusal {
     ghost use Rattle.std.specs.Prelude.{◌≡◌};
     ghost use Rattle.query_reading.specs.Refusals.{query_code, query_name};
 
-    /// The status code of its reply, after those of HTTP (RFC 9110).
+    /// The status code of its reply, following HTTP (RFC 9110).
     pub fn status_code(self) -> u16
         ensures { result ≡ query_code self }
     {

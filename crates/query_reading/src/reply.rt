@@ -1,13 +1,13 @@
-//! What is answered.
+//! The replies to queries.
 use crate::refusal::QueryRefusal;
 use lei_outside::Bytes;
 
-/// What is answered to a query.
+/// The reply to a query.
 #[derive(Debug, PartialEq, Eq, Drop)]
 pub enum QueryReply {
     /// A text of one line.
     Text(Bytes),
-    /// A text of many lines, before which the number of its bytes stands.
+    /// A text of many lines, preceded by the number of its bytes.
     File(Bytes),
     Refused(QueryRefusal),
 }

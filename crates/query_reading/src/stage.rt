@@ -1,15 +1,15 @@
-//! How far a frame was read that isn't whole yet.
+//! How far an incomplete frame was read.
 use crate::refusal::QueryRefusal;
 
-/// How far the frame was read that isn't whole yet.
+/// How far an incomplete frame was read.
 #[derive(Clone, Copy)]
 pub enum FrameStage<H> {
-    /// In its line. So many of the held bytes have no line's end.
+    /// In its line. This many of the held bytes were searched, and have no line end.
     Line(usize),
     /// In its line, which is too long and isn't held.
     LongLine,
-    /// In its packet, of so many bytes. The line isn't held any more.
+    /// In its packet, which has this many bytes. The line is no longer held.
     Packet(H, usize),
-    /// In a packet that is refused and isn't held, of which so many bytes are left.
+    /// In a packet that is refused and isn't held, with this many bytes left.
     Skipped(QueryRefusal, usize),
 }

@@ -1,4 +1,4 @@
-//! Replies as they are written.
+//! The writing of replies.
 ghost use Rattle.std.specs.Prelude.{◌≡◌, [], ◌∷◌, ◌++◌, decimal, IsErrOf};
 ghost use Rattle.lei_outside.specs.Faults.{FailsLast};
 ghost use Rattle.lei_outside.specs.Links.{told_by};
@@ -13,7 +13,7 @@ use lei_outside::SinkFault;
 use line_reading::{WriteBuffer, put_all};
 use request_loop::Wire;
 
-/// Writes a reply, by one write where it fits in a block.
+/// Writes a reply, in one write if it fits into a block.
 pub fn send_query_reply<L: Wire>(
     buffer: &mut WriteBuffer,
     link: &mut L,
@@ -32,7 +32,7 @@ pub fn send_query_reply<L: Wire>(
     buffer.flush(link)
 }
 
-// Puts a reply: its status code, a space, its text or its refusal in words, and the end of the line.
+// Appends a reply: its status code, a space, its text or its refusal in words, and the end of the line.
 #[tactic(auto, unfolding(crate::specs::Replies::query_bytes))]
 fn put_reply<L: Wire>(
     buffer: &mut WriteBuffer,
@@ -63,7 +63,7 @@ fn put_reply<L: Wire>(
     }
 }
 
-// Puts a refusal in words, with its status code before it.
+// Appends a refusal in words, with its status code before it.
 fn put_refusal<L: Wire>(
     buffer: &mut WriteBuffer,
     link: &mut L,

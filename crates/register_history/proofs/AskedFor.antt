@@ -1,4 +1,4 @@
--- Stored entries and the requests that they were taken for.
+-- Stored entries and the requests that they were made for.
 use Rattle.std.proofs.Common.{◌≡◌, ◌⊎◌, inl, inr, nat_lt, ℕ, ◌+◌, ℤ, List, [], length, codes, Bool, true, false, cond, ◌&&◌, ◌||◌, ◌==◌, is_none, Option, Some, None, Result, Ok, Err, refl, sym, ap, subst, ◌∙◌, arith}
 use Rattle.std.proofs.lemmas.Bool.Decides.{nat_tests}
 use Rattle.std.proofs.lemmas.Int.{ints}
@@ -62,7 +62,7 @@ upload_adds office call terms e is = short_adds (nat_lt office.limits.body (leng
 
 -- ---- requests of entries
 
--- an entry of one of the kinds was taken for that request
+-- an entry of one of the kinds was made for the request
 abbrev IsOneOf : (one two three : Bool) (a b c request : Request) → Type 0
 IsOneOf one two three a b c request =
     ((one ≡ true) × (request ≡ a)) ⊎ ((one ≡ false) × (two ≡ true) × (request ≡ b)) ⊎ ((one ≡ false) × (two ≡ false) × (three ≡ true) × (request ≡ c))
@@ -76,12 +76,12 @@ one_of false false false a b c request is = cc
 abbrev call_of : KeptEntry → Call
 call_of e = record { office = e.office; number = e.number; body = e.body }
 
--- the requests that entries of a kind were taken for
+-- the requests that entries of a kind were made for
 of_kind : (e : KeptEntry) (request : Request) → request_of e ≡ Some request
     → IsOneOf (e.kind == 1) (e.kind == 2) (e.kind == 3) (Accredit e.office) (Upload (call_of e)) (Publish e.number) request
 of_kind e request is = one_of (e.kind == 1) (e.kind == 2) (e.kind == 3) (Accredit e.office) (Upload (call_of e)) (Publish e.number) request is
 
--- what is next has the next number
+-- an entry that is next has the next number
 pub next-seq : (limits : Limits) (before : History) (e : KeptEntry) → IsNext (office_of limits before) e → e.seq ≡ length before + 1
 next-seq limits before e next =
     let office = office_of limits before in
@@ -109,7 +109,7 @@ number_is number is =
 moment_is : (seconds : ℤ) → IsMoment seconds → is_moment seconds ≡ true
 moment_is seconds is = grind (arith, ints)
 
--- what is next was taken for the request that is read of it
+-- a next entry was made for the request that is read from it
 pub asked-next : (office : OfficeState) (e : KeptEntry) (next : IsNext office e) → asked_by office.history e ≡ Some next.0
 unfolding asked_by
 asked-next office e next =
@@ -176,7 +176,7 @@ asked-follows before e request is = by_tests (is_moment e.moment) (may_follow be
 same_some : {X : Type 0} (x y : X) → Some x ≡ Some y → x ≡ y
 same_some x y is = cc
 
--- an entry that is none of a request
+-- an entry that belongs to no request
 pub none-asked : (office : OfficeState) (e : KeptEntry) → asked_by office.history e ≡ None → (IsNext office e → ⊥) × (codes "NOT_AN_ENTRY" ≡ replayed office e)
 none-asked office e none = (
   λ next. let bad : None ≡ Some next.0 = sym none ∙ asked-next office e next in cc,

@@ -1,4 +1,4 @@
--- How what is answered to the request of an entry begins: never as the line of an entry does, by a digit.
+-- How the answer to the request of an entry starts: never with a digit, as the line of an entry does.
 use Rattle.std.proofs.Common.{◌≡◌, ℕ, ◌+◌, ◌-◌, ◌<◌, ◌==◌, ◌||◌, ltb, leb, Bool, true, false, cond, List, [], ◌∷◌, ◌++◌, length, filter, find, slice_get, bytes_eq, is_some, zero, suc, Option, Some, None, option_map, Result, Ok, Err, refl, sym, subst, append_assoc, append-nil, arith}
 use Rattle.std.specs.List.{AllByRecursion}
 use Rattle.lei_code.specs.Texts.{Body, Lei, Text}
@@ -24,15 +24,15 @@ use Rattle.register_history.proofs.EntryLines.{first}
 use Rattle.register_history.proofs.KeptLemmas.{all-push}
 use Rattle.register_history.specs.declared.terms.EntryTerms.{EntryTerms}
 
--- the text begins with a byte behind the digits
+-- the first byte of the text is greater than the digits
 abbrev pub IsApart : List ℕ → Type 0
 IsApart text = 57 < first text
 
--- so does the answer of each entry
+-- the same for the answer of each entry
 abbrev pub AreApart : History → Type 0
 AreApart history = AllByRecursion (λ e. IsApart e.answer) history
 
--- ---- refusals begin with a letter
+-- ---- refusals start with a letter
 
 malformed-apart : (fault : Malformed) → IsApart (refusal_words (refusals.Malformed fault))
 malformed-apart NotJson = omega arith
@@ -46,12 +46,12 @@ refusal-apart refusal = omega arith
 
 -- ---- what is found in a history
 
--- the answer that is told again, where one is
+-- the answer that is given again, if there is one
 abbrev FoundApart : Option Text → Type 0
 FoundApart None = Unit {0}
 FoundApart (Some text) = IsApart text
 
--- the entry whose answer is told again, where one is
+-- the entry whose answer is given again, if there is one
 abbrev EntryApart : Option KeptEntry → Type 0
 EntryApart None = Unit {0}
 EntryApart (Some e) = IsApart e.answer
@@ -79,14 +79,14 @@ get-apart [] place apart = tt
 get-apart (e ∷ history) zero apart = apart.0
 get-apart (e ∷ history) (suc place) apart = get-apart history place apart.1
 
--- the entry of a number
+-- the entry with a number
 numbered-apart : (entries : History) (number : ℕ) → AreApart entries → EntryApart (numbered entries number)
 numbered-apart entries number apart = elim (number == 0) as (λ b. EntryApart (cond b None (slice_get entries (number - 1)))) [
   | true ↦ tt
   | false ↦ get-apart entries (number - 1) apart
 ]
 
--- what is told again of a place
+-- what is answered again for a place
 abbrev PlaceApart : Place → Type 0
 PlaceApart (repeat_of answer) = IsApart answer
 PlaceApart place = Unit {0}
@@ -109,16 +109,16 @@ place-apart history issuer number body apart =
     by_tests true false true = tt
     by_tests true false false = tt
 
--- ---- the request of an entry, and what comes of it
+-- ---- the request of an entry, and its outcome
 
--- the entry has the kind, the office, the number and the body of the request that it was taken for
+-- the entry has the kind, the office, the number and the body of the request that it was made for
 abbrev pub IsFor : Request → KeptEntry → Type 0
 IsFor (Accredit issuer) e = (e.kind ≡ 1) × (e.office ≡ issuer) × (e.number ≡ 0) × (e.body ≡ [])
 IsFor (Upload call) e = (e.kind ≡ 2) × (e.office ≡ call.office) × (e.number ≡ call.number) × (e.body ≡ call.body)
 IsFor (Publish number) e = (e.kind ≡ 3) × (e.office ≡ []) × (e.number ≡ number) × (e.body ≡ [])
 IsFor request e = ⊥
 
--- the request is one that an entry was taken for
+-- the request is one that an entry is made for
 abbrev pub IsTaken : Request → Type 0
 IsTaken (Accredit issuer) = Unit {0}
 IsTaken (Upload call) = Unit {0}
@@ -133,7 +133,7 @@ pub record IsMade (office : OfficeState) (request : Request) (terms : EntryTerms
   pub of_rules : e.rules ≡ terms.rules
   pub apart : IsApart e.answer
 
--- what comes of a request: an entry that is made for it, or a reply
+-- the outcome of a request: an entry that is made for it, or a reply
 abbrev pub Comes : OfficeState → Request → EntryTerms → Outcome → Type 0
 Comes office request terms (stays reply) = IsApart (reply_words reply)
 Comes office request terms (adds e) = IsMade office request terms e
@@ -230,7 +230,7 @@ legal-after limits before (e ∷ rest) legal apart =
     let pushed = all-push (λ e. IsApart e.answer) before e apart (next-apart limits before e apart legal.0) in
     subst AreApart (append_assoc before (e ∷ []) rest) (legal-after limits (before ++ e ∷ []) rest legal.1 pushed)
 
--- each answer of a legal history begins so
+-- each answer of a legal history starts like this
 pub legal-apart : (limits : Limits) (history : History) → Legal (office_of limits history) → AreApart history
 unfolding Legal
 legal-apart limits history legal = legal-after limits [] history legal tt

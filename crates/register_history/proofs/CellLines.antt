@@ -1,4 +1,4 @@
--- What the line of a cell tells of it.
+-- What the line of a cell shows of it.
 use Rattle.std.proofs.Common.{◌≡◌, ℕ, List, ◌∷◌, ◌++◌, decimal, sym, refl, ◌∙◌, arith}
 use Rattle.std.proofs.lemmas.Fmt.{decimal_injective}
 use Rattle.lei_outside.specs.declared.keeper.KeptCell.{KeptCell}
@@ -9,7 +9,7 @@ use Rattle.register_history.proofs.EntryLines.{all-digits, past, until_space}
 abbrev ended : KeptCell → List ℕ
 ended cell = decimal cell.touched ++ 32 ∷ row_word cell.row
 
--- behind a kind and a name
+-- after a kind and a name
 abbrev led : ℕ → List ℕ → List ℕ → List ℕ
 led kind name text = decimal kind ++ 32 ∷ (name ++ 32 ∷ text)
 

@@ -106,7 +106,7 @@ sorted-made last (e ∷ es) all sorted = both _ _ (below-made last e es all.0 al
 
 -- ---- what is found
 
--- under the place of a key is found what the register has under the key
+-- the place of a key has what the register has under the key
 find-made : (last : ℕ) (key : RowKey) (es : List (KeyTexts × Cell)) → IsKey key → EachStands last es
     → find (slice_cmp nat_cmp) (place_in (cell_key key)) (map in_place es) ≡ option_map (content key) (find key_cmp (cell_key key) es)
 unfolding in_place
@@ -125,7 +125,7 @@ find-made last key (e ∷ es) is all =
       | false ↦ λ _. more
     ] refl
 
--- a place under which something is found is that of a key
+-- a place that has something is that of a key
 only-made : (last : ℕ) (place : CellPlace) (kept : CellContent) (es : List (KeyTexts × Cell)) → EachStands last es → find (slice_cmp nat_cmp) place (map in_place es) ≡ Some kept
     → (key : RowKey) × IsKey key × (place ≡ place_in (cell_key key))
 unfolding in_place
@@ -225,9 +225,9 @@ pub made-paged : (last : ℕ) (held : Held) (bounds : ℕ × ℕ) → AllStand l
 unfolding made
 made-paged last held bounds all = filter-made last bounds (entries held) (each-stands last held all)
 
--- ---- what is told of places
+-- ---- what is known of places
 
--- in a place of a register stands the number of a kind
+-- a place of a register has the number of a kind
 abbrev pub HasKind : CellPlace → Type 0
 HasKind [] = ⊥
 HasKind (kind ∷ name) = 1 ≤ kind

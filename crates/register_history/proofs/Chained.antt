@@ -1,5 +1,5 @@
 -- In the register after a legal history each successor is held and each way along successors ends, and before the third
--- rules no record tells of an event.
+-- rules no record reports an event.
 use Rattle.std.proofs.Common.{◌≡◌, ◌≢◌, ℕ, ◌≤◌, List, [], ◌∷◌, ◌++◌, map, Bool, true, false, cond, ◌==◌, Option, Some, None, Result, Ok, Err, refl, sym, ap, ◌∙◌, subst, append_assoc, append-nil, arith, rules}
 use Rattle.std.specs.List.{Contains}
 use Rattle.std.specs.FinMap.{get-empty}
@@ -51,11 +51,11 @@ ready-fit rules (RawItem.Record pairs ∷ raws) = (readied-fits rules Kind.Recor
 ready-fit rules (RawItem.Relation pairs ∷ raws) = (readied-fits rules Kind.Relation pairs (failed_check rules Kind.Relation pairs) refl, ready-fit rules raws)
 ready-fit rules (RawItem.Exception pairs ∷ raws) = (readied-fits rules Kind.Exception pairs (failed_check rules Kind.Exception pairs) refl, ready-fit rules raws)
 
--- the record tells of no event
+-- the record reports no event
 abbrev pub NoEvent : Row → Type 0
 NoEvent row = has_no_event row ≡ true
 
--- by these rules a record that passes its checks does
+-- by these rules a record that passes its checks reports no event
 abbrev KnowNoEvent : Rules → Type 0
 KnowNoEvent rules = (pairs : List (List ℕ × List ℕ)) → failed_check rules Kind.Record pairs ≡ None → NoEvent (row_of Kind.Record pairs)
 
@@ -101,8 +101,8 @@ read-fit rules (Err fault) = tt
 
 -- ---- the table after an entry
 
--- the successors of a table end; while the last entry's rules are the first its records name one successor at most, and
--- while they are the first or the second no record tells of an event
+-- the successors of a table end; while the last entry's rules are the first, its records name at most one successor,
+-- and while they are the first or the second, no record reports an event
 record IsChained (number : ℕ) (table : Table) : Type 0 where
   chains : SuccessorChainsEnd table
   one : number ≤ 1 → NameOne table
@@ -121,7 +121,7 @@ taken-chained number table sitting items are fits ones chains least held sent = 
   plain = λ low. take-each NoEvent table sitting items (held low) (sent low);
 }
 
--- a table of the rules before fits the rules of an entry
+-- a table made by the previous rules fits the rules of an entry
 table-fits : (before number : ℕ) (table : Table) → IsChained before table → before ≤ number → TableFits (rules_of number) table
 table-fits before number table is rising = by (number == 1) refl
   where
@@ -164,7 +164,7 @@ after-chained limits before (e ∷ rest) legal is =
 is_some-none : {X : Type 0} (x : X) (found : Option X) → found ≡ None → found ≡ Some x → ⊥
 is_some-none x found none some = cc
 
--- where there are no rows, nothing is named
+-- if there are no rows, nothing is named
 none-held : (lei : List ℕ) → row_at no_rows lei ≡ None
 none-held lei = get-empty key_cmp (record_key lei)
 
@@ -193,7 +193,7 @@ pub legal-chained : (office : OfficeState) → Legal office → SuccessorChainsE
 unfolding Legal
 legal-chained office legal = (after-chained office.limits [] office.history legal (none-after office.limits)).chains
 
--- before the third rules no record tells of an event
+-- before the third rules no record reports an event
 pub legal-plain : (limits : Limits) (history : History) → Legal (office_of limits history) → last_rules (last_entry history) ≤ 2 → EachRecord NoEvent (after limits history)
 unfolding Legal
 legal-plain limits history legal low = (after-chained limits [] history legal (none-after limits)).plain low

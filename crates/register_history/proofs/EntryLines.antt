@@ -1,4 +1,4 @@
--- What the line of an entry tells of it.
+-- What the line of an entry shows of it.
 use Rattle.std.proofs.Common.{◌≡◌, ℕ, zero, suc, ◌+◌, ◌/◌, ◌%◌, ◌<◌, ◌≤◌, ◌==◌, nat_lt, ℤ, true, false, cond, List, [], ◌∷◌, ◌++◌, length, drop, take, Some, inl, inr, refl, sym, ap, subst, ◌∙◌, arith}
 use Rattle.std.specs.Fmt.{decimal, digit_glyph, digits, digits_onto}
 use Rattle.std.specs.List.{AllByRecursion}
@@ -13,23 +13,23 @@ use Rattle.register_history.specs.Damage.{entry_line, kind_word, moment_word, or
 
 -- ---- parts of lists
 
--- the first byte, 0 where there is none
+-- the first byte, or 0 if there is none
 abbrev pub first : List ℕ → ℕ
 first [] = 0
 first (b ∷ bytes) = b
 
--- lists with one front differ behind it
+-- lists with the same front differ after it
 behind : (front a b : List ℕ) → front ++ a ≡ front ++ b → a ≡ b
 behind front a b is = sym (drop-append_seam front a) ∙ ap (drop (length front)) is ∙ drop-append_seam front b
 
 tail_same : (b : ℕ) (xs ys : List ℕ) → b ∷ xs ≡ b ∷ ys → xs ≡ ys
 tail_same b xs ys is = cc
 
--- and behind a byte after it
+-- and after a byte that follows it
 pub past : (front a b : List ℕ) → front ++ 32 ∷ a ≡ front ++ 32 ∷ b → a ≡ b
 past front a b is = tail_same 32 a b (behind front (32 ∷ a) (32 ∷ b) is)
 
--- fronts of one length are the same, where the lists are
+-- fronts of the same length are equal if the lists are
 fronts : (one other a b : List ℕ) → length one ≡ length other → one ++ a ≡ other ++ b → one ≡ other
 fronts one other a b same is =
     sym (take-append_seam one a) ∙ ap (take (length one)) is ∙ ap (λ n. take n (other ++ b)) same ∙ take-append_seam other b
@@ -101,11 +101,11 @@ onto-more k n text =
 onto-step : (k n : ℕ) (text : List ℕ) → n / 10 == 0 ≡ false → digits_onto (suc k) 10 false n text ≡ digits_onto k 10 false (n / 10) (digit_glyph false (n % 10) ∷ text)
 onto-step k n text more = ap (λ b. cond b (digit_glyph false (n % 10) ∷ text) (digits_onto k 10 false (n / 10) (digit_glyph false (n % 10) ∷ text))) more
 
--- a number of two digits or more
+-- a number with at least two digits
 two-digits : (n : ℕ) → n / 10 == 0 ≡ false → 1 < length (decimal n)
 two-digits n more = subst (λ text. 1 < length text) (sym (onto-step 63 n [] more) ∙ digits-nil n) (onto-more 62 (n / 10) (digit_glyph false (n % 10) ∷ []))
 
--- a number of one digit has a decimal of its own
+-- the decimal of a number with one digit is its own
 one-digit : (n m : ℕ) → m < 10 → decimal n ≡ decimal m → n ≡ m
 one-digit n m small is = elim (eqb_tells (n / 10) 0) [
   | inl one ↦
@@ -140,7 +140,7 @@ text-length s = refl
 word-text : (s : ℤ) → IsMoment s → moment_word s ≡ moment_text s
 word-text s is = rw (is_moment-true s is) refl
 
--- a moment has a word of its own
+-- the word of a moment is its own
 moments-same : (s t : ℤ) (a b : List ℕ) → IsMoment s → IsMoment t → moment_word s ++ 32 ∷ a ≡ moment_word t ++ 32 ∷ b → s ≡ t
 moments-same s t a b of_s of_t is =
     let texts : moment_text s ++ 32 ∷ a ≡ moment_text t ++ 32 ∷ b = ap (λ word. word ++ 32 ∷ a) (sym (word-text s of_s)) ∙ is ∙ ap (λ word. word ++ 32 ∷ b) (word-text t of_t) in
@@ -150,11 +150,11 @@ moments-same s t a b of_s of_t is =
 
 -- ---- lines
 
--- what stands before the moment of an entry, with a text behind it
+-- what precedes the moment of an entry, followed by a text
 abbrev led : ℕ → ℕ → List ℕ → ℕ → List ℕ → List ℕ
 led seq kind office number text = decimal seq ++ 32 ∷ (kind_word kind ++ 32 ∷ (or_dash office ++ 32 ∷ (decimal number ++ 32 ∷ text)))
 
--- its moment, and what stands behind that
+-- its moment, and what follows it
 abbrev ended : KeptEntry → List ℕ
 ended e = moment_word e.moment ++ 32 ∷ (decimal e.rules ++ 32 ∷ e.answer)
 
@@ -162,7 +162,7 @@ line-is : (e : KeptEntry) → entry_line e ≡ led e.seq e.kind e.office e.numbe
 unfolding entry_line
 line-is e = refl
 
--- a line begins with a digit
+-- a line starts with a digit
 pub line-begins : (e : KeptEntry) → IsDigit (first (entry_line e))
 line-begins e = subst (λ text. IsDigit (first text)) (sym (line-is e)) (front (decimal e.seq) _ (first-digit e.seq))
   where
@@ -177,8 +177,8 @@ led-same seq kind number office a b is =
     (past (kind_word kind) (or_dash office ++ 32 ∷ (decimal number ++ 32 ∷ a)) (or_dash office ++ 32 ∷ (decimal number ++ 32 ∷ b))
     (past (decimal seq) (kind_word kind ++ 32 ∷ (or_dash office ++ 32 ∷ (decimal number ++ 32 ∷ a))) (kind_word kind ++ 32 ∷ (or_dash office ++ 32 ∷ (decimal number ++ 32 ∷ b))) is)))
 
--- Entries with one number, kind, office, own number and body have lines that differ where they do, where their moments are
--- moments and the rules of one have one digit.
+-- If two entries have the same number, kind, office, own number and body, their lines differ if the entries do,
+-- provided that their moments are moments and the rules of one have one digit.
 pub line-tells : (e made : KeptEntry) → e.seq ≡ made.seq → e.kind ≡ made.kind → e.office ≡ made.office → e.number ≡ made.number → e.body ≡ made.body → IsMoment e.moment → IsMoment made.moment → made.rules < 10
     → entry_line e ≡ entry_line made → made ≡ e
 line-tells e made seq kind office number body moment made_moment rules is =

@@ -40,7 +40,7 @@ module _ {K X : Type 0} (R : K → K → Ordering) (exact : (x y : K) → eq_by_
       | false ↦ below_passing key es (second _ _ t)
     ]
 
-    -- under a key is found what is found among all, where it passes
+    -- under a key, what is found is what is found among all, if it passes
     pub find_passing : (key : K) (es : List (K × X)) → T (is_sorted R es) → find R key (filter (λ e. p e.1) es) ≡ only p (find R key es)
     find_passing key [] t = refl
     find_passing key (e ∷ es) t =

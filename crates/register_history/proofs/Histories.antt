@@ -57,13 +57,13 @@ pub Legal-opened : (limits : Limits) → Legal (opened limits)
 unfolding Legal
 Legal-opened limits = tt
 
--- what an outcome adds was taken for its request, by its rules and at its moment
+-- what an outcome adds was made for its request, by its rules and at its moment
 pub record IsAdded (request : Request) (terms : EntryTerms) (e : KeptEntry) : Type 0 where
   pub for_request : request_of e ≡ Some request
   pub at_moment : e.moment ≡ terms.moment
   pub of_rules : e.rules ≡ terms.rules
 
--- what is added where there is room
+-- what is added if there is room
 unless_full : (full : Bool) (refused : Reply) (a e : KeptEntry) → cond full (stays refused) (adds a) ≡ adds e → a ≡ e
 unless_full true refused a e is = cc
 unless_full false refused a e is = cc
@@ -154,7 +154,7 @@ both_true true true is = (refl, refl)
 both_true true false is = cc
 both_true false b is = cc
 
--- rules that may follow are such, and aren't lower than those of the last entry
+-- rules that may follow exist, and aren't lower than those of the last entry
 pub record FollowWithin (history : History) (rules : ℕ) : Type 0 where
   pub least : 1 ≤ rules
   pub most : rules ≤ newest_rules
@@ -174,7 +174,7 @@ last_entry-push history e =
     let at : length (history ++ e ∷ []) - 1 ≡ length history = omega (arith, length-append history (e ∷ [])) in
     rw at (slice_get-get_or (history ++ e ∷ []) (length history) e (omega (arith, length-append history (e ∷ []))) ∙ ap Some (get_or-append_seam history e [] e))
 
--- the last entry, where there is one, has a moment
+-- the last entry, if there is one, has a moment
 abbrev HasMoment : Option KeptEntry → Type 0
 HasMoment None = Unit {0}
 HasMoment (Some e) = IsMoment e.moment
@@ -186,7 +186,7 @@ last-has_moment limits before (e ∷ rest) legal has =
     let P : History → Type 0 = λ h. HasMoment (last_entry h) in
     subst P (append_assoc before (e ∷ []) rest) (last-has_moment limits (before ++ e ∷ []) rest legal.1 (subst M (sym (last_entry-push before e)) legal.0.3))
 
--- the moment of the last entry, where each moment in the range is found
+-- the moment of the last entry, if each moment is in the range
 pub last_found : (limits : Limits) (history : History) (e : KeptEntry) (found : Option ℤ) → Legal (office_of limits history) → Some e ≡ last_entry history
     → (IsMoment e.moment → found ≡ Some e.moment) → found ≡ option_map (λ e. e.moment) (last_entry history)
 unfolding Legal
@@ -227,7 +227,7 @@ outcome-again rules office request moment = ap (λ m. outcome_at office request 
 
 -- ---- rules
 
--- the rules of the last entry are the newest or lower ones
+-- the rules of the last entry are at most the newest ones
 last-rules : (limits : Limits) (before rest : History) → LegalAfter limits before rest → last_rules (last_entry before) ≤ newest_rules → last_rules (last_entry (before ++ rest)) ≤ newest_rules
 last-rules limits before [] legal most = (let P : History → Type 0 = λ h. last_rules (last_entry h) ≤ newest_rules in subst P (sym (append-nil before)) most)
 last-rules limits before (e ∷ rest) legal most =

@@ -169,7 +169,7 @@ over-find (e ∷ es) held q sorted =
       | false ↦ λ _. refl
     ] refl
 
--- the cell under a key after an entry is the one before, or has its number
+-- the cell under a key after an entry is unchanged, or has the entry's number
 abbrev IsTouchedAt : ℕ → Option Cell → Option Cell → Type 0
 IsTouchedAt number before after = (after ≡ before) ⊎ ((cell : Cell) × (after ≡ Some cell) × (cell.entry ≡ number))
 
@@ -337,7 +337,7 @@ pub untold-join : (old mid new : Option KeptTables) → StaysUntold old mid → 
     → StaysUntold old new
 untold-join old mid new first second some = first (second some)
 
--- no two tables are those of one office
+-- no two different pairs of tables are those of one office
 cells-one : (held : Held) (one other : Cells) → AreCellsOf held one → AreCellsOf held other → one ≡ other
 cells-one held one other of_one of_other = same_map nat_list_cmp_total (slice_cmp-IsAntisymmetric nat_cmp-IsAntisymmetric) one other (λ place. by_kept place (get one place) (get other place) refl refl)
   where
@@ -356,7 +356,7 @@ tables-one office one other of_one of_other =
     let entries = of_one.entries ∙ sym of_other.entries in
     λ i. record { entries = entries i; cells = cells i }
 
--- nothing is kept of nothing
+-- nothing is kept of an empty register
 pub nothing-of : (held : Held) → held ≡ empty → AreTablesWith [] held nothing_kept
 nothing-of held none = record {
   entries = refl;

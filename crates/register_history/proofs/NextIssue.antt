@@ -57,7 +57,7 @@ use Rattle.register_history.proofs.UntouchedKeys.{cell_at, is_new, legal-keeps, 
 abbrev pub keys_among : Sheet → List (KeyTexts × Cell) → List KeyTexts
 keys_among sheet es = flat_map (λ cell. key_within sheet cell.0) es
 
--- two keys are one where their first texts are, and those behind
+-- two keys are equal if their first texts are, and those after them
 more-texts : (a b : List ℕ) (front rest : KeyTexts) → eq_by_cmp key_cmp (a ∷ front) (b ∷ rest) ≡ (bytes_eq b a && eq_by_cmp key_cmp front rest)
 more-texts a b front rest =
     sym (tied_then (slice_cmp nat_cmp a b) (key_cmp front rest))
@@ -80,7 +80,7 @@ among-keys sheet ((kind ∷ own, cell) ∷ es) k =
     by true later = tells (eq_by_cmp key_cmp k own) later
     by false later = later
 
--- a key is among them where its cell is newer
+-- a key is among them if its cell is newer
 pub among-new : (last number : ℕ) (held : Held) (sheet : Sheet) (k : KeyTexts) → AllStand number held
     → is_among k (keys_touched last number held sheet) ≡ is_new last (get held (cell_at sheet k))
 among-new last number held sheet k all =
@@ -109,7 +109,7 @@ equal Ordering.Less t = cc
 equal Ordering.Equal t = refl
 equal Ordering.Greater t = cc
 
--- keys of one kind are ordered as the texts behind it
+-- keys of one kind are ordered like the texts after the kind
 behind : (kind : List ℕ) (a b : KeyTexts) → key_cmp (kind ∷ a) (kind ∷ b) ≡ key_cmp a b
 behind kind a b = ap (λ o. ordering_then o (key_cmp a b)) (equal _ (ap is_eq (tied_itself nat_list_cmp_total kind)))
 
@@ -142,7 +142,7 @@ among-rise sheet ((kind ∷ own, cell) ∷ es) sorted = by (bytes_eq kind (cell_
     )
     by false other later = later
 
--- ---- what is told of them
+-- ---- what is known of them
 
 pub within-key : (sheet : Sheet) (k : RowKey) → key_within sheet (cell_key k) ≡ cond (is_of sheet k) (key_texts k ∷ []) []
 within-key Sheet.Lei (RowKey.Rec lei) = refl
@@ -179,7 +179,7 @@ rising limits history changes next sheet =
     (among-rise sheet (touched (last_published history) (length history) (held_after limits history))
     (touched-sorted (last_published history) (length history) (held_after limits history)))
 
--- ---- the row that is told of a key is the one that is published
+-- ---- the row that is reported for a key is the one that is published
 
 only-some : (p : Cell → Bool) (found : Option Cell) (cell : Cell) → only p found ≡ Some cell → found ≡ Some cell
 only-some p None cell is = cc
@@ -259,7 +259,7 @@ of-sheet Sheet.Repex (RowKey.Rec lei) is = cc
 of-sheet Sheet.Repex (RowKey.Rel start kind end) is = cc
 of-sheet Sheet.Repex (RowKey.Exc lei category) is = refl
 
--- the row that is told of a key is that of these rows, where the key is one of the sheet
+-- the row that is reported for a key is that of these rows, if the key belongs to the sheet
 abbrev pub IsToldBy : Sheet → List SheetRow → Touched → Type 0
 IsToldBy sheet now t = is_of sheet t.key ≡ true → row_published t.item ≡ row_under now (key_texts t.key)
 
@@ -340,7 +340,7 @@ values-keyed rows sorted =
     rows-again [] = refl
     rows-again (row ∷ rows) = ap (λ l. row ∷ l) (rows-again rows)
 
--- where each other key has the same row before, the rows of now are what patching gives
+-- if each other key had the same row before, the current rows are the result of patching
 patched-is : (sheet : Sheet) (before now : List SheetRow) (ks : List KeyTexts) → AreWide sheet ks → T (is_sorted key_cmp (under_keys now))
     → ((k : KeyTexts) → is_among k ks ≡ false → row_under now k ≡ row_under before k)
     → patched before (map (now_under sheet now) ks) ≡ now

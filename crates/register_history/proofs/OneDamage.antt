@@ -23,11 +23,11 @@ head_same x y xs ys is = cc
 tail_same : {X : Type 0} (x y : X) (xs ys : List X) → x ∷ xs ≡ y ∷ ys → xs ≡ ys
 tail_same x y xs ys is = cc
 
--- lists with one front differ behind it
+-- lists with the same front differ after it
 behind : {X : Type 0} (front a b : List X) → front ++ a ≡ front ++ b → a ≡ b
 behind front a b is = sym (drop-append_seam front a) ∙ ap (drop (length front)) is ∙ drop-append_seam front b
 
--- the second list goes on behind the first
+-- the second list continues the first
 record GoesOn {X : Type 0} (front longer : List X) : Type 0 where
   next : X
   others : List X
@@ -36,7 +36,7 @@ record GoesOn {X : Type 0} (front longer : List X) : Type 0 where
 on-cons : {X : Type 0} (x y : X) (front longer : List X) → x ≡ y → GoesOn front longer → GoesOn (x ∷ front) (y ∷ longer)
 on-cons x y front longer same on = record { next = on.next; others = on.others; are = λ i. sym same i ∷ on.are i }
 
--- two fronts of one list are the same, or one goes on behind the other
+-- two fronts of one list are equal, or one continues the other
 fronts : {X : Type 0} (f g a b : List X) → f ++ a ≡ g ++ b → (f ≡ g) ⊎ GoesOn f g ⊎ GoesOn g f
 fronts [] [] a b is = inl refl
 fronts [] (y ∷ g) a b is = inr (inl (record { next = y; others = g; are = refl }))
@@ -49,13 +49,13 @@ fronts (x ∷ f) (y ∷ g) a b is =
       | inr (inr on) ↦ inr (inr (on-cons y x g f (sym one) on))
     ]
 
--- what stands behind a front, where another list with that front goes on
+-- what follows a front, if another list with that front continues it
 goes-on : {X : Type 0} (f g a b : List X) (on : GoesOn f g) → f ++ a ≡ g ++ b → a ≡ on.next ∷ on.others ++ b
 goes-on f g a b on is = behind f a (on.next ∷ on.others ++ b) (is ∙ ap (λ l. l ++ b) on.are ∙ append_assoc f (on.next ∷ on.others) b)
 
 -- ---- entries
 
--- what is a legal history has no first entry that differs in it
+-- a legal history has no first entry that differs
 no-longer : (limits : Limits) (entries other : History) (damage : Damage) (is : IsEntryDamage limits entries damage) (rest : History) → other ++ rest ≡ entries → GoesOn is.before other
     → Legal (office_of limits other) → ⊥
 no-longer limits entries other damage is rest are on legal =
@@ -97,7 +97,7 @@ cells-one [] (m ∷ made) one other is of = is ∙ sym of
 cells-one (k ∷ kept) [] one other is of = is ∙ sym of
 cells-one (k ∷ kept) (m ∷ made) one other is of = is.1 ∙ sym of.1
 
--- where a cell is the same on both sides, nothing differs yet
+-- as long as a cell is the same on both sides, nothing differs yet
 same-cell : (cell : KeptCell) (kept made kept_rest made_rest : List KeptCell) (damage : Damage) → kept ≡ cell ∷ kept_rest → made ≡ cell ∷ made_rest → CellDiffers kept made damage → ⊥
 same-cell cell kept made kept_rest made_rest damage of_kept of_made differs =
     let D : List KeptCell → List KeptCell → Type 0 = λ k m. CellDiffers k m damage in
@@ -121,7 +121,7 @@ first-one kept made one other is of = elim (fronts is.front of.front is.kept_res
   | inr (inr on) ↦ absurd (no-further kept made other one of is on)
 ]
 
--- no page before that of a difference has one
+-- no page before that of a difference has a difference
 no-earlier : (last : ℕ) (held : Held) (tables : KeptTables) (one other : Damage) (is : IsCellDamage last held tables one) (of : IsCellDamage last held tables other) → is.page < of.page → ⊥
 no-earlier last held tables one other is of below =
     first-excludes (kept_page tables (page_bounds last is.page)) (made_page held (page_bounds last is.page)) one is.differs (of.earlier is.page below)

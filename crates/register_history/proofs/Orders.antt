@@ -46,7 +46,7 @@ never_fall office legal before after first second is =
 
 -- ---- numbers of uploads
 
--- a list with at most one item behind it has that item there, and its own before
+-- if at most one item is added after a list, that item is at the end, and the list's own items are before it
 of_pushed : (us : History) (b : Bool) (e f : KeptEntry) (i : ℕ) → slice_get (us ++ cond b (e ∷ []) []) i ≡ Some f → (slice_get us i ≡ Some f) ⊎ ((b ≡ true) × (i ≡ length us) × (f ≡ e))
 of_pushed us false e f i is = inl (ap (λ l. slice_get l i) (sym (append-nil us)) ∙ is)
 of_pushed us true e f i is =

@@ -1,4 +1,4 @@
--- What the next publication changes are changes of its own: keys of their sheets, each with a row under it or none.
+-- The changes of the next publication are its own: keys of their sheets, each with a row under it or none.
 use Rattle.std.proofs.Common.{◌≡◌, ℕ, List, [], ◌∷◌, map, Bool, true, false, cond, Option, Some, None, refl, sym, ap, subst, ◌∙◌, length}
 use Rattle.std.specs.Prelude.{IfSome}
 use Rattle.std.specs.FinMap.Entries.{find}
@@ -32,7 +32,7 @@ use Rattle.register_history.proofs.SoundTrail.{key-is, rows-are}
 
 -- ---- keys
 
--- the texts behind the kind
+-- the texts after the kind
 behind : KeyTexts → KeyTexts
 behind [] = []
 behind (kind ∷ texts) = texts

@@ -18,7 +18,7 @@ use Rattle.std.proofs.lemmas.Bool.{leb-false, leb-true}
 use Rattle.register_history.proofs.Cells.{HasKind, cells-made, in_page, kept-paged, made, made-cells, made-kinds, made-number, made-paged, made-sorted, paged}
 use Rattle.register_history.proofs.Finding.{find_passing, only}
 
--- ---- a cell is told by its place and content
+-- ---- a cell is determined by its place and content
 
 same_one : (e f : CellPlace × CellContent) → HasKind f.0 → cell_at e ≡ cell_at f → e ≡ f
 same_one ([], c) ([], d) some same = absurd some
@@ -98,7 +98,7 @@ some-page last n c all some most =
       | false ↦ λ is. (n, omega arith, beyond last n c.touched all (leb-false c.touched last is) most)
     ] refl
 
--- ---- where all pages are the same
+-- ---- if all pages are the same
 
 only-some : (p : CellContent → Bool) (found : Option CellContent) (c : CellContent) → only p found ≡ Some c → found ≡ Some c
 only-some p None c is = cc

@@ -45,7 +45,7 @@ passing (line ∷ lines) none =
       | false ↦ λ is. record { first = refl; others = passing lines is }
     ] none
 
--- where all pass, those behind the first ones do
+-- if all pass, those after the first ones do
 pub passing_behind : (first behind : List Finding) → AllPass (first ++ behind) → AllPass behind
 passing_behind [] behind pass = pass
 passing_behind (line ∷ first) behind pass = passing_behind first behind pass.others
@@ -128,7 +128,7 @@ pub all_permitted : (office : OfficeState) → ChangesArePermitted office
 unfolding changes
 all_permitted office = entries_permitted office.limits no_rows office.history
 
--- ---- the changes make the records
+-- ---- the records are the result of the changes
 
 verdict_records : (table : Table) (issuer : Lei) (given : Verdict) (item : Readied) → (put_all (writes_of given item) table).records ≡ fold changed table.records (changes_by table issuer given item)
 verdict_records table issuer (Verdict.Rejected check) item = refl

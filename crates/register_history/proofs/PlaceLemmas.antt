@@ -1,4 +1,4 @@
--- Where cells are kept: that two keys have two places, and that names are ASCII.
+-- The places of kept cells: two keys have two places, and names are ASCII.
 use Rattle.std.proofs.Common.{◌≡◌, ℕ, zero, suc, ◌<◌, List, [], ◌∷◌, ◌++◌, length, Bool, true, false, not, ◌&&◌, ◌==◌, nat_lt, refl, sym, ap, subst, ◌∙◌, arith}
 use Rattle.std.specs.Str.{IsAscii}
 use Rattle.std.proofs.lemmas.Bool.{ltb-true}
@@ -43,7 +43,7 @@ spaced : (c : ℕ) (text : List ℕ) → 32 ≡ c → no_space (c ∷ text) ≡ 
 unfolding no_space
 spaced c text same none = absurd (true≢false (sym (subst (λ d. no_space (d ∷ text) ≡ true) (sym same) none)))
 
--- a text with no space before one is known by where the space is
+-- a text without a space before a space is determined by the position of the space
 cut_same : (a b x y : List ℕ) → no_space a ≡ true → no_space b ≡ true → a ++ 32 ∷ x ≡ b ++ 32 ∷ y → (a ≡ b) × (x ≡ y)
 unfolding no_space
 cut_same [] [] x y of_a of_b is = (refl, tail_same 32 32 x y is)
@@ -54,7 +54,7 @@ cut_same (c ∷ a) (d ∷ b) x y of_a of_b is =
     let first = head_same c d (a ++ 32 ∷ x) (b ++ 32 ∷ y) is in
     (ap (λ e. e ∷ a) first ∙ ap (λ t. d ∷ t) rest.0, rest.1)
 
--- texts of one length before others are known
+-- texts of the same length before others are determined
 length_same : (a b x y : List ℕ) → length a ≡ length b → a ++ x ≡ b ++ y → (a ≡ b) × (x ≡ y)
 length_same [] [] x y sizes is = (refl, is)
 length_same [] (d ∷ b) x y sizes is = absurd (omega (arith, sizes))

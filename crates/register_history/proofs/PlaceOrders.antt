@@ -1,4 +1,4 @@
--- The places of kept cells stand in the order of the keys of the cells.
+-- The places of kept cells are in the order of the keys of the cells.
 use Rattle.std.proofs.Common.{◌≡◌, ℕ, ◌<◌, List, [], ◌∷◌, ◌++◌, length, Bool, true, false, ◌&&◌, nat_lt, refl, sym, ap, ◌∙◌, arith}
 use Rattle.std.proofs.lemmas.Bool.{ltb-true}
 use Rattle.std.specs.Cmp.{nat_cmp_is}
@@ -24,7 +24,7 @@ then-then Less b c = refl
 then-then Equal b c = refl
 then-then Greater b c = refl
 
--- texts of one length before others
+-- texts of the same length before others
 long-same : (a b x y : List ℕ) → length a ≡ length b → slice_cmp nat_cmp (a ++ x) (b ++ y) ≡ ordering_then (slice_cmp nat_cmp a b) (slice_cmp nat_cmp x y)
 long-same [] [] x y sizes = refl
 long-same [] (d ∷ b) x y sizes = absurd (omega (arith, sizes))
@@ -32,7 +32,7 @@ long-same (c ∷ a) [] x y sizes = absurd (omega (arith, sizes))
 long-same (c ∷ a) (d ∷ b) x y sizes =
     ap (ordering_then (nat_cmp c d)) (long-same a b x y (omega (arith, sizes))) ∙ sym (then-then (nat_cmp c d) (slice_cmp nat_cmp a b) (slice_cmp nat_cmp x y))
 
--- texts of bytes above that of a space, before one
+-- texts of bytes greater than a space, before a space
 above : List ℕ → Bool
 above [] = true
 above (b ∷ text) = nat_lt 32 b && above text
@@ -71,7 +71,7 @@ type-above RelationType.IsFundManagedBy = refl
 type-above RelationType.IsSubfundOf = refl
 type-above RelationType.IsFeederTo = refl
 
--- the places of two keys stand in the order of the keys
+-- the places of two keys are in the order of the keys
 pub place-order : (a b : RowKey) → IsKey a → IsKey b → slice_cmp nat_cmp (place_in (cell_key a)) (place_in (cell_key b)) ≡ key_cmp (cell_key a) (cell_key b)
 place-order (RowKey.Rec lei) (RowKey.Rec other) of_a of_b = sym (then-equal (slice_cmp nat_cmp lei other))
 place-order (RowKey.Rel start kind end) (RowKey.Rel from type last) of_a of_b =

@@ -1,4 +1,4 @@
--- Which publications are wide, and that the rows of a narrow one tell of no event.
+-- Which publications are wide, and that the rows of a narrow one report no event.
 use Rattle.std.proofs.Common.{◌≡◌, ℕ, ◌≤◌, ◌++◌, List, [], ◌∷◌, Bool, true, false, cond, map, Option, Some, None, refl, sym, ap, ◌∙◌, subst, append_assoc, append-nil, arith, length, unwrap_or}
 use Rattle.std.specs.Prelude.{IfSome, IsTrue, nat_le}
 use Rattle.std.specs.FinMap.{entries, entries_sorted, get, get-entries}
@@ -69,7 +69,7 @@ latest-wide : (limits : Limits) (history : History) → Legal (office_of limits 
 unfolding Legal
 latest-wide limits history legal = wide-from limits [] history legal (none-wide limits)
 
--- after a wide publication comes no narrow one
+-- no narrow publication comes after a wide one
 pub never-narrows : (limits : Limits) (history : History) (rules : ℕ) → Legal (office_of limits history) → last_rules (last_entry history) ≤ rules
     → (latest_or_nothing (trail (office_of limits history))).wide ≡ true → is_wide rules ≡ true
 never-narrows limits history rules legal rising wide =

@@ -1,4 +1,4 @@
--- The rows that are published of a sound table: what stands under a key, and that their keys rise.
+-- The rows that are published from a sound table: what is under a key, and that their keys rise.
 use Rattle.std.proofs.Common.{◌≡◌, ℕ, Bool, true, false, cond, List, [], ◌∷◌, filter, map, Option, Some, None, option_map, unwrap_or, refl, sym, ap, subst, ◌∙◌, arith, T}
 use Rattle.std.specs.Prelude.{IsSome}
 use Rattle.std.specs.FinMap.{entries, entries_sorted, get, get-entries, get-from_entries}
@@ -26,7 +26,7 @@ use Rattle.register_history.proofs.Finding.{both, find_below, first, only, secon
 
 -- ---- what is published under a key
 
--- of a row that is held, what is published of it
+-- for a row that is held, what is published of it
 abbrev pub published_row : Sheet → Option Row → Option SheetRow
 published_row sheet row = option_map (row_of sheet) (only (is_published sheet) row)
 
@@ -72,7 +72,7 @@ exception-key [] is = let few = is.places in absurd (omega (arith, few))
 exception-key (a ∷ []) is = let few = is.places in absurd (omega (arith, few))
 exception-key (a ∷ b ∷ texts) is = ap (λ t. a ∷ t ∷ []) (sym (spelled-text exception_category_text exception_categories b _ is.category))
 
--- each row of a sound table stands under the key that its texts begin with
+-- each row of a sound table is under the key that its texts start with
 pub row-keyed : (table : Table) (sheet : Sheet) (k : KeyTexts) (row : Row) → IsSound table → get (rows_in table sheet) k ≡ Some row → key (row_of sheet row) ≡ k
 row-keyed table Sheet.Lei k row sound at = record-key row (sound.rows k row at) ∙ sym (sound.keyed k row at)
 row-keyed table Sheet.Rr k row sound at = relation-key row (sound.relation_rows k row at) ∙ sym (sound.relations_keyed k row at)
@@ -80,7 +80,7 @@ row-keyed table Sheet.Repex k row sound at = exception-key row (sound.exception_
 
 -- ---- sorted entries
 
--- what holds of each that is found
+-- what holds for each that is found
 pub each-found : {X : Type 0} (P : KeyTexts → X → Type 0) (es : List (KeyTexts × X)) → T (is_sorted key_cmp es)
     → ((k : KeyTexts) (x : X) → find key_cmp k es ≡ Some x → P k x) → AllByRecursion (λ e. P e.0 e.1) es
 each-found P [] sorted each = tt
@@ -164,7 +164,7 @@ are-keyed table sheet sound =
     each-found (λ k row. key (row_of sheet row) ≡ k) (entries (rows_in table sheet)) (entries_sorted (rows_in table sheet))
     (λ k row found. row-keyed table sheet k row sound (get-entries (rows_in table sheet) k ∙ found))
 
--- under each key stands what is published of the row that is held there
+-- under each key is what is published of the row that is held there
 pub rows-found : (table : Table) (sheet : Sheet) (k : KeyTexts) → IsSound table → row_under (published_rows table sheet) k ≡ published_at table sheet k
 rows-found table sheet k sound =
     let es = entries (rows_in table sheet) in

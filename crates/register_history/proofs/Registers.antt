@@ -70,7 +70,7 @@ read-rows rules (Err fault) = tt
 
 -- ---- an accepted item
 
--- the table with what it writes
+-- the table after what it writes
 abbrev with_item : Table → Item → Table
 with_item table item = put_write table (row_key item, written item)
 
@@ -88,7 +88,7 @@ item-own (Item.Relation row) = (refl, refl)
 item-own (Item.Exception (row, true)) = tt
 item-own (Item.Exception (row, false)) = (refl, refl)
 
--- a new one is accepted only where there is room
+-- a new one is accepted only if there is room
 fits_with : (held : Option Row) (count limit next : ℕ) → count ≤ limit → next ≡ cond (is_some held) count (count + 1) → (is_none (option_map rec_cell held) && nat_le limit count) ≡ false → next ≤ limit
 fits_with None count limit next fits is room = let below : count < limit = grind (arith, nat_tests) in omega arith
 fits_with (Some row) count limit next fits is room = omega arith
@@ -100,7 +100,7 @@ put-fits table sitting item fits passes =
     (passing (record_checks table sitting item) passes) in
     fits_with (row_at table (lei_in item)) (record_count table) sitting.limit (record_count (put table (Item.Record item))) fits (len-insert keys_total table.records (record_key (lei_in item)) item) from_c20.first
 
--- a relationship and an exception leave the number of records as it is
+-- a relationship and an exception leave the number of records unchanged
 item-fits : (table : Table) (sitting : Sitting) (item : Item) → record_count table ≤ sitting.limit
     → first_failing (item_checks table sitting item) ≡ None → record_count (with_item table item) ≤ sitting.limit
 item-fits table sitting (Item.Record row) fits passes = put-fits table sitting row fits passes
@@ -116,7 +116,7 @@ pub record MayPut (table : Table) (limit : ℕ) (taken : Taken) : Type 0 where
   pub kept : limit ≤ 4294967295 → StaysKept taken.writes table
   pub fits : record_count taken.table ≤ limit
 
--- the item and those behind it, where this check of the item failed or none
+-- the item and those after it, by whether this check of the item failed
 abbrev with_first : Table → Sitting → Item → List Readied → Option FailedCheck → Taken
 with_first table sitting item items failed =
     let writes = writes_of (verdict_of failed) (Readied.Good item) in
@@ -173,7 +173,7 @@ entries-fit limits table (e ∷ history) fit = entries-fit limits (after_entry l
 is_some-none : {X : Type 0} (x : X) (found : Option X) → found ≡ None → found ≡ Some x → ⊥
 is_some-none x found none some = cc
 
--- where there are no rows, nothing is active
+-- if there are no rows, nothing is active
 none-active : (start : List ℕ) (kind : RelationType) → active_of no_rows start kind ≡ None
 none-active start kind = of_found (find (is_active_of start kind) (relations_of no_rows)) refl where
   of_found : (found : Option Row) → find (is_active_of start kind) (relations_of no_rows) ≡ found → option_map end_in found ≡ None
@@ -211,7 +211,7 @@ after-fit limits history = entries-fit limits no_rows history (none-fit limits.r
 
 -- ---- judging over a table
 
--- no cell of a table is wanted
+-- no cell of a table is missing
 pub no_cell_wanted : (P : Outcome → Type 0) (result : Result Outcome JudgeStop) (key : CellKey) → MatchResult result P (λ stop. stop ≡ JudgeStop.NoMemory) → result ≡ Err (JudgeStop.NeedCell key) → ⊥
 no_cell_wanted P (Ok outcome) key takes is = cc
 no_cell_wanted P (Err stop) key takes is =

@@ -85,7 +85,7 @@ object-texts (values.string s) are = tt
 object-texts (values.array ds) are = tt
 object-texts (values.object ms) are = are
 
--- what is found by way of something that is so
+-- what is found by way of something that has a property
 by-way : {A B : Type 0} (P : A → Type 0) (Q : B → Type 0) (f : A → Option B) (found : Option A) → If P found → ((a : A) → P a → If Q (f a)) → If Q (option_and_then f found)
 by-way P Q f None is then = tt
 by-way P Q f (Some a) is then = then a is
@@ -154,7 +154,7 @@ value-sent value are =
     by true ms is = is
     by false ms is = tt
 
--- of an upload, where it is one
+-- for an upload, if it is one
 abbrev IfOkSent : Result (List RawItem) Malformed → Type 0
 IfOkSent (Ok raws) = AreSent raws
 IfOkSent (Err fault) = Unit {0}
@@ -346,7 +346,7 @@ texts-from limits [] held holds = holds
 texts-from limits (e ∷ rest) held holds =
     texts-from limits rest (held_after_entry limits held e) (touch-all-texts e.seq (entry_writes limits (rows held) e) held (entry-written limits (rows held) e) holds)
 
--- of each row that is held after a history
+-- the same for each row that is held after a history
 pub held-texts : (limits : Limits) (history : History) → HoldsTexts (held_after limits history)
 unfolding held_after
 held-texts limits history = texts-from limits history empty (λ q cell found. absurd (some_apart cell (sym found ∙ get-empty key_cmp q)))

@@ -1,4 +1,4 @@
--- Replies where memory is never wanting.
+-- Replies if memory never runs out.
 use Rattle.std.proofs.Common.{◌≡◌, suc, ℤ, List, [], ◌∷◌, ◌++◌, Contains, refl, sym, ap, ◌∙◌, arith, inl, inr}
 use Rattle.register_words.specs.declared.reply.Refusal.TheVariants.{KeeperFault, NoMemory}
 use Rattle.register_words.specs.declared.reply.Reply.{Reply}
@@ -9,7 +9,7 @@ use Rattle.register_history.specs.Replies.{next, reply}
 use Rattle.register_history.specs.Legal.{Session, replies_to}
 use Rattle.register_history.specs.State.{OfficeState}
 
--- a list that lacks an item has another first one, and its rest lacks it
+-- a list that lacks an item has a different first one, and its rest lacks the item
 first-is_other : {X : Type 0} (x y : X) (ys : List X) → ¬ (Contains (y ∷ ys) x) → y ≡ x → ⊥
 first-is_other x y ys lacks is = lacks (0, omega arith, is)
 

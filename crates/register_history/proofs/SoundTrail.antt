@@ -108,7 +108,7 @@ category-utf8 : (category : ExceptionCategory) → is_utf8 (exception_category_t
 category-utf8 category =
     is_utf8-from_IsUtf8 (exception_category_text category) (IsUtf8-from_ascii (exception_category_text category) (category_is_ascii category))
 
--- a key whose LEIs are LEIs is one of its sheet
+-- a key whose LEIs are valid belongs to its sheet
 pub key-is : (k : RowKey) → IsKey k → IsKeyOf (sheet_of k) (key_texts k)
 key-is (RowKey.Rec lei) is = record { full = refl; utf8 = joined (is_utf8 lei) true (lei-utf8 lei is) refl }
 key-is (RowKey.Rel start kind end) is = record {
@@ -144,7 +144,7 @@ keys-are limits history sheet legal =
     keys-listed (length history) (held_after limits history) sheet (touched (last_published history) (length history) (held_after limits history))
     (held-stands limits history legal) (touched-each (last_published history) (length history) (held_after limits history))
 
--- ---- each follows the one before
+-- ---- each publication follows the previous one
 
 publication-next : (limits : Limits) (history : History) (e : KeptEntry) → Legal (office_of limits history) → IsMoment e.moment → last_rules (last_entry history) ≤ e.rules
     → trails.IsNext (latest_or_nothing (trail (office_of limits history))) (publication_by limits history e)

@@ -1,4 +1,4 @@
--- What a step does to the history, and how many publications come about.
+-- What a step does to the history, and how many publications result.
 use Rattle.std.proofs.Common.{◌≡◌, inl, inr, ◌≤◌, ◌<◌, ℤ, [], ◌∷◌, ◌++◌, Bool, true, false, cond, length, Some, refl, sym, ap, subst, ◌∙◌, arith, append-nil, append_assoc, length-append}
 use Rattle.std.proofs.lemmas.Bool.{eqb-true}
 use Rattle.std.proofs.lemmas.List.Elements.{filter-append}

@@ -1,4 +1,4 @@
--- The cells of a register stand under keys of rows, and were touched by its entries.
+-- The cells of a register are under keys of rows, and were touched by its entries.
 use Rattle.std.proofs.Common.{◌≡◌, ℕ, ◌≤◌, ◌+◌, List, [], ◌∷◌, ◌++◌, fold, length, true, false, cond, ◌==◌, Option, Some, None, refl, sym, ap, subst, ◌∙◌, arith, append-nil, append_assoc, length-append}
 use Rattle.std.specs.FinMap.{empty, get, get-empty, get-insert}
 use Rattle.std.specs.List.{AllByRecursion}
@@ -92,7 +92,7 @@ stands-from limits before (e ∷ rest) held legal all =
     subst (λ h. AllStand (length h) (fold (held_after_entry limits) (held_after_entry limits held e) rest)) (append_assoc before (e ∷ []) rest)
     (stands-from limits (before ++ e ∷ []) rest (held_after_entry limits held e) legal.1 (subst (λ n. AllStand n (held_after_entry limits held e)) same now))
 
--- after a legal history all cells stand
+-- after a legal history this holds for all cells
 pub held-stands : (limits : Limits) (history : History) → Legal (office_of limits history) → AllStand (length history) (held_after limits history)
 unfolding Legal held_after
 held-stands limits history legal = stands-from limits [] history empty legal (λ q cell found. absurd (some_apart cell (sym found ∙ get-empty key_cmp q)))

@@ -129,7 +129,7 @@ kept-added limits history later old new e writes (Err fault) kept number same gr
 
 -- ---- what the keeper has
 
--- the number behind the last that it has
+-- the number after the last one that it has
 pub next-told : (limits : Limits) (history : History) (table : TableState) (number : ℕ) (told : Option KeptTables) → IsKeptAfter limits history table → number ≡ length history + 1
     → Keeps told (office_of limits history) → IfSome told (λ t. number ≡ last_number t + 1)
 next-told limits history table number None kept is keeps = tt

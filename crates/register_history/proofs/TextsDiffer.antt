@@ -24,9 +24,9 @@ use Rattle.register_history.proofs.Beginnings.{Comes, IsApart, IsFor, IsMade, le
 use Rattle.register_history.proofs.EntryLines.{first, line-begins, line-tells}
 use Rattle.register_history.proofs.Histories.{follows-within, stamp-is_moment}
 
--- ---- the request that is read of a stored entry
+-- ---- the request that is read from a stored entry
 
--- the request is one, and the entry has what was asked
+-- the request is one, and the entry has what it asks
 record IsAskedBy (request : Request) (e : KeptEntry) : Type 0 where
   own : IsFor request e
   valid : IsRequest request
@@ -108,7 +108,7 @@ own-same request e f of_e of_f = absurd of_e
 
 -- ---- a line and what the replay makes
 
--- a line is no text that begins behind the digits
+-- a line isn't a text whose first byte is greater than the digits
 line-apart : (e : KeptEntry) (text : List ℕ) → IsApart text → entry_line e ≡ text → ⊥
 line-apart e text apart same =
     let begins = line-begins e in

@@ -1,4 +1,4 @@
--- The keys that a publication counts as touched are those of the items that were accepted since the one before it.
+-- The keys that a publication counts as touched are those of the items that were accepted since the previous one.
 use Rattle.std.proofs.Common.{◌≡◌, ℕ, ◌+◌, ◌<◌, ◌||◌, nat_lt, List, [], ◌∷◌, ◌++◌, length, Bool, true, false, cond, Option, Some, None, refl, sym, ap, subst, ◌∙◌, arith, append-nil, append_assoc}
 use Rattle.std.specs.Prelude.{is_some}
 use Rattle.std.specs.FinMap.{get, get-empty, get-insert}
@@ -28,7 +28,7 @@ use Rattle.register_history.proofs.UntouchedKeys.{cell_at, is_new}
 
 -- ---- one write
 
--- the cell's key is the one that is asked for exactly if the sheet's key is
+-- the cell's key is the given one exactly if the sheet's key is
 pub within-same : (sheet : Sheet) (k q : KeyTexts) → is_among k (key_within sheet q) ≡ eq_by_cmp key_cmp (cell_at sheet k) q
 within-same sheet k q =
     ap (is_among k) (sym (append-nil (key_within sheet q)))
@@ -41,7 +41,7 @@ within-same sheet k q =
     by true = refl
     by false = refl
 
--- what the writes of an entry make of a cell's being newer
+-- how the writes of an entry change whether a cell is newer
 written-new : (after number : ℕ) (writes : WriteList) (held : Held) (sheet : Sheet) (k : KeyTexts)
     → is_new after (get (touch_all number writes held) (cell_at sheet k))
     ≡ cond (is_among k (keys_written sheet writes)) (nat_lt after number) (is_new after (get held (cell_at sheet k)))
@@ -71,7 +71,7 @@ written-new after number (write ∷ writes) held sheet k =
 
 -- ---- one entry
 
--- a cell that is newer than a number was touched by an entry up to the last
+-- a cell that is newer than a number was touched by one of the entries up to the last
 newer-last : (after last : ℕ) (held : Held) (q : KeyTexts) → AllStand last held → is_new after (get held q) ≡ true → after < last + 1
 newer-last after last held q all = by (get held q) refl
   where
@@ -153,7 +153,7 @@ legal-accepted after limits history sheet k legal =
     or-false true = refl
     or-false false = refl
 
--- the entries in front of a history that can come about can come about
+-- the entries at the front of a legal history are a legal history
 front-legal : (limits : Limits) (before first rest : History) → LegalAfter limits before (first ++ rest) → LegalAfter limits before first
 front-legal limits before [] rest legal = tt
 front-legal limits before (e ∷ first) rest legal = (legal.0, front-legal limits (before ++ e ∷ []) first rest legal.1)

@@ -21,13 +21,13 @@ behind-push limits before (first ∷ rest) e =
     (behind-push limits (before ++ first ∷ []) rest e ∙ ap (λ h. later ++ published_by limits h e) (append_assoc before (first ∷ []) rest))
     ∙ sym (append_assoc own later (published_by limits (before ++ first ∷ rest) e))
 
--- the trail has one publication more, where the entry is one
+-- the trail has one more publication, if the entry is one
 pub trail-push : (limits : Limits) (history : History) (e : KeptEntry)
     → trail (office_of limits (history ++ e ∷ [])) ≡ trail (office_of limits history) ++ published_by limits history e
 unfolding trail
 trail-push limits history e = behind-push limits [] history e
 
--- a publication is the latest one then
+-- a publication is the latest one afterwards
 pub trail-made : (limits : Limits) (history : History) (e : KeptEntry) → is_publication e ≡ true
     → latest (trail (office_of limits (history ++ e ∷ []))) ≡ Some (publication_by limits history e)
 trail-made limits history e is =
@@ -35,7 +35,7 @@ trail-made limits history e is =
     let publication = publication_by limits history e in
     ap latest (trail-push limits history e ∙ ap (λ b. made ++ cond b (publication ∷ []) []) is) ∙ latest_push made publication
 
--- and another entry leaves the trail
+-- and another entry leaves the trail unchanged
 pub trail-same : (limits : Limits) (history : History) (e : KeptEntry) → is_publication e ≡ false
     → trail (office_of limits (history ++ e ∷ [])) ≡ trail (office_of limits history)
 trail-same limits history e is =
@@ -103,7 +103,7 @@ latest-moment office =
     let made = trail_behind office.limits [] office.history in
     last-published made ∙ (ap last_of (behind-moments office.limits [] office.history) ∙ sym (last-entry (publications office.history)))
 
--- the latest publication with its number, as they are told
+-- the latest publication with its number, as reported
 pub latest-told : (office : OfficeState)
     → option_map {U = ℕ × ℤ} (λ (p : Publication). (length (trail office), p.moment)) (latest (trail office))
     ≡ option_map {U = ℕ × ℤ} (λ (e : KeptEntry). (length (publications office.history), e.moment)) (last_entry (publications office.history))
@@ -121,7 +121,7 @@ latest-told office =
     by (Some p) None same = cc
     by (Some p) (Some e) same = ap told same
 
--- there is one where some entry made one
+-- there is one if some entry made one
 pub latest-made : (office : OfficeState) (e : KeptEntry) → last_entry (publications office.history) ≡ Some e
     → (p : Publication) × (latest (trail office) ≡ Some p) × (p.moment ≡ e.moment)
 latest-made office e last = by (latest (trail office)) refl (latest-moment office ∙ ap (option_map (λ (e : KeptEntry). e.moment)) last)
@@ -131,7 +131,7 @@ latest-made office e last = by (latest (trail office)) refl (latest-moment offic
     by None is same = cc
     by (Some p) is same = (p, is, cc)
 
--- and none where none did
+-- and none if no entry made one
 pub latest-none : (office : OfficeState) → last_entry (publications office.history) ≡ None → latest (trail office) ≡ None
 latest-none office last = by (latest (trail office)) (latest-moment office ∙ ap (option_map (λ (e : KeptEntry). e.moment)) last)
   where

@@ -1,4 +1,4 @@
--- Under a key that no entry touched behind the latest publication stands what was published.
+-- Under a key that no entry touched after the latest publication is what was published.
 use Rattle.std.proofs.Common.{◌≡◌, ◌⊎◌, inl, inr, ℕ, ◌+◌, ◌<◌, ◌≤◌, ◌==◌, nat_lt, [], ◌∷◌, ◌++◌, length, Bool, true, false, cond, Option, Some, None, refl, sym, ap, subst, ◌∙◌, arith, append-nil, append_assoc, length-append, unwrap_or}
 use Rattle.std.specs.FinMap.{get, get-empty, get-insert}
 use Rattle.std.specs.Ordering.{eq_by_cmp}
@@ -94,7 +94,7 @@ publications-push history e = filter-append is_publication history (e ∷ [])
 no_upload : (e : KeptEntry) → is_publication e ≡ true → is_upload e ≡ false
 no_upload e is = let kind : e.kind ≡ 3 = eqb-true e.kind 3 is in ap (λ k. k == 2) kind
 
--- a publication tells all rows
+-- a publication has all rows
 made-push : (limits : Limits) (history : History) (e : KeptEntry) → e.seq ≡ length history + 1 → is_publication e ≡ true → KeepsRows limits (history ++ e ∷ [])
 made-push limits history e number is =
     let made : publications (history ++ e ∷ []) ≡ publications history ++ e ∷ [] = publications-push history e ∙ ap (λ b. publications history ++ cond b (e ∷ []) []) is in
@@ -108,7 +108,7 @@ made-push limits history e number is =
           ∙ (rows-found (after limits history) sheet k (after-fit limits history).sound ∙ ap (λ t. published_at t sheet k) (sym same));
     }
 
--- another entry touches keys that are new then
+-- another entry touches keys that are new afterwards
 other-push : (limits : Limits) (history : History) (e : KeptEntry) → e.seq ≡ length history + 1 → is_publication e ≡ false → KeepsRows limits history
     → KeepsRows limits (history ++ e ∷ [])
 other-push limits history e number is keeps =

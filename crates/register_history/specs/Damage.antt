@@ -1,5 +1,5 @@
--- Damage: the first difference between what a keeper has and what its entries come to, when they are replayed. This
--- project's profile.
+-- Damage: the first difference between what a keeper has and what the replay of its entries makes. This project's
+-- profile.
 use Rattle.std.specs.Prelude.{◌≡◌, ◌≢◌, ◌⊎◌, ℕ, ◌+◌, ◌*◌, ℤ, ◌<◌, List, [], ◌∷◌, ◌++◌, length, map, codes, decimal, Bool, ◌&&◌, ◌==◌, nat_le, nat_lt, is_none, if◌then◌else◌, Option, Some, None, option_map}
 use Rattle.std.specs.Fmt.{signed_decimal}
 use Rattle.lei_code.specs.Fault.{fault_of}
@@ -28,9 +28,9 @@ use Rattle.register_history.specs.Replies.{Outcome, adds, outcome_by, stays}
 use Rattle.register_history.specs.State.{OfficeState, office_of}
 use Rattle.register_words.specs.Refusals.{reply_words}
 
--- ---- how an entry is told
+-- ---- how an entry is reported
 
--- a kind by its word, and one that has none by its number
+-- a kind by its word, or by its number if it has no word
 abbrev pub kind_word : ℕ → Text
 kind_word kind = if kind == 1 then codes "ACCREDIT"
     else (if kind == 2 then codes "UPLOAD" else (if kind == 3 then codes "PUBLISH" else decimal kind))
@@ -43,8 +43,8 @@ or_dash text = if length text == 0 then codes "-" else text
 abbrev pub moment_word : ℤ → Text
 moment_word seconds = if is_moment seconds then moment_text seconds else signed_decimal seconds
 
--- An entry in one line: its number, its kind, its office, its own number, its moment, its rules and its answer, with a
--- space between two.
+-- An entry in one line: its number, its kind, its office, its own number, its moment, its rules and its answer,
+-- separated by single spaces.
 unfoldable pub entry_line : KeptEntry → Text
 entry_line e = joined (decimal e.seq ∷ kind_word e.kind ∷ or_dash e.office ∷ decimal e.number
     ∷ moment_word e.moment
@@ -75,22 +75,22 @@ abbrev pub publication_in : KeptEntry → Option Request
 publication_in e =
     if length e.office == 0 && is_number e.number && length e.body == 0 then Some (Publish e.number) else None
 
--- the request that an entry of this kind was taken for
+-- the request that an entry of this kind was made for
 abbrev pub request_in : KeptEntry → Option Request
 request_in e = if is_accreditation e then accreditation_in e
     else (if is_upload e then upload_in e else (if is_publication e then publication_in e else None))
 
--- The request that a stored entry was taken for. None where its values are those of no request, its moment isn't one, or
--- its rules may not follow those of the entry before it.
+-- The request that a stored entry was made for. None if its values aren't those of a request, its moment isn't a
+-- moment, or its rules may not follow those of the entry before it.
 unfoldable pub asked_by : History → KeptEntry → Option Request
 asked_by before e = if is_moment e.moment && may_follow before e.rules then request_in e else None
 
--- the entry that comes of a request in a line, or the text of its reply where none comes
+-- the entry that results from a request, in a line, or the text of the reply if there is no entry
 abbrev pub outcome_text : Outcome → Text
 outcome_text (adds made) = entry_line made
 outcome_text (stays reply) = reply_words reply
 
--- the same of the request that a stored entry was taken for, asked by the entry's rules at its moment
+-- the same for the request that a stored entry was made for, by the entry's rules at its moment
 abbrev pub request_text : OfficeState → KeptEntry → Option Request → Text
 request_text office e None = codes "NOT_AN_ENTRY"
 request_text office e (Some request) = outcome_text (outcome_by e.rules office request e.moment)
@@ -101,22 +101,22 @@ replayed office e = request_text office e (asked_by office.history e)
 
 -- ---- the first entry that differs
 
--- an entry that is stored and isn't what the replay makes
+-- a stored entry that isn't what the replay makes
 abbrev pub not_next : OfficeState → KeptEntry → Damage
 not_next office e = record { entry = e.seq; kept = entry_line e; replayed = replayed office e }
 
--- no entry of this number is stored
+-- no entry with this number is stored
 abbrev pub missing : ℕ → Damage
 missing number = record { entry = number; kept = codes "none"; replayed = codes "NOT_AN_ENTRY" }
 
--- Where the entry of this number should be, another stands that isn't what the replay makes, or one of another number,
--- so that none of this number is stored.
+-- The entry that is stored in place of the one with this number isn't what the replay makes, or has another number, so
+-- that none with this number is stored.
 abbrev pub EntryDiffers : OfficeState → ℕ → KeptEntry → Damage → Type 0
 EntryDiffers office number e damage =
     ((e.seq ≡ number) × (IsNext office e → ⊥) × (damage ≡ not_next office e))
     ⊎ ((e.seq ≢ number) × (damage ≡ missing number))
 
--- The first entry that differs: those before it are a legal history, and it isn't the next one of that.
+-- The first entry that differs: those before it are a legal history, and it isn't the next entry of that history.
 pub record IsEntryDamage (limits : Limits) (entries : History) (damage : Damage) : Type 0 where
   pub before : History
   pub next : KeptEntry
@@ -125,14 +125,14 @@ pub record IsEntryDamage (limits : Limits) (entries : History) (damage : Damage)
   pub legal : Legal (office_of limits before)
   pub differs : EntryDiffers (office_of limits before) (length before + 1) next damage
 
--- ---- how a cell is told
+-- ---- how a cell is reported
 
 -- the number of a cell's kind, which is a text of one byte
 abbrev pub kind_in : Text → ℕ
 kind_in [] = 0
 kind_in (kind ∷ text) = kind
 
--- the sheet that the rows of this kind stand in
+-- the sheet with the rows of this kind
 abbrev pub sheet_at : ℕ → Sheet
 sheet_at kind = if kind == 1 then Sheet.Lei else (if kind == 2 then Sheet.Rr else Sheet.Repex)
 
@@ -151,8 +151,8 @@ abbrev pub row_word : Option Text → Text
 row_word None = codes "-"
 row_word (Some row) = row
 
--- A cell in one line: the number of its kind, its name, the number of the entry that touched it last and its row, with
--- a space between two.
+-- A cell in one line: the number of its kind, its name, the number of the entry that touched it last and its row,
+-- separated by single spaces.
 unfoldable pub cell_line : KeptCell → Text
 cell_line cell = joined (decimal cell.kind ∷ cell.name ∷ decimal cell.touched ∷ row_word cell.row ∷ [])
 
@@ -165,7 +165,7 @@ page_bounds last page = if nat_lt (16 * page) last
     then (16 * page, if nat_le (16 * page + 16) last then 16 * page + 16 else last)
     else (last, 18_446_744_073_709_551_615)
 
--- the cells of a page that are kept, in the order of kinds and names
+-- the kept cells of a page, in the order of kinds and names
 abbrev pub kept_page : KeptTables → ℕ × ℕ → List KeptCell
 kept_page tables bounds = cells_between bounds.0 bounds.1 tables
 
@@ -173,20 +173,20 @@ kept_page tables bounds = cells_between bounds.0 bounds.1 tables
 abbrev pub made_page : Held → ℕ × ℕ → List KeptCell
 made_page held bounds = map kept_of (touched bounds.0 bounds.1 held)
 
--- a cell in its line, and `none` for none
+-- a cell in its line, or `none` if there is none
 abbrev pub cell_or_none : Option KeptCell → Text
 cell_or_none None = codes "none"
 cell_or_none (Some cell) = cell_line cell
 
--- a cell that is kept and isn't the one of the register that stands in its place, if one does
+-- a kept cell that isn't the register's cell in its place, if there is one
 abbrev pub not_made : KeptCell → Option KeptCell → Damage
 not_made kept made = record { entry = kept.touched; kept = cell_line kept; replayed = cell_or_none made }
 
--- a cell of the register that isn't kept, nor any behind those before it
+-- a cell of the register that isn't kept, and after which no cell is kept
 abbrev pub not_kept : KeptCell → Damage
 not_kept made = record { entry = made.touched; kept = codes "none"; replayed = cell_line made }
 
--- the first of the cells that are kept and the first of those of the register differ
+-- the first of the kept cells and the first of the register's cells differ
 abbrev pub CellDiffers : List KeptCell → List KeptCell → Damage → Type 0
 CellDiffers [] [] damage = ⊥
 CellDiffers [] (made ∷ others) damage = damage ≡ not_kept made
@@ -203,7 +203,7 @@ pub record DifferFirst (kept made : List KeptCell) (damage : Damage) : Type 0 wh
   pub differs : CellDiffers kept_rest made_rest damage
 
 -- The first cell that differs from those of a register after this many entries: the pages before its own have the same
--- cells, and so has its own before it.
+-- cells, and so has its own page up to that cell.
 pub record IsCellDamage (last : ℕ) (held : Held) (tables : KeptTables) (damage : Damage) : Type 0 where
   pub page : ℕ
   pub earlier : (k : ℕ) → k < page
@@ -213,8 +213,8 @@ pub record IsCellDamage (last : ℕ) (held : Held) (tables : KeptTables) (damage
 
 -- ---- damage
 
--- The first difference: an entry that isn't what the replay makes; or, where the entries are a legal history, a cell
--- that isn't one of the register after it.
+-- The first difference: an entry that isn't what the replay makes; or, if the entries are a legal history, a cell that
+-- isn't one of the register after it.
 abbrev pub IsDamage : Limits → KeptTables → Damage → Type 0
 IsDamage limits tables damage = IsEntryDamage limits tables.entries damage
     ⊎ (Legal (office_of limits tables.entries)
@@ -230,18 +230,18 @@ abbrev pub DamageExcludes : Limits → KeptTables → Type 0
 DamageExcludes limits tables = (damage : Damage) → IsDamage limits tables damage
     → AreOfHistory limits tables → ⊥
 
--- Where an entry is the first difference, the two texts that tell it differ.
+-- If an entry is the first difference, the two texts that report it differ.
 abbrev pub EntryTextsDiffer : Limits → History → Type 0
 EntryTextsDiffer limits entries = (damage : Damage) → IsEntryDamage limits entries damage
     → damage.kept ≢ damage.replayed
 
--- A store has one first difference: no two damages are it.
+-- A store has one first difference: no two different damages are its first difference.
 abbrev pub DamageIsOne : Limits → KeptTables → Type 0
 DamageIsOne limits tables = (one other : Damage) → IsDamage limits tables one
     → IsDamage limits tables other → one ≡ other
 
--- The line of a cell that an entry touched, of a kind and a name that are known, tells the number of that entry and the
--- word of the row.
+-- The line of a cell that an entry touched, if its kind and name are known, shows the number of that entry and the word
+-- of the row.
 abbrev pub LineTellsCell : KeptCell → KeptCell → Type 0
 LineTellsCell one other = one.kind ≡ other.kind → one.name ≡ other.name → IsEntryNumber one.touched
     → IsEntryNumber other.touched → cell_line one ≡ cell_line other

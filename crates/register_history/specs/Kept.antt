@@ -17,16 +17,16 @@ use Rattle.upload_ledger.specs.History.{History}
 use Rattle.register_history.specs.Register.{held_after}
 use Rattle.register_history.specs.State.{OfficeState}
 
--- ---- where a cell stands
+-- ---- the place of a cell
 
--- texts with a space between two of them
+-- texts separated by single spaces
 abbrev pub joined : List Text → Text
 joined [] = []
 joined (text ∷ []) = text
 joined (text ∷ next ∷ texts) = text ++ 32 ∷ joined (next ∷ texts)
 
--- The place of a key: the byte of its kind, which is its first text, and behind it the name, its other texts with a
--- space between two.
+-- The place of a key: the byte of its kind, which is its first text, followed by the name, which is its other texts
+-- separated by single spaces.
 abbrev pub place_in : KeyTexts → CellPlace
 place_in [] = []
 place_in (kind ∷ texts) = kind ++ joined texts
@@ -37,13 +37,13 @@ IsKey (RowKey.Rec lei) = IsValid lei
 IsKey (RowKey.Rel start kind end) = IsValid start × IsValid end
 IsKey (RowKey.Exc lei category) = IsValid lei
 
--- the number of a key's kind: 1 of a record, 2 of a relationship, 3 of an exception
+-- the number of a key's kind: 1 for a record, 2 for a relationship, 3 for an exception
 abbrev pub kind_of : RowKey → ℕ
 kind_of (RowKey.Rec lei) = 1
 kind_of (RowKey.Rel start kind end) = 2
 kind_of (RowKey.Exc lei category) = 3
 
--- its name: the texts of the row's key with a space between two
+-- its name: the texts of the row's key separated by single spaces
 abbrev pub name_of : RowKey → Text
 name_of (RowKey.Rec lei) = joined (record_key lei)
 name_of (RowKey.Rel start kind end) = joined (relation_key start kind end)
@@ -51,13 +51,13 @@ name_of (RowKey.Exc lei category) = joined (exception_key lei category)
 
 -- ---- what is kept of it
 
--- the sheet that the rows of a key stand in
+-- the sheet with the rows of a key
 abbrev pub sheet_of : RowKey → Sheet
 sheet_of (RowKey.Rec lei) = Sheet.Lei
 sheet_of (RowKey.Rel start kind end) = Sheet.Rr
 sheet_of (RowKey.Exc lei category) = Sheet.Repex
 
--- the number of the entry that touched it last, and its row as a JSON object of the present fields, or none
+-- the number of the entry that touched it last, and its row as a JSON object of the present fields, or no row
 abbrev pub content : RowKey → Cell → CellContent
 content key cell = record {
   touched = cell.entry;
@@ -66,8 +66,8 @@ content key cell = record {
 
 -- ---- the tables
 
--- The kept cells are those of the register: under the place of each key is kept what the register has under the key,
--- and nothing is kept under any other place.
+-- The kept cells are those of the register: the place of each key has what the register has under the key, and no other
+-- place has anything.
 pub record AreCellsOf (held : Held) (cells : Cells) : Type 0 where
   pub each : (key : RowKey) → IsKey key
       → get cells (place_in (cell_key key)) ≡ option_map (content key) (get held (cell_key key))
@@ -83,7 +83,7 @@ pub record AreTablesWith (history : History) (held : Held) (tables : KeptTables)
 abbrev pub AreTablesOf : OfficeState → KeptTables → Type 0
 AreTablesOf office tables = AreTablesWith office.history (held_after office.limits office.history) tables
 
--- Where a keeper tells its tables, they are those of the office.
+-- If a keeper tells its tables, they are those of the office.
 abbrev pub Keeps : Option KeptTables → OfficeState → Type 0
 Keeps told office = IfSome told (AreTablesOf office)
 
@@ -91,14 +91,14 @@ Keeps told office = IfSome told (AreTablesOf office)
 abbrev pub StaysUntold : Option KeptTables → Option KeptTables → Type 0
 StaysUntold before now = IsSome now → IsSome before
 
--- No two tables are those of one office.
+-- No two different pairs of tables are those of one office.
 abbrev pub TablesAreOne : OfficeState → Type 0
 TablesAreOne office = (one other : KeptTables) → AreTablesOf office one
     → AreTablesOf office other → one ≡ other
 
 -- ---- cells that are committed
 
--- a touched key, as the cell that is kept of it
+-- a touched key, as the cell that is kept for it
 abbrev pub kept_cell : Touched → KeptCell
 kept_cell told = record {
   kind = kind_of told.key;

@@ -1,4 +1,4 @@
--- Which histories can come about, and runs of requests over them.
+-- Which histories are legal, and runs of requests over them.
 use Rattle.std.specs.Prelude.{◌≡◌, ◌⊎◌, ℕ, ℤ, ◌≤ℤ◌, List, [], ◌∷◌, ◌++◌, Bool, ◌&&◌, nat_le, IsTrue, if◌then◌else◌, Option, Some, None}
 use Rattle.lei_code.specs.Texts.{Lei}
 use Rattle.lei_shapes.specs.Moment.{IsMoment}
@@ -17,20 +17,19 @@ use Rattle.request_loop.specs.Sessions as sessions
 use Rattle.register_history.specs.State.{OfficeState, office_of}
 use Rattle.register_history.specs.Replies.{adds, newest_rules, next, outcome_by, reply, Step}
 
--- the request that an entry was taken for
+-- the request that an entry was made for
 abbrev pub request_of : KeptEntry → Option Request
 request_of e =
     if is_accreditation e then Some (Accredit e.office)
     else (if is_upload e then Some (Upload (record { office = e.office; number = e.number; body = e.body }))
     else (if is_publication e then Some (Publish e.number) else None))
 
--- the number of the rules of the last entry, and that of the first rules where there is none
+-- the number of the last entry's rules, or that of the first rules if there is no entry
 abbrev pub last_rules : Option KeptEntry → ℕ
 last_rules None = 1
 last_rules (Some e) = e.rules
 
--- These are rules that an entry after a history may have: there are such, and they aren't lower than those of the entry
--- before.
+-- An entry after a history may have these rules: they exist, and they aren't lower than those of the last entry.
 abbrev pub may_follow : History → ℕ → Bool
 may_follow history rules =
     nat_le 1 rules && nat_le rules newest_rules && nat_le (last_rules (last_entry history)) rules
@@ -53,7 +52,7 @@ LegalAfter limits before (e ∷ rest) = IsNext (office_of limits before) e
 unfoldable pub Legal : OfficeState → Type 0
 Legal office = LegalAfter office.limits [] office.history
 
--- the moment of no entry is later than that of the next one
+-- no entry's moment is later than that of the next entry
 abbrev pub MomentsNeverFall : History → Type 0
 MomentsNeverFall history =
     (before after : History) (first second : KeptEntry) → history ≡ before ++ first ∷ second ∷ after
@@ -66,20 +65,20 @@ UploadsAreNumbered history =
 
 -- ---- runs
 
--- A refusal of the reader is its own reply, and takes no moment. A request takes one, and makes a step. Where there
--- was no memory to read an upload, that is answered in place of its step: no moment is taken, and nothing changes.
+-- A refusal by the reader is its own reply, and takes no moment. A request takes one moment, and makes a step. If
+-- memory ran out while an upload was read, that is answered instead of its step: no moment is taken, and nothing
+-- changes.
 abbrev pub AskStep : OfficeState → Asked → List ℤ → Reply → OfficeState → Type 0
 AskStep old (Refuse refusal) moments answered new = (moments ≡ []) × (answered ≡ Words refusal) × (new ≡ old)
 AskStep old (Ask request) moments answered new =
     ((m : ℤ) × (moments ≡ m ∷ []) × Step old request m answered new)
     ⊎ (TakesMemoryToRead request × (moments ≡ []) × (answered ≡ Words NoMemory) × (new ≡ old))
 
--- these replies answer what was asked, in order, at these moments, from one office to the other
+-- these replies answer what was asked, in order, at these moments, and lead from one office to the other
 abbrev pub Session : OfficeState → List Asked → List ℤ → List Reply → OfficeState → Type 0
 Session = sessions.Session AskStep
 
--- The replies where memory is never wanting and the keeper never fails. Where the moments run out, nothing more is
--- answered.
+-- The replies if memory never runs out and the keeper never fails. If the moments run out, nothing more is answered.
 abbrev pub replies_to : OfficeState → List Asked → List ℤ → List Reply
 replies_to office [] moments = []
 replies_to office (Refuse refusal ∷ asks) moments = Words refusal ∷ replies_to office asks moments

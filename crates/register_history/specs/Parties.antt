@@ -20,8 +20,8 @@ use Rattle.upload_ledger.specs.History.{History, is_upload}
 use Rattle.register_history.specs.Register.{after, after_entry, entry_sitting, items_of}
 use Rattle.register_history.specs.State.{OfficeState}
 
--- A change of a record: the row that was held under its LEI, if any, the row that took its place, and the issuer that
--- sent it.
+-- A change of a record: the row that was held under its LEI, if any, the row that replaced it, and the issuer that sent
+-- it.
 pub record Change : Type 0 where
   pub held : Option Row
   pub row : Row
@@ -29,7 +29,7 @@ pub record Change : Type 0 where
 
 -- ---- the changes that a history made
 
--- what an item with this verdict changes: an accepted record its own row, and nothing else changes a record
+-- what an item with this verdict changes: an accepted record changes its own row, and nothing else changes a record
 abbrev pub changes_by : Table → Lei → Verdict → Readied → List Change
 changes_by table issuer Verdict.Accepted (Readied.Good (Item.Record row)) =
     (record { held = row_at table (lei_in row); row = row; issuer = issuer }) ∷ []
@@ -43,7 +43,7 @@ item_changes table sitting (item ∷ items) =
     changes_by table sitting.issuer given item
     ++ item_changes (put_all (writes_of given item) table) sitting items
 
--- the changes that an entry makes: those of its items where it is an upload, and none else
+-- the changes that an entry makes: those of its items if it is an upload, and otherwise none
 abbrev pub entry_changes : Limits → Table → KeptEntry → List Change
 entry_changes limits table e =
     if is_upload e then item_changes table (entry_sitting limits e) (items_of e) else []
@@ -58,7 +58,7 @@ changes_from limits table (e ∷ rest) =
 unfoldable pub changes : OfficeState → List Change
 changes office = changes_from office.limits no_rows office.history
 
--- the records' rows with a change made
+-- the rows of the records after a change
 abbrev pub changed : Rows → Change → Rows
 changed rows change = insert rows (record_key (lei_in change.row)) change.row
 
@@ -82,7 +82,7 @@ pub record IsPermitted (change : Change) : Type 0 where
 abbrev pub ChangesArePermitted : OfficeState → Type 0
 ChangesArePermitted office = All IsPermitted (changes office)
 
--- the records of the register are what its changes make, from none: no record comes or changes by anything else
+-- the records of the register are the result of its changes, starting from none: nothing else adds or changes a record
 abbrev pub ChangesMakeRecords : OfficeState → Type 0
 ChangesMakeRecords office = (after office.limits office.history).records
     ≡ fold changed no_rows.records (changes office)

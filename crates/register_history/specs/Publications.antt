@@ -1,4 +1,4 @@
--- Publications: the golden copies that a history made, one behind the other. This project's profile.
+-- Publications: the golden copies that a history made, one after another. This project's profile.
 use Rattle.std.specs.Prelude.{◌≡◌, ℕ, nat_le, nat_lt, List, [], ◌∷◌, ◌++◌, length, map, flat_map, filter, Bool, true, false, not, if◌then◌else◌}
 use Rattle.std.specs.FinMap.{values}
 use Rattle.std.specs.Str.{bytes_eq}
@@ -22,7 +22,7 @@ use Rattle.register_history.specs.State.{OfficeState}
 
 -- ---- the rows that are published
 
--- the rows of a table that stand in a sheet, under their keys and in the order of these
+-- the rows of a table that belong to a sheet, under their keys and in the order of the keys
 abbrev pub rows_in : Table → Sheet → Rows
 rows_in table Sheet.Lei = table.records
 rows_in table Sheet.Rr = table.relations
@@ -36,42 +36,42 @@ is_annulled RelationRegistration.Lapsed = false
 is_annulled RelationRegistration.Retired = false
 is_annulled RelationRegistration.Annulled = true
 
--- each row is published, but for a relationship whose registration is annulled
+-- each row is published, except a relationship whose registration is annulled
 abbrev pub is_published : Sheet → Row → Bool
 is_published Sheet.Lei row = true
 is_published Sheet.Rr row = not (is_annulled (registration_in row))
 is_published Sheet.Repex row = true
 
--- the rows of a sheet that are published of a table, in the order of their keys
+-- the rows of a sheet that are published from a table, in the order of their keys
 abbrev pub published_rows : Table → Sheet → List SheetRow
 published_rows table sheet = map (row_of sheet) (filter (is_published sheet) (values (rows_in table sheet)))
 
 -- ---- the keys that were touched
 
--- the kind of the cells whose rows stand in a sheet
+-- the kind of the cells whose rows belong to a sheet
 abbrev pub cell_kind : Sheet → Text
 cell_kind Sheet.Lei = record_kind
 cell_kind Sheet.Rr = relation_kind
 cell_kind Sheet.Repex = exception_kind
 
--- the key of a cell's row, where the row stands in this sheet
+-- the key of a cell's row, if the row belongs to this sheet
 abbrev pub key_within : Sheet → KeyTexts → List KeyTexts
 key_within sheet [] = []
 key_within sheet (kind ∷ key) = if bytes_eq kind (cell_kind sheet) then key ∷ [] else []
 
--- the keys of a sheet that entries touched whose numbers are greater than one number and at most another
+-- the keys of a sheet touched by entries whose numbers are greater than the first number and at most the second
 abbrev pub keys_touched : ℕ → ℕ → Held → Sheet → List KeyTexts
 keys_touched after upto held sheet = flat_map (λ cell. key_within sheet cell.0) (touched after upto held)
 
--- the keys of a sheet under which these writes put or take out a row
+-- the keys of a sheet under which these writes put or remove a row
 abbrev pub keys_written : Sheet → WriteList → List KeyTexts
 keys_written sheet writes = flat_map (λ write. key_within sheet (cell_key write.0)) writes
 
--- the keys of a sheet of the items that are accepted of an entry's upload, judged on the table that these entries leave
+-- the keys of a sheet, of the accepted items of an entry's upload, judged on the table that these entries leave
 abbrev pub keys_accepted : Limits → History → KeptEntry → Sheet → List KeyTexts
 keys_accepted limits before e sheet = keys_written sheet (entry_writes limits (after limits before) e)
 
--- The same of all entries of the rest whose number is greater, each judged on those before it.
+-- The same for all entries of the rest whose number is greater, each judged on those before it.
 abbrev pub keys_accepted_since : ℕ → Limits → History → History → Sheet → List KeyTexts
 keys_accepted_since number limits before [] sheet = []
 keys_accepted_since number limits before (e ∷ rest) sheet =
@@ -80,16 +80,16 @@ keys_accepted_since number limits before (e ∷ rest) sheet =
 
 -- ---- the publications of a history
 
--- the number of the entry that made the latest publication, 0 where there is none
+-- the number of the entry that made the latest publication, or 0 if there is none
 abbrev pub last_published : History → ℕ
 last_published history = number_of (last_entry (publications history))
 
--- the files of a publication are wide, where they may be, if its entry has the third rules or later ones
+-- the files of a publication are wide, if they may be, if its entry has the third rules or later ones
 abbrev pub is_wide : ℕ → Bool
 is_wide rules = nat_le 3 rules
 
--- The publication that an entry makes behind these: its moment, whether its files are wide, the rows of the register that
--- they leave, and the keys that were touched behind the publication before it.
+-- The publication that an entry makes after these: its moment, whether its files are wide, the rows of the register
+-- that they leave, and the keys that were touched after the previous publication.
 abbrev pub publication_by : Limits → History → KeptEntry → Publication
 publication_by limits before e = record {
   moment = e.moment;
@@ -98,11 +98,11 @@ publication_by limits before e = record {
   touched = keys_touched (last_published before) (length before) (held_after limits before);
 }
 
--- what an entry publishes behind these: a publication, where it is of this kind, and nothing else
+-- what an entry publishes after these: a publication if it is of this kind, and otherwise nothing
 abbrev pub published_by : Limits → History → KeptEntry → Trail
 published_by limits before e = if is_publication e then publication_by limits before e ∷ [] else []
 
--- what the rest of a history publishes behind the entries before it
+-- what the rest of a history publishes after the entries before it
 abbrev pub trail_behind : Limits → History → History → Trail
 trail_behind limits before [] = []
 trail_behind limits before (e ∷ rest) = published_by limits before e
@@ -112,7 +112,7 @@ trail_behind limits before (e ∷ rest) = published_by limits before e
 unfoldable pub trail : OfficeState → Trail
 trail office = trail_behind office.limits [] office.history
 
--- A publication counts a key as touched exactly if an item of that key was accepted between the publication before it
+-- A publication counts a key as touched exactly if an item of that key was accepted between the previous publication
 -- and its own entry.
 abbrev pub TouchedKeysWereAccepted : OfficeState → Type 0
 TouchedKeysWereAccepted office =

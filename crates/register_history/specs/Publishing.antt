@@ -1,4 +1,4 @@
--- What a publication changes: the keys that were touched since the one before, each with the row that is published.
+-- What a publication changes: the keys that were touched since the previous one, each with the row that is published.
 use Rattle.std.specs.Prelude.{◌≡◌, ℕ, List, length, map, if◌then◌else◌, Option, Some, None}
 use Rattle.lei_records.specs.declared.item.Item.{Item}
 use Rattle.lei_records.specs.declared.view.RowKey.{RowKey}
@@ -15,8 +15,8 @@ use Rattle.register_words.specs.declared.limits.Limits.{Limits}
 use Rattle.register_history.specs.Publications.{is_annulled, last_published}
 use Rattle.register_history.specs.Register.{held_after}
 
--- the row that is published of what is held under a key: none where nothing is, nor of a relationship whose
--- registration is annulled
+-- the row that is published of what is held under a key: none if nothing is held, or if the registration of a
+-- relationship is annulled
 abbrev pub row_published : Option Item → Option SheetRow
 row_published None = None
 row_published (Some (Item.Record row)) = Some (row_of Sheet.Lei row)
@@ -28,15 +28,15 @@ row_published (Some (Item.Exception item)) = Some (row_of Sheet.Repex item.0)
 abbrev pub change_of : Touched → RowKey × Option SheetRow
 change_of told = (told.key, row_published told.item)
 
--- These are the keys that entries touched last whose numbers are greater than one number and at most another, in the
--- order of the register's cells, each with the row that is published of it, or with none.
+-- These are the keys last touched by entries whose numbers are greater than one number and at most another. They are in
+-- the order of the register's cells, each with the row that is published for it, or with none.
 pub record AreChangesSince (after upto : ℕ) (held : Held) (changes : Changes) : Type 0 where
   pub told : List Touched
   pub touched : map shown told ≡ touched after upto held
   pub own : AreOwnItems told
   pub are : changes ≡ map change_of told
 
--- What the next publication changes: the keys that were touched behind the entry that made the publication before it.
+-- What the next publication changes: the keys that were touched after the entry of the previous publication.
 abbrev pub AreNextChanges : Limits → History → Changes → Type 0
 AreNextChanges limits history changes =
     AreChangesSince (last_published history) (length history) (held_after limits history) changes

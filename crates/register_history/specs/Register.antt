@@ -21,7 +21,7 @@ use Rattle.lei_outside.specs.Keeping.{number_of}
 use Rattle.upload_ledger.specs.History.{History, is_upload, last_entry}
 use Rattle.register_history.specs.State.{OfficeState}
 
--- the items of a body after the checks of their fields by these rules, none of a body that is no upload
+-- the items of a body after the checks of their fields by these rules, and none if the body isn't an upload
 abbrev pub items_in : Rules → Result (List RawItem) Malformed → List Readied
 items_in rules (Ok raws) = map (ready rules) raws
 items_in rules (Err fault) = []
@@ -39,17 +39,17 @@ entry_sitting limits e = sitting_by (rules_of e.rules) limits.records (day_of e.
 abbrev pub take_items : Limits → Table → KeptEntry → List Readied → Taken
 take_items limits table e items = take table (entry_sitting limits e) items
 
--- the table after an entry: an upload takes its items, and every other entry leaves it
+-- the table after an entry: an upload takes its items, and every other entry leaves it unchanged
 abbrev pub after_entry : Limits → Table → KeptEntry → Table
 after_entry limits table e = if is_upload e then (take_items limits table e (items_of e)).table else table
 
--- the table after a history, from the one without records
+-- the table after a history, starting without records
 unfoldable pub after : Limits → History → Table
 after limits history = fold (after_entry limits) no_rows history
 
 -- ---- the cells of the register
 
--- what an entry writes, judged on a table: the accepted items of an upload, and nothing of any other entry
+-- what an entry writes, judged on a table: the accepted items of an upload, and nothing for any other entry
 abbrev pub entry_writes : Limits → Table → KeptEntry → WriteList
 entry_writes limits table e = if is_upload e then (take_items limits table e (items_of e)).writes else []
 
@@ -57,7 +57,7 @@ entry_writes limits table e = if is_upload e then (take_items limits table e (it
 abbrev pub held_after_entry : Limits → Held → KeptEntry → Held
 held_after_entry limits held e = touch_all e.seq (entry_writes limits (rows held) e) held
 
--- the cells after a history, from none
+-- the cells after a history, starting from none
 unfoldable pub held_after : Limits → History → Held
 held_after limits history = fold (held_after_entry limits) empty history
 
@@ -66,7 +66,7 @@ abbrev pub CellsHaveTheRows : OfficeState → Type 0
 CellsHaveTheRows office = rows (held_after office.limits office.history) ≡ after office.limits office.history
 
 -- The table that is kept after a history: it has the cells after it, their rows are those of the table after it, and no
--- cell has a greater number than the last entry, whose number is how many there are.
+-- cell has a number greater than that of the last entry, which is the number of entries.
 pub record IsKeptAfter (limits : Limits) (history : History) (table : TableState) : Type 0 where
   pub held : table.held ≡ held_after limits history
   pub rows : rows table.held ≡ after limits history

@@ -1,4 +1,4 @@
--- What is answered to a request, and what is added for it: both are read off one outcome.
+-- The reply to a request, and what is added for it: both come from one outcome.
 use Rattle.std.specs.Prelude.{◌≡◌, ◌⊎◌, ℕ, ℤ, ◌+◌, List, [], ◌∷◌, ◌++◌, length, map, Bool, true, false, ◌||◌, ◌==◌, nat_lt, nat_le, is_some, if◌then◌else◌, IsTrue, Option, Some, None, Result, Ok, Err}
 use Rattle.std.specs.FinMap.{len}
 use Rattle.lei_code.specs.Texts as texts
@@ -41,27 +41,27 @@ use Rattle.register_history.specs.State.{OfficeState}
 use Rattle.register_history.specs.declared.terms.EntryTerms.{EntryTerms}
 use Rattle.copy_forms.specs.Items.{item_text}
 
--- A request leaves the history, and has this reply; or it adds this entry, and has the entry's reply.
+-- A request leaves the history unchanged, and has this reply; or it adds this entry, and has the entry's reply.
 pub data Outcome : Type 0 where
   stays : Reply → Outcome
   adds : KeptEntry → Outcome
 
--- The status code of the reply that tells an entry of this kind, after those of HTTP (RFC 9110): 201 of a publication,
--- 200 of any other.
+-- The status code of the reply that reports an entry of this kind, following HTTP (RFC 9110): 201 for a publication,
+-- 200 for any other.
 abbrev pub kind_status_code : ℕ → ℕ
 kind_status_code kind = if kind == 3 then 201 else 200
 
--- a text of JSON, as it is answered with this status code
+-- a JSON text, as it is answered with this status code
 abbrev pub json_reply : ℕ → texts.Text → Reply
 json_reply code text = Text code Json text
 
--- the reply that an entry's answer makes
+-- the reply that an entry's answer gives
 abbrev pub told : KeptEntry → Reply
 told e = json_reply (kind_status_code e.kind) e.answer
 
 -- ---- what a request adds, by the rules and at the moment of the new entry
 
--- an accreditation is an entry of kind 1, without a number and a body
+-- an accreditation is an entry of kind 1, without a number or a body
 abbrev pub accreditation : History → Lei → EntryTerms → KeptEntry
 accreditation history issuer terms =
     let number = length history + 1 in
@@ -100,7 +100,7 @@ taken_upload office call terms raws =
     let taken = take table sitting (map (ready rules) raws) in
     upload_entry office.history call terms taken.verdicts
 
--- how many rows of each sheet are published of a table: records, relationships and exceptions
+-- how many rows of each sheet are published from a table: records, relationships and exceptions
 abbrev pub published_counts : Table → ℕ × ℕ × ℕ
 published_counts table = (
   length (published_rows table Sheet.Lei),
@@ -108,7 +108,7 @@ published_counts table = (
   length (published_rows table Sheet.Repex),
 )
 
--- a publication is an entry of kind 3, without an office and a body, with the number that was asked for
+-- a publication is an entry of kind 3, without an office or a body, with the number in the request
 abbrev pub publication_entry : OfficeState → ℕ → EntryTerms → KeptEntry
 publication_entry office number terms =
     let seq = length office.history + 1 in
@@ -123,30 +123,30 @@ publication_entry office number terms =
       answer = publication_text seq number terms.moment (published_counts (after office.limits office.history));
     }
 
--- ---- what a request comes to
+-- ---- the outcome of a request
 
--- there are as many entries as the limit
+-- the number of entries is at its limit
 abbrev pub is_full : OfficeState → Bool
 is_full office = nat_le office.limits.entries (length office.history)
 
--- the bodies that are kept would have more bytes than the limit, with this one
+-- with this body, the kept bodies would have more bytes than the limit
 abbrev pub is_too_much : OfficeState → texts.Body → Bool
 is_too_much office body = nat_lt office.limits.kept (kept_bytes office.history + length body)
 
--- an issuer that is accredited gets the answer from then
+-- an issuer that is already accredited gets the answer from then
 abbrev pub accredit_outcome : OfficeState → Lei → EntryTerms → Option texts.Text → Outcome
 accredit_outcome office issuer terms None =
     if is_full office then stays (Words LedgerFull) else adds (accreditation office.history issuer terms)
 accredit_outcome office issuer terms (Some text) = stays (json_reply (kind_status_code 1) text)
 
--- a body that is no upload takes no number, and neither does one for which there is no room
+-- a body that isn't an upload takes no number, and neither does one that there is no room for
 abbrev pub body_outcome : OfficeState → Call → EntryTerms → Result (List RawItem) Malformed → Outcome
 body_outcome office call terms (Ok raws) =
     if is_full office || is_too_much office call.body then stays (Words LedgerFull)
     else adds (taken_upload office call terms raws)
 body_outcome office call terms (Err fault) = stays (Words (refusals.Malformed fault))
 
--- a repeat gets the answer that was kept, at any later place
+-- a repeat gets the kept answer, however late it comes
 abbrev pub place_outcome : OfficeState → Call → EntryTerms → Place → Outcome
 place_outcome office call terms unknown_issuer = stays (Words IssuerUnknown)
 place_outcome office call terms (repeat_of answer) = stays (json_reply (kind_status_code 2) answer)
@@ -160,12 +160,12 @@ upload_outcome office call terms =
     if nat_lt office.limits.body (length call.body) then stays (Words TooLong)
     else place_outcome office call terms (place office.history call.office call.number call.body)
 
--- an upload's answer is told as it was kept
+-- an upload's answer is returned as it was kept
 abbrev pub answer_outcome : Option texts.Text → Outcome
 answer_outcome None = stays (Words NotKept)
 answer_outcome (Some text) = stays (json_reply (kind_status_code 2) text)
 
--- of an accredited issuer
+-- the same for an accredited issuer only
 abbrev pub kept_outcome : History → Lei → ℕ → Outcome
 kept_outcome history issuer number =
     if is_some (accredited history issuer) then answer_outcome (kept history issuer number)
@@ -175,7 +175,7 @@ kept_outcome history issuer number =
 abbrev pub next_publication : History → ℕ
 next_publication history = length (publications history) + 1
 
--- A publication that was made gets the answer from then. Of all other numbers it is only the next one that is made.
+-- An existing publication gets the answer from then. Of all other numbers, only the next one is made.
 abbrev pub publish_outcome : OfficeState → ℕ → EntryTerms → Option texts.Text → Outcome
 publish_outcome office number terms None =
     if number == next_publication office.history then
@@ -198,7 +198,7 @@ copied sheet form number (Some publication) =
 abbrev pub copy_outcome : Sheet → Form → Trail → Outcome
 copy_outcome sheet form made = copied sheet form (length made) (latest made)
 
--- the refusal that tells why there is no base
+-- the refusal that reports why there is no base
 abbrev pub base_refusal : ShelfFault → Refusal
 base_refusal ShelfFault.NothingPublished = NothingPublished
 base_refusal ShelfFault.PublicationUnknown = PublicationUnknown
@@ -225,11 +225,11 @@ show_outcome (Some row) = stays (json_reply 200 (item_text (Item.Record row)))
 abbrev pub held_counts : Table → ℕ × ℕ × ℕ
 held_counts table = (len table.records, len table.relations, len table.exceptions)
 
--- the numbers of what is kept, and of what is held
+-- the numbers of what is kept and of what is held
 abbrev pub status_outcome : History → Table → Outcome
 status_outcome history table = stays (json_reply 200 (status_text (totals history) (held_counts table)))
 
--- what a request comes to, where an entry that is added has these rules and this moment
+-- the outcome of a request, if an entry that is added has these rules and this moment
 abbrev pub outcome_at : OfficeState → Request → EntryTerms → Outcome
 outcome_at office (requests.Accredit issuer) terms =
     accredit_outcome office issuer terms (accredited office.history issuer)
@@ -242,19 +242,19 @@ outcome_at office (requests.Copy sheet form) terms = copy_outcome sheet form (tr
 outcome_at office (requests.Delta base sheet form) terms = delta_outcome base sheet form (trail office)
 outcome_at office requests.Status terms = status_outcome office.history (after office.limits office.history)
 
--- the terms of the next entry by these rules, where its request comes at this moment of the clock
+-- the terms of the next entry by these rules, if its request comes at this moment of the clock
 abbrev pub terms_by : ℕ → History → ℤ → EntryTerms
 terms_by rules history moment = record { rules = rules; moment = stamp history moment }
 
--- what a request comes to by these rules at this moment of the clock
+-- the outcome of a request by these rules at this moment of the clock
 abbrev pub outcome_by : ℕ → OfficeState → Request → ℤ → Outcome
 outcome_by rules office request moment = outcome_at office request (terms_by rules office.history moment)
 
--- the rules of each entry that is made now: the third
+-- the rules of each entry that is made now: the third rules
 abbrev pub newest_rules : ℕ
 newest_rules = 3
 
--- what a request that is made now comes to
+-- the outcome of a request that is made now
 abbrev pub outcome : OfficeState → Request → ℤ → Outcome
 outcome office request moment = outcome_by newest_rules office request moment
 
@@ -278,7 +278,7 @@ next_of office outcome = record office { history = history_after office.history 
 abbrev pub reply_by : ℕ → OfficeState → Request → ℤ → Reply
 reply_by rules office request moment = reply_of (outcome_by rules office request moment)
 
--- the office after it
+-- the office after the request
 abbrev pub next_by : ℕ → OfficeState → Request → ℤ → OfficeState
 next_by rules office request moment = next_of office (outcome_by rules office request moment)
 
@@ -286,13 +286,13 @@ next_by rules office request moment = next_of office (outcome_by rules office re
 abbrev pub reply : OfficeState → Request → ℤ → Reply
 reply office request moment = reply_by newest_rules office request moment
 
--- the office after it
+-- the office after the request
 abbrev pub next : OfficeState → Request → ℤ → OfficeState
 next office request moment = next_by newest_rules office request moment
 
--- ---- one step, which want of memory or the keeper may stop
+-- ---- one step, which lack of memory or the keeper may stop
 
--- An upload is refused for a full ledger once its body was read, and an accreditation or a publication at once.
+-- An upload is refused for a full ledger only after its body was read, an accreditation or a publication at once.
 abbrev pub full_needs_memory : Request → Bool
 full_needs_memory (requests.Accredit issuer) = false
 full_needs_memory (requests.Upload call) = true
@@ -303,7 +303,7 @@ full_needs_memory (requests.Copy sheet form) = false
 full_needs_memory (requests.Delta base sheet form) = false
 full_needs_memory requests.Status = false
 
--- The others but for a malformed body are found in what is kept, with no memory.
+-- The other refusals, except for a malformed body, follow from what is kept, without memory.
 abbrev pub needs_memory : Request → Refusal → Bool
 needs_memory request TooLong = false
 needs_memory request NoRoute = false
@@ -325,7 +325,7 @@ needs_memory request HeadTooLong = false
 needs_memory request LengthRequired = false
 needs_memory request (refusals.Method allowed) = false
 
--- a reply to this request whose making takes memory
+-- a reply to this request that takes memory to make
 abbrev pub takes_memory : Request → Reply → Bool
 takes_memory request (Text code kind text) = true
 takes_memory request (Words refusal) = needs_memory request refusal
@@ -335,8 +335,8 @@ abbrev pub IsAddition : Outcome → Type 0
 IsAddition (stays reply) = ⊥
 IsAddition (adds e) = Unit {0}
 
--- The request's reply, and the office after it. Where the reply takes memory, its want may be answered in its place,
--- and where an entry would be added, that it couldn't be kept; then nothing changes.
+-- The request's reply, and the office after it. If the reply takes memory, the reply may report lack of memory instead.
+-- If an entry would be added, it may report that the entry couldn't be kept. In both cases nothing changes.
 abbrev pub StepOf : Request → Outcome → OfficeState → Reply → OfficeState → Type 0
 StepOf request outcome old answered new = ((answered ≡ reply_of outcome) × (new ≡ next_of old outcome))
     ⊎ ((answered ≡ Words NoMemory) × (new ≡ old) × IsTrue (takes_memory request (reply_of outcome)))

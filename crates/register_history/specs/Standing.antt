@@ -1,4 +1,4 @@
--- Where the cells of a register stand.
+-- The keys of a register's cells.
 use Rattle.std.specs.Prelude.{◌≡◌, ◌≤◌, ℕ, Some}
 use Rattle.std.specs.FinMap.{get}
 use Rattle.lei_records.specs.Tables.{KeyTexts}
@@ -6,7 +6,7 @@ use Rattle.lei_records.specs.declared.view.RowKey.{RowKey}
 use Rattle.register_table.specs.Held.{Cell, Held, cell_key}
 use Rattle.register_history.specs.Kept.{IsKey}
 
--- A cell stands under the key of a row, and was touched by an entry up to this one.
+-- A cell is under the key of a row, and was touched by one of the entries up to this one.
 pub record Stands (last : ℕ) (key : KeyTexts) (cell : Cell) : Type 0 where
   pub row_key : RowKey
   pub is_key : IsKey row_key
@@ -14,6 +14,6 @@ pub record Stands (last : ℕ) (key : KeyTexts) (cell : Cell) : Type 0 where
   pub some : 1 ≤ cell.entry
   pub most : cell.entry ≤ last
 
--- Each cell that is held stands so.
+-- This holds for each cell that is held.
 abbrev pub AllStand : ℕ → Held → Type 0
 AllStand last held = (key : KeyTexts) (cell : Cell) → get held key ≡ Some cell → Stands last key cell

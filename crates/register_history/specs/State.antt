@@ -12,6 +12,6 @@ pub record OfficeState : Type 0 where
 abbrev pub office_of : Limits → History → OfficeState
 office_of limits history = record { limits = limits; history = history }
 
--- the office with these limits that took nothing yet
+-- the office with these limits that has taken nothing yet
 abbrev pub opened : Limits → OfficeState
 opened limits = office_of limits []

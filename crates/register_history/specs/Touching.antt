@@ -11,16 +11,16 @@ use Rattle.register_table.specs.Touched.{shown, touched}
 use Rattle.register_table.specs.Undos.{IsLater}
 use Rattle.register_history.specs.Kept.{IsKey, kept_cell}
 
--- The entry of this number came after all that touched the cells before, and each cell after it is the one before, or
--- has its number.
+-- The entry with this number came after all that touched the cells before, and each cell afterwards is unchanged, or
+-- has this number.
 pub record Touches (number : ℕ) (before after : Held) : Type 0 where
   pub later : IsLater number before
   pub each : (key : KeyTexts)
       → (get after key ≡ get before key)
       ⊎ ((cell : Cell) × (get after key ≡ Some cell) × (cell.entry ≡ number))
 
--- These are the cells that entries touched last whose numbers are greater than one number and at most another, as they
--- are kept: each stands under a key whose LEIs are LEIs, and its item is the key's own.
+-- These are the cells last touched by entries whose numbers are greater than one number and at most another, as they
+-- are kept: each is under a key whose LEIs are valid, and its item is the key's own.
 pub record AreCellsTouched (after upto : ℕ) (held : Held) (cells : List KeptCell) : Type 0 where
   pub list : List Touched
   pub are : cells ≡ map kept_cell list
@@ -28,6 +28,6 @@ pub record AreCellsTouched (after upto : ℕ) (held : Held) (cells : List KeptCe
   pub keys : AllByRecursion (λ told. IsKey told.key) list
   pub own : AllByRecursion (λ told. IsItemOf told.key told.item) list
 
--- These are the cells that the entry of this number touched last, as they are kept.
+-- These are the cells that the entry with this number touched last, as they are kept.
 abbrev pub AreTouchedCells : ℕ → Held → List KeptCell → Type 0
 AreTouchedCells number held cells = AreCellsTouched (number - 1) number held cells

@@ -1,5 +1,5 @@
-//! Histories: what is answered to a request over one, what it adds, and the register that its entries leave. Laws hold
-//! of each history that can come about.
+//! Histories: the reply to a request over a history, what the request adds, and the register that the entries leave.
+//! Laws hold for each legal history.
 #![tactic(auto)]
 
 mod damage;

@@ -1,7 +1,7 @@
 //! The terms of the next entry.
 use lei_shapes::Moment;
 
-/// By which rules an entry is made, and at which moment.
+/// The rules by which an entry is made, and its moment.
 #[derive(Debug, Clone, Copy, PartialEq, Eq)]
 pub struct EntryTerms {
     /// The number of the rules, from 1 to the newest.

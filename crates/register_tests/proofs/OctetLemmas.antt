@@ -1,4 +1,4 @@
--- What is read of bytes that are frames of their own.
+-- What is read of bytes that are each a frame.
 use Rattle.std.proofs.Common.{◌≡◌, ℕ, ◌<◌, List, [], ◌∷◌, length, get_or, Some, inl, refl, sym, ap, ◌∙◌, subst, arith}
 use Rattle.request_loop.specs.Frames.{ReadsRefused, ReadsWhole}
 use Rattle.request_loop.specs.declared.frames.Want.{Want}

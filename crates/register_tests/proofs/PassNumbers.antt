@@ -1,4 +1,4 @@
--- Passes that go from one list to another, and keep their numbers.
+-- Passes that move from one list to another, and keep their numbers.
 use Rattle.std.proofs.Common.{◌≡◌, ℕ, zero, suc, ◌<◌, ◌⊎◌, inl, inr, ⊎_elim, List, [], ◌∷◌, ◌++◌, length, Some, slice_get, refl, sym, ap, ◌∙◌, subst, arith, length-append}
 use Rattle.std.proofs.lemmas.Option.{none-some}
 use Rattle.std.proofs.lemmas.List.Elements.{All-nil, All-pop, All-push}
@@ -31,7 +31,7 @@ module _ {E D : Type 0} where
   abbrev Has : List (PassView E D) → ℕ → Type 0
   Has ps k = (i : ℕ) × (p : PassView E D) × (slice_get ps i ≡ Some p) × (p.number ≡ k)
 
-  -- The passes of two lists are of one table, and each number below n is that of one of them.
+  -- The passes of two lists belong to one table, and each number below n is that of one of them.
   pub record Share (table : TableId) (n : ℕ) (left done : List (PassView E D)) : Type 0 where
     pub of_left : AreOf table left
     pub of_done : AreOf table done
@@ -80,7 +80,7 @@ module _ {E D : Type 0} where
   share_table table n left left' done p h taken =
       (All-pop (λ (q : PassView E D). q.table ≡ table) left left' (Some p) taken h.of_left).1
 
-  -- Two passes were taken from the end of a list of two, one after the other, and put back in this order.
+  -- Two passes were taken from the end of a list of two, one after another, and put back in this order.
   pub two_back : (table : TableId) (n m : ℕ) (passes mid rest one done : List (PassView E D))
       (first second first' second' : PassView E D) → AreOf table passes → HaveAll m passes → n ≡ m → length passes ≡ 2
       → passes ≡ mid ++ second ∷ [] → mid ≡ rest ++ first ∷ [] → one ≡ rest ++ second' ∷ [] → done ≡ one ++ first' ∷ []

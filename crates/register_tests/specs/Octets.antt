@@ -7,7 +7,7 @@ use Rattle.request_loop.specs.declared.frames.Want.{Want}
 abbrev pub octet_want : ℕ → Want ℕ (Unit {0})
 octet_want byte = record { asked = byte; ends = if byte == 46 then Some (tt {0}) else None }
 
--- The bytes begin with one that wants this.
+-- The bytes start with one that wants this.
 abbrev pub IsOctet : List ℕ → Option (Want ℕ (Unit {0})) → List ℕ → Type 0
 IsOctet bytes None rest = ⊥
 IsOctet bytes (Some want) rest = (byte : ℕ) × (bytes ≡ byte ∷ rest) × (want ≡ octet_want byte)
@@ -23,11 +23,11 @@ octet_rules = record {
   text = λ want reply. reply ∷ [];
 }
 
--- The replies that wait.
+-- The replies that are waiting.
 abbrev pub waiting_of : Bool → List ℕ
 waiting_of refuses = if refuses then 63 ∷ [] else []
 
--- A byte is sent back, at a moment of the clock; or it is a zero, and a question mark is.
+-- A byte is sent back, at a moment of the clock; or the byte is a zero, and a question mark is sent back.
 abbrev pub EchoStep : ℕ → ℕ → List ℤ → ℕ → ℕ → Type 0
 EchoStep old asked moments reply new =
     ((m : ℤ) × (moments ≡ m ∷ []) × (reply ≡ asked))

@@ -1,5 +1,5 @@
-//! Uploads that are judged ahead of their turns: a plan that is stale when its turn comes, and callers who are judged
-//! at once.
+//! Uploads that are judged ahead of their turns: a plan that is stale when its turn comes, and callers whose uploads
+//! are judged at the same time.
 ghost use Rattle.std.specs.Prelude.{◌≡◌, All, IsSomeAnd};
 ghost use Rattle.std.specs.Thread.{IsSync};
 ghost use Rattle.register_words.specs.Requests.{IsUploadNumber};
@@ -37,7 +37,7 @@ const FIRST_TAKEN: Step = (
     r#"{"entry":3,"issuer":"506700GE1G29325QX363","items":["ACCEPTED"],"number":1}"#,
 );
 
-// The reply to an upload of which a plan was made before another upload was taken.
+// The reply to an upload whose plan was made before another upload was taken.
 fn reply_to_planned<K: Keeper, R: Threads + Sync>(
     rt: &R,
     alloc: Global,
@@ -57,7 +57,7 @@ fn reply_to_planned<K: Keeper, R: Threads + Sync>(
     Some(office.settle(rt, planned, Some(plan), moment))
 }
 
-// Whether an upload is judged again after another issuer's took the authority key of its record, though the cell of the
+// Whether an upload is judged again after another issuer's upload took the authority key of its record. The cell of the
 // key was empty when the upload was planned.
 fn is_judged_again<R: Threads + Sync>(
     rt: &R,
@@ -97,10 +97,10 @@ fn a_plan_is_judged_again_after_an_empty_cell_was_filled(rt: HostRuntime) -> Res
 
 // ---- gates
 
-// How often a gate looks whether what it waits for has come.
+// How often a gate checks whether what it waits for has come.
 const LOOKS: u64 = 4_000_000_000;
 
-// Waits until a count has come so far, or gives up.
+// Waits until a count has reached this value, or gives up.
 fn wait_for(count: &AtomicU64, least: u64) {
     for _ in 0..LOOKS {
         if count.load(Ordering::SeqCst) >= least {
@@ -109,14 +109,14 @@ fn wait_for(count: &AtomicU64, least: u64) {
     }
 }
 
-// A gate that is told when an upload was answered.
+// A gate that is informed when an upload was answered.
 trait Watch: Gate {
     // An upload of this issuer was answered.
     fn note_reply(&self, issuer: &Lei);
 }
 
-// Holds the uploads of the first issuer up until one of another was answered, and those of others until one of the
-// first has come. Counts those of which one item was accepted ahead.
+// Holds up the uploads of the first issuer until one of another was answered, and those of others until one of the
+// first has come. Counts those with one item accepted ahead.
 #[derive(Drop)]
 struct AfterOther {
     come: AtomicU64,
@@ -146,7 +146,7 @@ impl Watch for AfterOther {
     }
 }
 
-// Holds each upload up until another one has come, and counts those of which one item was accepted ahead.
+// Holds up each upload until another one has come, and counts those with one item accepted ahead.
 #[derive(Drop)]
 struct Together {
     come: AtomicU64,
@@ -165,7 +165,7 @@ impl Gate for Together {
 
 // ---- callers of a hall
 
-// A register of two issuers with a record each.
+// A register of two issuers with one record each.
 const RECORDS: [Step; 4] = [
     ACCREDITED,
     OTHER_ACCREDITED,
@@ -177,7 +177,7 @@ const RECORDS: [Step; 4] = [
     ),
 ];
 
-// Submits an upload, lets the gate know that it was answered, and then asks for a record.
+// Submits an upload, informs the gate that it was answered, and then asks for a record.
 fn submit_and_show<K: Keeper, R: Threads + Wait + Sync, G: Watch>(
     rt: &R,
     hall: &Hall<K>,
@@ -205,7 +205,7 @@ fn submit_and_show<K: Keeper, R: Threads + Wait + Sync, G: Watch>(
     worker.shown = Some(record);
 }
 
-// All workers at once, each with the upload at its place.
+// All workers at the same time, each with the upload at its index.
 fn submit_at_once<K: Keeper + Send, R: Threads + Wait + Sync, G: Watch + Sync>(
     rt: &R,
     hall: &Hall<K>,
@@ -240,7 +240,7 @@ fn contains(text: &[u8], part: &[u8]) -> bool {
     }
 }
 
-// Whether the first of two uploads is judged again in its turn, after the second one's reply, by what that left.
+// Whether the first of two uploads is judged again in its turn, after the second one's reply, by what the second left.
 fn are_judged_at_once<R: Threads + Wait + Sync>(
     rt: &R,
     alloc: Global,
@@ -306,7 +306,7 @@ fn an_upload_that_waits_after_it_was_judged_is_judged_again(rt: HostRuntime) -> 
 
 // ---- workers of a server
 
-// A keeper that has the two records.
+// A keeper with the two records.
 fn keeper_of_two<R: Threads + Sync>(rt: &R, alloc: Global) -> Option<SureKeeper> {
     match Office::open(rt, alloc, SureKeeper::new(alloc), Limits::standard()) {
         Ok(mut office) => {
@@ -323,7 +323,7 @@ fn keeper_of_two<R: Threads + Sync>(rt: &R, alloc: Global) -> Option<SureKeeper>
     }
 }
 
-// An upload of an issuer over HTTP, as the table of connections has it.
+// An upload of an issuer over HTTP, as written in the table of connections.
 fn request_of(alloc: Global, issuer: &str, body: &str) -> Result<String, AllocError> {
     let length = body.len();
     format!(in alloc;
@@ -331,7 +331,7 @@ fn request_of(alloc: Global, issuer: &str, body: &str) -> Result<String, AllocEr
     )
 }
 
-// Whether this was written to the one link of a desk.
+// Whether this was written to the only link of a desk.
 fn has_written(desks: &[Desk<ListDoor, Still>], place: usize, part: &[u8]) -> bool {
     match desks.get(place) {
         Some(desk) => match desk.door.came_back() {
@@ -342,8 +342,8 @@ fn has_written(desks: &[Desk<ListDoor, Still>], place: usize, part: &[u8]) -> bo
     }
 }
 
-// Whether of two uploads that retire two records in favour of each other one is accepted and the other one is not, if
-// two workers have them at once.
+// Whether exactly one of two uploads is accepted, if two workers have them at the same time. Each upload retires one of
+// two records in favour of the other record.
 fn one_is_accepted<R: Threads + Wait + Sync>(
     rt: &R,
     alloc: Global,

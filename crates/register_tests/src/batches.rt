@@ -1,10 +1,10 @@
-//! Which batches the tests may hand to a keeper.
+//! Which batches the tests may give to a keeper.
 ghost use Rattle.std.specs.Prelude.{IsTrue};
 ghost use Rattle.lei_outside.specs.Keeping.{IsBatch, IsCellOf};
 
 use lei_outside::{Batch, KeptCell};
 
-/// Whether it is a batch that may be committed, of one cell.
+/// Whether it is a batch with one cell that may be committed.
 pub fn is_batch(batch: &Batch) -> bool
     ensures { IsTrue result → IsBatch batch.now }
 {

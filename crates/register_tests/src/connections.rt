@@ -1,4 +1,4 @@
-//! Connections whose link fails, at each of its calls in turn, and those that are cut after each byte.
+//! Connections whose link fails, at each of its calls in turn, and connections that are cut after each byte.
 use crate::exchanges::{Exchange, MOST, all_sent, only, reads_of, replies_within};
 use crate::http::{Server, end_of, none};
 use issuer_http::Ended;
@@ -55,17 +55,17 @@ Content-Length: 16
     ),
 ];
 
-// What is answered to the upload.
+// The reply to the upload.
 const TAKEN: &str = r#"HTTP/1.1 200 OK
 content-type: application/json
 content-length: 88
 
 {"entry":2,"issuer":"506700GE1G29325QX363","items":["C02 FIELD_MISSING LEI"],"number":1}"#;
 
-// Who serves a connection.
+// What serves a connection.
 const SERVERS: [Server; 2] = [Server::Office, Server::Hall];
 
-// A link that sends these bytes, and whose calls of these numbers fail.
+// A link that sends these bytes, and whose calls with these numbers fail.
 #[derive(Drop)]
 struct Trial {
     sent: Bytes,
@@ -73,8 +73,8 @@ struct Trial {
     writes: List<u64>,
 }
 
-// How a connection ends, if what came back is as it should be: with each end but one the replies to just those requests
-// that were whole, and after a failed write a front of them that isn't whole.
+// How a connection ends, if what came back is correct: for each end but one, the replies to exactly those requests that
+// were complete, and after a failed write an incomplete front of the replies.
 fn end_of_trial<R: Threads + Wait + Sync>(
     rt: &R,
     alloc: Global,
@@ -123,7 +123,7 @@ fn a_connection_ends_at_the_read_that_fails(rt: HostRuntime) -> Result<(), Fail>
     Ok(())
 }
 
-// The first write that isn't made, so that its failing is never met, if each one before it ends the connection.
+// The first write that isn't made, so that its failure is never met, if each one before it ends the connection.
 fn writes_of<R: Threads + Wait + Sync>(
     rt: &R,
     alloc: Global,

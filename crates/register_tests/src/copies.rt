@@ -1,4 +1,4 @@
-// Texts of golden copies and of deltas, in both forms: they are read, and printed again as they were.
+// Texts of golden copies and of deltas, in both forms: they are read, and printed again unchanged.
 use copy_forms::{
     Change, CopyRead, DeltaRead, Form, Head, RowTexts, Sheet, TextChange, copy_text, delta_text,
     read_copy, read_delta, row_texts,
@@ -52,7 +52,7 @@ const DELTAS: [(Form, &str); 2] = [
     ),
 ];
 
-// The head that was read. In CSV there is none, and none is printed: this one stands in its place.
+// The head that was read. In CSV there is none, and none is printed: this one is used instead.
 fn head_of(read: Option<Head>) -> Option<Head> {
     match read {
         Some(head) => Some(head),
@@ -122,7 +122,7 @@ fn is_text(printed: Result<Bytes, NoMemory>, text: &str) -> bool {
     }
 }
 
-// Whether a text is read as a copy, which is printed again as it was.
+// Whether a text is read as a copy and printed again unchanged.
 fn is_copy(alloc: Global, form: Form, text: &str) -> bool {
     match read_copy(alloc, text.as_bytes(), Sheet::Repex, form) {
         Ok(read) => match head_of(read.head) {
@@ -133,7 +133,7 @@ fn is_copy(alloc: Global, form: Form, text: &str) -> bool {
     }
 }
 
-// The same of a delta.
+// The same for a delta.
 fn is_delta(alloc: Global, form: Form, text: &str) -> bool {
     match read_delta(alloc, text.as_bytes(), Sheet::Repex, form) {
         Ok(read) => match head_of(read.head) {

@@ -1,5 +1,4 @@
-//! One session of single bytes, each of which is sent back: the loop over an answerer and a framing of its
-//! own.
+//! One session of single bytes, each of which is sent back: the loop over an answerer and a framing defined here.
 ghost use Rattle.std.specs.Prelude.{◌≡◌, ◌<◌};
 ghost use Rattle.register_tests.specs.Octets.{octet_want, waiting_of};
 
@@ -10,7 +9,7 @@ use request_loop::{Answers, Duplex, Ended, Framing, Front, Intake, Want, Wire, s
 use std::alloc::Global;
 use std::test::Fail;
 
-/// Sends each byte back, and counts them.
+/// Sends back each byte, and counts them.
 #[derive(Drop)]
 pub struct Echo {
     pub count: u64,
@@ -102,7 +101,7 @@ fn want_of(byte: u8) -> Want<u8, ()>
     }
 }
 
-// Serves a session over a wire. Says how it ended, and how many bytes were sent back.
+// Serves a session over a wire. Returns how it ended, and how many bytes were sent back.
 fn echo_over<L: Wire>(alloc: Global, link: &mut L, most: usize) -> (Ended<()>, u64)
     requires { 0 < most }
 {

@@ -1,4 +1,4 @@
-//! What is sent, with what comes back of it.
+//! What is sent, with what comes back for it.
 use crate::http::bytes_of;
 use lei_outside::{Bytes, List, NoMemory};
 use std::alloc::Global;
@@ -6,10 +6,10 @@ use std::alloc::Global;
 /// What is sent, and what comes back, in the letters of [`bytes_of`].
 pub type Exchange = (&'static str, &'static str);
 
-/// How many bytes a read and a write of these tests take at most.
+/// The most bytes that a read or a write takes in these tests.
 pub const MOST: usize = 7;
 
-/// All that is sent.
+/// Everything that is sent.
 pub fn all_sent(alloc: Global, exchanges: &[Exchange]) -> Result<Bytes, NoMemory> {
     let mut all = Vec::new(alloc);
     for exchange in exchanges {
@@ -19,7 +19,7 @@ pub fn all_sent(alloc: Global, exchanges: &[Exchange]) -> Result<Bytes, NoMemory
     Ok(Bytes::from(all))
 }
 
-/// The replies to what is whole within so many bytes that were read.
+/// The replies to what is complete within this many bytes that were read.
 pub fn replies_within(
     alloc: Global,
     exchanges: &[Exchange],
@@ -37,7 +37,7 @@ pub fn replies_within(
     Ok(replies)
 }
 
-/// How many replies are whole within so many bytes that were written.
+/// How many replies are complete within this many bytes that were written.
 pub fn whole_replies(
     alloc: Global,
     exchanges: &[Exchange],
@@ -55,7 +55,7 @@ pub fn whole_replies(
     Ok(count)
 }
 
-/// How many calls it takes to read so many bytes, at most so many in each, and to see their end.
+/// How many calls it takes to read this many bytes, at most `most` in each, and to see their end.
 pub fn reads_of(bytes: usize, most: usize) -> u64 {
     match bytes.checked_div(most) {
         Some(whole) if whole.saturating_mul(most) == bytes => (whole as u64).saturating_add(1),

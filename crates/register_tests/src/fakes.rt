@@ -1,8 +1,8 @@
-//! Readers and writers that tests hand in.
+//! Readers and writers that tests supply.
 use std::io;
 use std::io::{Error, ErrorKind, Read, Write};
 
-/// Hands on at most so many bytes a call.
+/// Passes on at most this many bytes per call.
 #[derive(Drop)]
 pub struct Slow<T> {
     pub inner: T,
@@ -27,7 +27,7 @@ impl<T: Write> Write for Slow<T> {
     }
 }
 
-/// Fails at the call of this number, counted from 1, and hands on all others.
+/// Fails at the call with this number, counted from 1, and passes on all others.
 #[derive(Drop)]
 pub struct FailsAt<T> {
     pub inner: T,

@@ -1,17 +1,16 @@
-//! A keeper over a file of SQLite: what it keeps is there after the file was opened again. The tests share a
-//! folder that is empty at first, so that each has a file of its own. What is asked of the keeper is asked
-//! over any keeper, or any database: over this one each function with a call took half a minute to prove.
+//! A keeper over an SQLite file: what it keeps is there after the file was opened again. The tests share a folder that
+//! is empty at first, so each has its own file. The checks are written over any keeper, or any database: over this
+//! keeper each function with a call took half a minute to prove.
 use crate::batches::is_batch;
 use keeper_sqlite::SqliteKeeper;
 use lei_outside::{Batch, Bytes, KeepFault, Keeper, KeptCell, KeptEntry, List, NoMemory, Shared};
 use std::alloc::Global;
 use std::test::Fail;
 
-// A cell by the number of its entry, its name and its row, which is empty where it has none.
+// A cell by the number of its entry, its name and its row, which is empty if there is none.
 type Line = (u64, &'static str, &'static str);
 
-// An entry with this number. Its other numbers are the last or the first of their types, and its answer is no
-// text.
+// An entry with this number. Its other numbers are the last or the first of their types, and its answer isn't text.
 fn entry(alloc: Global, seq: u64) -> Result<KeptEntry, NoMemory> {
     Ok(KeptEntry {
         seq,
@@ -60,7 +59,7 @@ fn batch(alloc: Global, line: Line) -> Result<Batch, NoMemory> {
     Ok(Batch { entry, cells })
 }
 
-// Commits a batch whose number is the next. Any other isn't committed, and is reported as want of memory.
+// Commits a batch whose number is the next. Any other batch isn't committed, and is reported as lack of memory.
 fn commit<K: Keeper>(keeper: &mut K, batch: &Batch) -> Result<(), KeepFault> {
     let last = keeper.last()?;
     if last < u64::MAX && batch.entry.seq == last + 1 && is_batch(batch) {
@@ -110,14 +109,14 @@ fn gives_cells<K: Keeper>(
     }
 }
 
-// Keeps three batches, of which the second takes the row of the first one's cell away.
+// Keeps three batches. The second withdraws the row of the first one's cell.
 fn keeps_three<K: Keeper>(keeper: &mut K, alloc: Global) -> bool {
     keeps(keeper, alloc, (1, "B", "{}"))
         && keeps(keeper, alloc, (2, "B", ""))
         && keeps(keeper, alloc, (3, "A B", "[1]"))
 }
 
-// Whether all is read, whole and by ranges.
+// Whether everything is read, whole and by ranges.
 fn gives_all<K: Keeper>(keeper: &mut K, alloc: Global) -> bool {
     gives_last(keeper, Ok(3))
         && gives_entries(keeper, alloc, 0, u64::MAX, &[1, 2, 3])
@@ -146,8 +145,7 @@ enum Step {
     Fail,
 }
 
-// What a step over the file comes to, and how many calls of the keeper failed. The keeper lets the file go at
-// the end.
+// The result of a step over the file, and how many calls of the keeper failed. The keeper closes the file at the end.
 fn open(rt: &HostRuntime, path: &str, step: Step) -> (bool, u64) {
     let mut keeper = SqliteKeeper::on_file(rt, path);
     let is_good = take(&mut keeper, rt.alloc(), step);

@@ -41,7 +41,7 @@ fn one_turn_each<K: Keeper, R: Threads + Wait + Sync>(
     Ok(done)
 }
 
-// The keeper of an office after a turn of each of three passes, who all accredit the same issuer.
+// The keeper of an office after a turn of each of three passes. All three accredit the same issuer.
 fn keeper_after<K: Keeper + Drop, R: Threads + Wait + Sync>(
     rt: &R,
     alloc: Global,
@@ -89,7 +89,7 @@ fn what_three_passes_ask_for_is_one_history(rt: HostRuntime) -> Result<(), Fail>
     Ok(())
 }
 
-/// A caller with its pass, and what it was answered to its request and to another one after it.
+/// A caller with its pass, and the replies to its request and to another one after it.
 #[derive(Drop)]
 pub struct Worker {
     pub pass: Option<Pass>,
@@ -131,7 +131,7 @@ fn ask<K: Keeper, R: Threads + Wait + Sync>(
     worker.reply = Some(reply);
 }
 
-// All workers at once. The office of the hall goes from thread to thread.
+// All workers at the same time. The office of the hall moves from thread to thread.
 fn ask_at_once<K: Keeper + Send, R: Threads + Wait + Sync>(
     rt: &R,
     hall: &Hall<K>,
@@ -153,8 +153,8 @@ fn ask_at_once<K: Keeper + Send, R: Threads + Wait + Sync>(
     );
 }
 
-// Whether each of so many callers, who ask for the same at once, is answered this. The office isn't taken apart, since
-// letting it go costs a proof for each of its parts.
+// Whether each of this many callers, who ask for the same at the same time, gets this answer. The office isn't dropped,
+// since dropping it costs a proof for each of its parts.
 fn are_answered<R: Threads + Wait + Sync>(
     rt: &R,
     alloc: Global,
@@ -191,7 +191,7 @@ fn are_answered<R: Threads + Wait + Sync>(
     answered
 }
 
-/// Whether there is a reply of this text.
+/// Whether there is a reply with this text.
 pub fn is_answered(reply: &Option<Reply>, wanted: &[u8]) -> bool {
     match reply {
         Some(reply) => is_text(reply, wanted),
@@ -216,7 +216,7 @@ fn callers_in_threads_are_answered_of_one_history(rt: HostRuntime) -> Result<(),
     Ok(())
 }
 
-// The replies to three requests: what is kept of an upload that wasn't sent yet, and the upload, sent twice.
+// The replies to three requests: for what is kept of an upload that wasn't sent yet, and for the upload, sent twice.
 #[derive(Drop)]
 struct Replies {
     unknown: Reply,
@@ -224,9 +224,9 @@ struct Replies {
     repeated: Reply,
 }
 
-// The calls of two callers, one after the other. The first accredits the issuer of an upload, and the second asks what
-// is kept of it. They meet. Then the second sends the upload, and the first sends the same. The replies to the last
-// three requests come back with the passes.
+// The calls of two callers, one after another. The first accredits the issuer of an upload, and the second asks what is
+// kept of it. They meet. Then the second sends the upload, and the first sends the same. The replies to the last three
+// requests are returned with the passes.
 fn call_in_turn<K: Keeper, R: Threads + Wait + Sync>(
     rt: &R,
     hall: &Hall<K>,
@@ -285,8 +285,7 @@ fn replies_to_two<K: Keeper + Drop, R: Threads + Wait + Sync>(
     Some((hall.close(passes).close(), replies))
 }
 
-// Whether the two callers are answered as they should be, and the keeper has an entry for the issuer and one for the
-// upload.
+// Whether the two callers get the correct answers, and the keeper has an entry for the issuer and one for the upload.
 fn two_are_answered<R: Threads + Wait + Sync>(
     rt: &R,
     alloc: Global,

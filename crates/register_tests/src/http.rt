@@ -12,9 +12,9 @@ use std::sync::Wait;
 use std::test::Fail;
 use std::thread::Threads;
 
-/// Each connection, parted by `^`: its title, how it ends, what is sent and what comes back, parted by `~`. A
-/// line ends in CR and LF. `@` is the status of an empty register, `$` a text of 8,192 letters, `%` are 33
-/// headers, `&` a LF alone and `|` a tab.
+/// Each connection, separated by `^`: its title, how it ends, what is sent and what comes back, separated by `~`. A
+/// line ends in CR and LF. `@` is the status of an empty register, `$` a text of 8,192 letters, `%` are 33 headers, `&`
+/// a lone LF and `|` a tab.
 pub const CONNECTIONS: &str = r#"a status and a path without a route~Closed~GET /v1/status HTTP/1.1
 
 GET /nothing HTTP/1.1
@@ -372,7 +372,7 @@ content-length: 103
 const STATUS: &str =
     r#"{"entries":0,"exceptions":0,"issuers":0,"keptBytes":0,"publications":0,"records":0,"relationships":0}"#;
 
-// Puts what a letter of the table stands for.
+// Appends what a letter of the table means.
 fn put(out: &mut Vec<u8>, letter: u8) -> Result<(), NoMemory> {
     match letter {
         b'\n' => out.extend_from_slice(b"\r\n")?,
@@ -394,7 +394,7 @@ fn put(out: &mut Vec<u8>, letter: u8) -> Result<(), NoMemory> {
     Ok(())
 }
 
-/// The bytes that a text of the table stands for.
+/// The bytes that a text of the table means.
 pub fn bytes_of(alloc: Global, text: &str) -> Result<Bytes, NoMemory> {
     let mut bytes = Vec::new(alloc);
     for letter in text.bytes() {
@@ -403,12 +403,12 @@ pub fn bytes_of(alloc: Global, text: &str) -> Result<Bytes, NoMemory> {
     Ok(Bytes::from(bytes))
 }
 
-/// The list of no number.
+/// The empty list of numbers.
 pub fn none(alloc: Global) -> List<u64> {
     List::from(Vec::new(alloc))
 }
 
-/// A link that gives these bytes, and takes and gives at most so many at once.
+/// A link that gives these bytes, and takes and gives at most this many at a time.
 pub fn link_of(alloc: Global, sent: Bytes, most: usize) -> ByteLink
     requires { 1 ≤ most }
 {
@@ -418,16 +418,16 @@ pub fn link_of(alloc: Global, sent: Bytes, most: usize) -> ByteLink
     )
 }
 
-/// Who serves a connection.
+/// What serves a connection.
 #[derive(Clone, Copy)]
 pub enum Server {
     /// An office alone.
     Office,
-    /// The one caller of a hall.
+    /// The only caller of a hall.
     Hall,
 }
 
-/// How serving a link over an office that has nothing ends.
+/// How serving a link over an empty office ends.
 pub fn end_of<R: Threads + Wait + Sync>(
     rt: &R,
     alloc: Global,
@@ -443,7 +443,7 @@ pub fn end_of<R: Threads + Wait + Sync>(
     }
 }
 
-// The office is closed, since letting it go costs a proof for each of its parts.
+// The office is closed, since dropping it costs a proof for each of its parts.
 fn end_alone<R: Threads + Sync>(
     rt: &R,
     alloc: Global,
@@ -486,15 +486,15 @@ fn ended_of(word: &str) -> Option<Ended> {
     }
 }
 
-/// The parts of a connection of the table behind its title: how it ends, what is sent and what comes back.
+/// The parts of a connection of the table after its title: how it ends, what is sent and what comes back.
 pub fn parts_of(text: &str) -> Option<(&str, &str, &str)> {
     let (ended, rest) = text.split_once('~')?;
     let (sent, wanted) = rest.split_once('~')?;
     Some((ended, sent, wanted))
 }
 
-// Whether a connection comes out as its parts say, which are how it ends, what is sent and what comes back, with at
-// most so many bytes at once.
+// Whether a connection has the result that its parts say: how it ends, what is sent and what comes back. At most this
+// many bytes go at a time.
 fn comes_back<R: Threads + Wait + Sync>(
     rt: &R,
     alloc: Global,
@@ -513,7 +513,7 @@ fn comes_back<R: Threads + Wait + Sync>(
     end.is_some() && end == ended_of(ended) && link.sink().written() == wanted.as_slice()
 }
 
-// Whether a connection of the table comes out as it says, in one piece and in single bytes.
+// Whether a connection of the table has the stated result, in one piece and in single bytes.
 fn is_as_said<R: Threads + Wait + Sync>(rt: &R, alloc: Global, server: Server, text: &str) -> bool {
     match parts_of(text) {
         Some(parts) => {

@@ -1,4 +1,4 @@
-//! Walks by levels whose ends a person can tell, over webs of up to 300 LEIs. Each LEI is known by its number, and
+//! Walks by levels whose ends a person can predict, over webs of up to 300 LEIs. Each LEI is known by its number, and
 //! greater numbers are later in byte order. Number 0 is the entity itself.
 ghost use Rattle.std.specs.Prelude.{◌≡◌, List, ℕ};
 ghost use Rattle.lei_records.specs.declared.view.CellKey.{CellKey};
@@ -11,14 +11,14 @@ use std::alloc::Global;
 use std::test::Fail;
 use successor_rules::{Branches, Walked, spread_from};
 
-// Who names whom.
+// Which LEI names which.
 #[derive(Clone, Copy, Debug, PartialEq, Eq)]
 enum Shape {
     // Each number names the next one.
     Chain,
-    // Each names the next two, so two ways lead to nearly all.
+    // Each names the next two, so two ways lead to nearly every number.
     Ladder,
-    // Each names five that no other names: 0 names 1 to 5, 1 names 6 to 10, and so on.
+    // Each names five that no other one names: 0 names 1 to 5, 1 names 6 to 10, and so on.
     Tree,
     // The same five from the last to the first.
     FallingTree,
@@ -33,8 +33,8 @@ struct Web {
     has_gaps: bool,
 }
 
-// Each web as its shape, its last number, whether that one names number 0, and whether there are gaps; and how the walk
-// ends.
+// Each web as its shape, its last number, whether the last number names number 0, and whether there are gaps; and how
+// the walk ends.
 const CASES: [(Shape, u32, bool, bool, &str); 18] = [
     (Shape::Chain, 0, false, false, "ends"),
     (Shape::Chain, 3, false, false, "ends"),

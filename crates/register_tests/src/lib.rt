@@ -1,5 +1,5 @@
-//! Tests of the register's crates from outside, of what no clause says and no worked example shows. A crate
-//! with tests is proved twice, with them and without, so no other crate has any.
+//! Tests of the register's crates from outside, for what no clause says and no worked example shows. A crate with tests
+//! is proved twice, with them and without, so no other crate has any.
 #![tactic(auto)]
 
 #[cfg(test)]

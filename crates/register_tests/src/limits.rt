@@ -1,5 +1,4 @@
-// What an office answers, where no session of the program shows it: under other limits than the standard
-// ones.
+// Answers of an office that no session of the program shows: those under limits other than the standard ones.
 ghost use Rattle.std.specs.Prelude.{◌≡◌, IfSome};
 ghost use Rattle.register_words.specs.Limits.{AreLimits};
 
@@ -20,8 +19,8 @@ pub const OTHER: &str = "HWUPKR0MPOU8FGXBT394";
 pub const MOMENT: i64 = 1_736_553_600;
 
 // An upload of records in their compact form, with their names in byte order. Each has its name, its number at its
-// authority, its LEI and the manager of its record, its state, as `issued` or as `retired` with the LEI of its
-// successor, and what stands after it.
+// authority, its LEI and the manager of its record, its state (`issued`, or `retired` with the LEI of its successor),
+// and what follows it.
 macro_rules! upload {
     ($([$name:literal $number:literal $lei:literal $manager:literal
         $entity:literal $successor:literal $status:literal $after:literal])*) => {
@@ -102,7 +101,7 @@ pub const RETIRES_FOR_TWO: &str = upload!(
 /// What is sent.
 #[derive(Clone, Copy)]
 pub enum Sent {
-    /// The issuer that is accredited.
+    /// The issuer to accredit.
     Accredit(&'static str),
     /// The number of an upload of [`ISSUER`], and its body.
     Upload(u32, &'static str),
@@ -115,7 +114,7 @@ pub enum Sent {
 /// What is sent, and the status code and the words of the reply.
 pub type Step = (Sent, u16, &'static str);
 
-// What a step asks.
+// The request of a step.
 fn request(alloc: Global, sent: Sent) -> Option<Request> {
     match sent {
         Sent::Accredit(issuer) => Some(Request::Accredit(code(issuer)?)),
@@ -165,7 +164,7 @@ fn is_wanted(reply: &Reply, code: u16, words: &str) -> bool {
     reply.status_code() == code && told == words.as_bytes()
 }
 
-// The reply to a request, whose number is one that uploads may have.
+// The reply to a request. Its number is one that uploads may have.
 fn reply_of<R: Threads + Sync, K: Keeper>(
     rt: &R,
     office: &mut Office<K>,
@@ -203,7 +202,7 @@ fn takes<R: Threads + Sync, K: Keeper>(
     }
 }
 
-/// Whether each step in turn is answered as it says.
+/// Whether each step in turn gets the stated answer.
 pub fn takes_all<R: Threads + Sync, K: Keeper>(
     rt: &R,
     alloc: Global,
@@ -218,8 +217,8 @@ pub fn takes_all<R: Threads + Sync, K: Keeper>(
     true
 }
 
-// Whether an office under these limits answers these steps so. It is closed, since letting it go costs a
-// proof for each of its parts.
+// Whether an office under these limits gives these answers to the steps. It is closed, since dropping it costs a proof
+// for each of its parts.
 fn answers<R: Threads + Sync>(rt: &R, alloc: Global, limits: Limits, steps: &[Step]) -> bool
     requires { AreLimits limits }
 {
@@ -252,7 +251,7 @@ const ONE_ITEM: &str = r#"{"records":[{"LEI":"00000000000000000195"}]}"#;
 const KEPT: &str =
     r#"{"entry":2,"issuer":"506700GE1G29325QX363","items":["C02 FIELD_MISSING Entity.LegalName"],"number":1}"#;
 
-// An upload of two records, of more than 1,200 bytes.
+// An upload of two records, with more than 1,200 bytes.
 #[test]
 fn an_office_takes_an_upload_where_there_is_room(rt: HostRuntime) -> Result<(), Fail> {
     let few = Limits {
@@ -288,7 +287,7 @@ fn an_office_takes_an_upload_where_there_is_room(rt: HostRuntime) -> Result<(), 
     Ok(())
 }
 
-// A body may have 44 bytes, as many as the one upload has, or one fewer.
+// A body may have 44 bytes, as many as the only upload has, or one fewer.
 #[test]
 fn an_office_keeps_bodies_to_their_limits(rt: HostRuntime) -> Result<(), Fail> {
     let room = Limits {

@@ -1,9 +1,8 @@
-//! Moments against values that another program computed: no clause says that the definitions are the
-//! calendar's.
+//! Moments against values that another program computed: no clause says that the definitions are those of the calendar.
 use lei_shapes::Moment;
 use std::test::Fail;
 
-// Seconds from 1970-01-01T00:00:00Z on, the text and the day, as Python's `datetime` gives them.
+// Seconds since 1970-01-01T00:00:00Z, the text and the day, as Python's `datetime` gives them.
 const MOMENTS: [(i64, &str, i32); 20] = [
     (-62_135_596_800, "0001-01-01T00:00:00Z", -719_162),
     (-62_104_060_801, "0001-12-31T23:59:59Z", -718_798),
@@ -35,7 +34,7 @@ const NO_MOMENTS: [i64; 5] = [
     i64::MAX,
 ];
 
-// Whether the moment of these seconds has this text and this day, and is read of the text.
+// Whether the moment with these seconds has this text and this day, and is read from the text.
 fn is_shown(seconds: i64, text: &str, day: i32) -> bool {
     match Moment::of(seconds) {
         Some(moment) => {

@@ -1,5 +1,5 @@
-//! Stores of form 1, as an earlier program left them. The first call moves one to form 2, and from then on it
-//! answers as a store that always had form 2.
+//! Stores of form 1, as an earlier program left them. The first call moves a store to form 2, and from then on it
+//! answers like a store that always had form 2.
 use crate::limits::{ISSUER, MOMENT, RETIRES_FOR_TWO, THREE_RECORDS, TWO_RECORDS};
 use crate::runs::accredited_and_taken;
 use crate::sqlite_keeper::{
@@ -41,7 +41,7 @@ CREATE TABLE IF NOT EXISTS cell (
   UNIQUE (touched, kind, name)
 ) STRICT";
 
-// What may stand beside them in a store of form 1: nothing, or tables of form 2 that have no row yet.
+// What a store of form 1 may have in addition: nothing, or tables of form 2 without rows.
 const FURTHER: [&str; 3] = ["", OF_THE_FORM, ALL];
 
 const OF_THE_FORM: &str =
@@ -78,7 +78,7 @@ fn kept_by<K: Keeper>(keeper: &mut K) -> Result<Kept, KeepFault> {
     Ok(Kept { entries, cells })
 }
 
-// What the lines leave.
+// What a store has after the lines.
 fn kept_after<R: Threads + Sync>(rt: &R, alloc: Global, lines: &[u8]) -> Result<Kept, NoMemory> {
     let (_, _, mut keeper) = replies(rt, alloc, lines, SureKeeper::new(alloc))?;
     kept_by(&mut keeper).map_err(|_: KeepFault| -> NoMemory { NoMemory })
@@ -139,7 +139,7 @@ fn puts_cells<S: Alter>(conn: &mut Connection<S>, cells: &[KeptCell]) -> bool {
     true
 }
 
-// Whether an empty database is made a store of form 1 that has these entries and cells.
+// Whether an empty database is made into a store of form 1 with these entries and cells.
 fn is_made<S: Alter>(conn: &mut Connection<S>, further: &str, kept: &Kept) -> bool {
     conn.execute_batch(TABLES).is_ok()
         && conn.execute_batch(further).is_ok()
@@ -147,7 +147,7 @@ fn is_made<S: Alter>(conn: &mut Connection<S>, further: &str, kept: &Kept) -> bo
         && puts_cells(conn, kept.cells.as_slice())
 }
 
-// The number that a query answers, if it answers one.
+// The number that a query returns, if it returns one.
 fn number<S: Alter>(conn: &mut Connection<S>, query: &str) -> Option<i64> {
     match conn.query_row(query, &[]) {
         Ok(row) => row.get(0).ok(),
@@ -165,7 +165,7 @@ fn is_moved<S: Alter>(conn: &mut Connection<S>) -> bool {
     form(conn) == Some(2) && number(conn, "SELECT count(*) FROM cell") == Some(0)
 }
 
-// The connection again, if the store has form 1 and the first call over it moves it.
+// The connection, returned if the store has form 1 and the first call over it moves it.
 fn moved<S: Alter + Drop>(alloc: Global, mut conn: Connection<S>) -> Option<Connection<S>> {
     if form(&mut conn).is_some() {
         return None;
@@ -199,7 +199,7 @@ const MORE: &str = concat!(
     "\nPUBLISH 1\n",
 );
 
-// What is asked after that: five lines whose replies begin with 200, the last of them a new upload, and then
+// The requests after that: five lines whose replies start with 200, the last of them a new upload, and then
 // publications.
 const LATER: &str = concat!(
     "KEPT 506700GE1G29325QX363 3\nSHOW 00000000000000000195\nSHOW 00000000000000000292\nSTATUS\n",
@@ -208,12 +208,12 @@ const LATER: &str = concat!(
     "\nPUBLISH 2\nCOPY lei csv\nCOPY rr json\nCOPY repex csv\nDELTA 1 repex json\n",
 );
 
-// The lines that make a store with cells of each kind, of which one has no row.
+// The lines that make a store with cells of each kind, one of them without a row.
 fn made_by(alloc: Global) -> Result<String, NoMemory> {
     Ok(format!(in alloc; "ACCREDIT {ISSUER}\nUPLOAD {ISSUER} 1 {TWO_RECORDS}\n{MORE}")?)
 }
 
-// What a run over a keeper comes to: its status, what it wrote, and what the keeper has after it.
+// The result of a run over a keeper: its status, what it wrote, and what the keeper has afterwards.
 #[derive(PartialEq, Eq, Drop)]
 struct Run {
     status: u8,
@@ -269,7 +269,7 @@ fn first_in_memory(alloc: Global, further: &str, kept: &Kept) -> Option<Connecti
     is_made(&mut conn, further, kept).then_some(conn)
 }
 
-// The first of the tables beside those of form 1 with which a store answers otherwise than one of form 2.
+// The first of the tables in addition to those of form 1 with which a store answers differently from one of form 2.
 fn first_unlike<R: Threads + Sync>(
     rt: &R,
     alloc: Global,
@@ -298,7 +298,7 @@ fn a_store_of_form_1_answers_as_one_of_form_2(rt: HostRuntime) -> Result<(), Fai
 
 // ---- pages
 
-// So many cells of an entry, in the order of their names, which have more characters than an LEI.
+// This many cells of an entry, in the order of their names, which have more characters than an LEI.
 fn many_cells(alloc: Global, count: u64) -> Result<List<KeptCell>, NoMemory> {
     let mut list = Vec::new(alloc);
     for at in 0..count {
@@ -313,7 +313,7 @@ fn many_cells(alloc: Global, count: u64) -> Result<List<KeptCell>, NoMemory> {
     Ok(List::from(list))
 }
 
-// Whether so many cells, which were put from the last to the first, are the same after a move.
+// Whether this many cells, which were put from the last to the first, are the same after a move.
 fn moves_cells(alloc: Global, count: u64) -> Result<bool, NoMemory> {
     let kept = Kept {
         entries: List::from(Vec::new(alloc)),
@@ -366,8 +366,8 @@ fn first_files(alloc: Global, kept: &Kept) -> Result<Files<Memory>, NoMemory> {
     }
 }
 
-// The first call of a keeper over these files, and a crash of both after it: what is left of them, and whether
-// the call was answered.
+// The first call of a keeper over these files, and a crash of both after it: what is left of them, and whether the call
+// succeeded.
 fn move_and_crash<D: Crash + Drop>(
     alloc: Global,
     files: Files<D>,
@@ -388,8 +388,8 @@ fn move_and_crash<D: Crash + Drop>(
     }
 }
 
-// The form that a crash left of a store, if the store has what it had before, and the session over it is
-// answered as it should be.
+// The form that a crash left of a store, if the store has what it had before, and the session over it gets the correct
+// answers.
 fn form_left<R: Threads + Sync, D: Crash + Drop>(
     rt: &R,
     alloc: Global,
@@ -411,7 +411,7 @@ fn form_left<R: Threads + Sync, D: Crash + Drop>(
     Ok((is_answered(rt, alloc, keeper)? && is_same).then_some(form))
 }
 
-// How the move of a store ends, one of whose disks fails from some call on, and the form that the crash left.
+// How the move of a store ends if one of its disks fails from some call on, and the form that the crash left.
 fn move_ending<R: Threads + Sync>(
     rt: &R,
     alloc: Global,
@@ -428,8 +428,8 @@ fn move_ending<R: Threads + Sync>(
     }
 }
 
-// The first number of calls with which the move isn't stopped, how it ended there, and after how many stops the
-// store had form 1 still.
+// The first number of calls that doesn't stop the move, how the move ended there, and after how many stops the store
+// still had form 1.
 fn first_unstopped<R: Threads + Sync>(
     rt: &R,
     alloc: Global,
@@ -464,7 +464,7 @@ fn a_move_that_stops_at_any_call_of_a_disk_loses_nothing(rt: HostRuntime) -> Res
 
 // ---- damage
 
-// What a run over a damaged store comes to: its status, and what it wrote.
+// The result of a run over a damaged store: its status, and what it wrote.
 fn damaged<R: Threads + Sync, S: Alter + Drop>(
     rt: &R,
     alloc: Global,
@@ -479,7 +479,7 @@ fn damaged<R: Threads + Sync, S: Alter + Drop>(
     Ok((status, written))
 }
 
-// Whether the same is told of a damaged store of either form.
+// Whether the same is reported for a damaged store of either form.
 fn is_told_alike<R: Threads + Sync>(
     rt: &R,
     alloc: Global,
@@ -501,7 +501,7 @@ fn is_told_alike<R: Threads + Sync>(
     Ok(status == wanted.number() && same_status == status && written == same)
 }
 
-// The first damage that isn't told alike.
+// The first damage that isn't reported alike.
 fn first_told_otherwise<R: Threads + Sync>(
     rt: &R,
     alloc: Global,
@@ -553,17 +553,17 @@ fn a_changed_answer_in_a_store_of_form_1_is_told(rt: HostRuntime) -> Result<(), 
     Ok(())
 }
 
-// What rules 1 answered to a record with two successors.
+// The answer by rules 1 to a record with two successors.
 const REFUSED: &str = concat!(
     r#"{"entry":3,"issuer":"506700GE1G29325QX363","#,
     r#""items":["C03 FIELD_SHAPE Entity.SuccessorEntity.1.SuccessorLEI"],"number":2}"#
 );
 
-// What rules 3 answer to it.
+// The answer by rules 3 to the same record.
 const TAKEN: &str =
     r#"{"entry":4,"issuer":"506700GE1G29325QX363","items":["ACCEPTED"],"number":3}"#;
 
-// The entry of that answer.
+// The entry with that answer.
 fn refused(alloc: Global) -> Result<KeptEntry, NoMemory> {
     Ok(KeptEntry {
         seq: 3,
@@ -577,7 +577,7 @@ fn refused(alloc: Global) -> Result<KeptEntry, NoMemory> {
     })
 }
 
-// A store of form 1 with three records and that entry, whose entries have rules 1.
+// A store of form 1 with three records and that entry. All its entries have rules 1.
 fn with_refused<R: Threads + Sync>(
     rt: &R,
     alloc: Global,
@@ -591,8 +591,8 @@ fn with_refused<R: Threads + Sync>(
     Ok(puts_entry(&mut conn, &entry).then_some(conn))
 }
 
-// The rules of the entry that the store gets if the refused upload is sent once more, and again by the next
-// number, and both are answered as they should be.
+// The rules of the entry that the store gets if the refused upload is sent once more, and again with the next number,
+// and both get the correct answers.
 fn rules_of_next<R: Threads + Sync>(rt: &R, alloc: Global) -> Result<Option<i64>, NoMemory> {
     let Some(conn) = with_refused(rt, alloc)? else {
         return Ok(None);

@@ -1,4 +1,4 @@
-// A delta that is put to a copy: of two rows the first goes, and one comes behind the other.
+// A delta that is applied to a copy: of two rows the first is removed, and one is added after the other.
 use copy_forms::{Form, Sheet};
 use delta_apply::apply;
 use std::alloc::Global;
@@ -65,7 +65,7 @@ const PATCHES: [Patch; 2] = [
     },
 ];
 
-// Whether the copy after the delta is the one that is said.
+// Whether the copy after the delta is the stated one.
 fn is_as_said(alloc: Global, patch: &Patch) -> bool {
     let (copy, delta) = (patch.copy.as_bytes(), patch.delta.as_bytes());
     match apply(alloc, copy, delta, Sheet::Repex, patch.form) {

@@ -31,7 +31,7 @@ const UPLOAD: &str = concat!(
     r#""Registration.ValidationSources":"FULLY_CORROBORATED"}]}&"#,
 );
 
-// The golden copy that has it.
+// The golden copy with that record.
 const COPY: &str = concat!(
     r#"200 1385&"LEI","Entity.LegalName","Entity.LegalName.xmllang","Entity.LegalAddress.FirstAddressLine","#,
     r#""Entity.LegalAddress.City","Entity.LegalAddress.Region","Entity.LegalAddress.Country","#,
@@ -75,11 +75,11 @@ const LINES: [Exchange; 6] = [
     ("COPY lei csv&", COPY),
 ];
 
-// What is answered to the upload.
+// The reply to the upload.
 const TAKEN: &str =
     r#"200 {"entry":2,"issuer":"506700GE1G29325QX363","items":["ACCEPTED"],"number":1}&"#;
 
-// A clock that stands still, and counts how often it was asked. It tells nothing of its moments.
+// A clock that stands still, and counts how often it was read. It tells nothing of its moments.
 #[derive(Drop)]
 struct CountingClock {
     calls: u64,
@@ -108,7 +108,7 @@ pub fn words(alloc: Global) -> Result<Vec<String>, NoMemory> {
     Ok(words)
 }
 
-// The status of a run with these words, and how many moments it took.
+// The status of a run with these words, and how many moments the run took.
 fn status_of<R: Threads + Sync, S: Source, W: Sink>(
     rt: &R,
     alloc: Global,
@@ -132,7 +132,7 @@ fn status_of<R: Threads + Sync, S: Source, W: Sink>(
     (status, clock.calls)
 }
 
-// The status of a run whose read of this number fails, if just the lines that were whole by then were answered.
+// The status of a run whose read with this number fails, if exactly the lines that were complete by then were answered.
 fn status_at_read<R: Threads + Sync>(
     rt: &R,
     alloc: Global,
@@ -164,8 +164,8 @@ fn a_run_ends_at_the_read_that_fails(rt: HostRuntime) -> Result<(), Fail> {
     Ok(())
 }
 
-// The status of a run whose write of this number fails, if a front of the replies was written, and no line was put to
-// the office after the one whose reply isn't whole.
+// The status of a run whose write with this number fails, if a front of the replies was written, and no line was put to
+// the office after the one whose reply is incomplete.
 fn status_at_write<R: Threads + Sync>(
     rt: &R,
     alloc: Global,
@@ -200,7 +200,7 @@ fn a_run_ends_at_the_write_that_fails(rt: HostRuntime) -> Result<(), Fail> {
     Err("a run without a failure")?
 }
 
-// A source of one byte without end. It tells nothing of its bytes.
+// An endless source of one byte. It tells nothing of its bytes.
 #[derive(Drop)]
 struct Endless;
 

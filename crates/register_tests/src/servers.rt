@@ -1,4 +1,4 @@
-// Servers: what comes back of the lines of their doors, and of connections over loopback that several workers serve.
+// Servers: what comes back on the lines of their doors, and on connections over loopback that several workers serve.
 ghost use Rattle.std.specs.Prelude.{◌≡◌, false, length, All, IfOk};
 
 use crate::http::{CONNECTIONS, bytes_of, link_of, parts_of};
@@ -18,7 +18,7 @@ use std::sync::Wait;
 use std::test::Fail;
 use std::thread::Threads;
 
-// A door through which one link comes that gives these bytes.
+// A door that one link comes through, which gives these bytes.
 fn door_of(alloc: Global, sent: Bytes) -> Result<ListDoor, NoMemory>
     ensures { IfOk result (λ door. door.out ≡ false) }
 {
@@ -35,7 +35,7 @@ fn desk_of<D: Door>(door: D) -> Desk<D, Still>
     Desk { door, clock: Still }
 }
 
-/// A desk for each worker of a server, through whose door one link comes that sends the text at its place, or the first
+/// A desk for each worker of a server. One link comes through its door, which sends the text at its index, or the first
 /// if there is none.
 pub fn desks_of(
     alloc: Global,
@@ -53,7 +53,7 @@ pub fn desks_of(
     Ok(desks)
 }
 
-// The text at a place, or the first if there is none.
+// The text at an index, or the first if there is none.
 fn text_at(texts: &[String], place: u32) -> &str {
     match texts.get(place as usize) {
         Some(text) => text.as_str(),
@@ -64,7 +64,7 @@ fn text_at(texts: &[String], place: u32) -> &str {
     }
 }
 
-// Whether this came back of the one link of a door.
+// Whether this came back on the only link of a door.
 fn has_come(door: &ListDoor, wanted: &[u8]) -> bool {
     match door.came_back() {
         [link] => link.sink().written() == wanted,
@@ -72,7 +72,7 @@ fn has_come(door: &ListDoor, wanted: &[u8]) -> bool {
     }
 }
 
-// Whether a server with these words is done, and this comes back of what is sent to each of so many workers.
+// Whether a server with these words ends well, and this comes back for what is sent to each of this many workers.
 fn is_done<R: Threads + Wait + Sync>(
     rt: &R,
     alloc: Global,
@@ -145,7 +145,7 @@ impl Door for Shaky {
     }
 }
 
-// A desk whose door may be broken, and else is one through which a link comes that sends this text.
+// A desk whose door may be broken. Otherwise a link that sends this text comes through it.
 fn shaky_desk(alloc: Global, is_broken: bool, sent: &str) -> Result<Desk<Shaky, Still>, NoMemory>
     ensures { IfOk result (λ desk. desk.door.door.out ≡ false) }
 {
@@ -157,7 +157,7 @@ fn shaky_desk(alloc: Global, is_broken: bool, sent: &str) -> Result<Desk<Shaky, 
     }))
 }
 
-// Two desks of which the first one's door is broken.
+// Two desks. The first one's door is broken.
 fn shaky_desks(alloc: Global, sent: &str) -> Result<Vec<Desk<Shaky, Still>>, NoMemory>
     ensures count { IfOk result (λ desks. length desks.items ≡ 2) }
     ensures doors { IfOk result (λ desks. All (λ desk. desk.door.door.out ≡ false) desks.items) }
@@ -168,7 +168,7 @@ fn shaky_desks(alloc: Global, sent: &str) -> Result<Vec<Desk<Shaky, Still>>, NoM
     Ok(desks)
 }
 
-// How a server of two workers ends of whom one's door is broken, if this comes back of what is sent to the other.
+// How a server of two workers ends if the door of one is broken, and if this comes back for what is sent to the other.
 fn status_beside_broken<R: Threads + Wait + Sync>(
     rt: &R,
     alloc: Global,
@@ -235,7 +235,7 @@ GET /v1/issuers/#/uploads/3 HTTP/1.1
 
 ";
 
-// Puts these requests, of an issuer who stands at each `#`.
+// Appends these requests, with an issuer in place of each `#`.
 fn put_requests(
     out: &mut Vec<u8>,
     alloc: Global,
@@ -251,7 +251,7 @@ fn put_requests(
     Ok(())
 }
 
-// A peer who has sent these requests, and sends no more.
+// A peer that has sent these requests, and sends nothing more.
 fn peer_of(rt: &HostRuntime, address: SocketAddr, requests: &[u8]) -> io::Result<TcpStream> {
     let mut peer = TcpStream::connect(rt, address)?;
     peer.write_all(requests)?;
@@ -259,7 +259,7 @@ fn peer_of(rt: &HostRuntime, address: SocketAddr, requests: &[u8]) -> io::Result
     Ok(peer)
 }
 
-// What a peer is sent, in at most 1,000 pieces.
+// What is sent to a peer, in at most 1,000 pieces.
 fn received(alloc: Global, mut peer: TcpStream) -> io::Result<Vec<u8>> {
     let mut bytes = Vec::new(alloc);
     let mut buffer = [0; 4_096];
@@ -273,7 +273,7 @@ fn received(alloc: Global, mut peer: TcpStream) -> io::Result<Vec<u8>> {
     Ok(bytes)
 }
 
-// An operator who doesn't listen.
+// An operator who ignores all reports.
 #[derive(Drop)]
 struct Nobody;
 
@@ -301,7 +301,7 @@ fn desks_over<'a>(
     Ok(desks)
 }
 
-// The keeper that a server with these words leaves, which serves the connections of a listener.
+// The keeper that is left by a server with these words, which serves the connections of a listener.
 fn served<R: Threads + Wait + Sync>(
     rt: &R,
     host: &HostRuntime,
@@ -326,7 +326,7 @@ fn served<R: Threads + Wait + Sync>(
     }
 }
 
-// Whether the entries that replies tell of are those from 1 to so many, each once.
+// Whether the entries that the replies report have the numbers from 1 to this one, each once.
 fn tell_all_entries(replies: &[u8], count: usize) -> Option<bool> {
     let replies = str::from_utf8(replies).ok()?;
     let mut told = [false; 64];

@@ -1,4 +1,4 @@
-// A session of two runs over a file, which is opened for each of them, beside the same runs over a keeper in
+// A session of two runs over a file, which is opened for each of them, compared with the same runs over a keeper in
 // memory.
 use crate::limits::{ISSUER, TWO_RECORDS};
 use crate::runs::words;
@@ -17,14 +17,14 @@ fn first_lines(alloc: Global) -> Result<String, AllocError> {
     format!(in alloc; "ACCREDIT {ISSUER}\nUPLOAD {ISSUER} 1 {TWO_RECORDS}\nPUBLISH 1\n")
 }
 
-// Those of the second: it is sent again, and what was kept, held and published is asked for.
+// The lines of the second run: the upload is sent again, and what was kept, held and published is requested.
 fn second_lines(alloc: Global) -> Result<String, AllocError> {
     format!(in alloc;
         "UPLOAD {ISSUER} 1 {TWO_RECORDS}\nKEPT {ISSUER} 1\nSHOW 00000000000000000292\nCOPY lei csv\nSTATUS\n"
     )
 }
 
-// What a run over a keeper comes to: its status, what it wrote, and the keeper.
+// The result of a run over a keeper: its status, what it wrote, and the keeper.
 fn came<R: Threads + Sync, K: Keeper + Drop>(
     rt: &R,
     alloc: Global,
@@ -50,7 +50,7 @@ fn came<R: Threads + Sync, K: Keeper + Drop>(
     Ok((status, Bytes::copy_of(alloc, sink.written())?, keeper))
 }
 
-// Whether the lines are answered over both keepers, in the same way. Gives the keeper in memory back.
+// Whether the lines get the same answers over both keepers. Returns the keeper in memory.
 fn are_alike<R: Threads + Sync, K: Keeper + Drop>(
     rt: &R,
     alloc: Global,

@@ -1,4 +1,4 @@
-//! Connections over loopback: what a link carries, which peers are given up, and when a door is closed.
+//! Connections over loopback: what a link transfers, which peers are given up, and when a door is closed.
 use lei_outside::{Came, Door, Failed, Link, SinkFault};
 use leireg_sockets::{Deadlines, Operator, TcpDoor};
 use std::io::{self, Read, Write};
@@ -6,7 +6,7 @@ use std::net::{Ipv4Addr, SocketAddr, TcpListener, TcpStream};
 use std::test::Fail;
 use std::time::{Clock, Duration};
 
-// Deadlines that a test can wait for.
+// Deadlines that are short enough for a test.
 fn short() -> Deadlines {
     Deadlines {
         silence: Duration::from_millis(40),
@@ -17,7 +17,7 @@ fn short() -> Deadlines {
     }
 }
 
-// What an operator heard: where the door listens, how often, and how many failures there were.
+// What was reported to an operator: the address of the door, how often, and how many failures there were.
 #[derive(Drop)]
 struct Heard {
     address: Option<SocketAddr>,

@@ -1,5 +1,5 @@
-//! A keeper over SQLite, from outside: a session over it, what a crash at each call of a disk leaves, and
-//! which stores it refuses.
+//! A keeper over SQLite, from outside: a session over it, what a crash at each call of a disk leaves, and which stores
+//! it refuses.
 use crate::transfer::{Course, transfer};
 use keeper_sqlite::SqliteKeeper;
 use lei_outside::{Keeper, NoMemory};
@@ -13,7 +13,7 @@ use std::thread::Threads;
 
 // ---- without a stop
 
-/// Whether the session over this keeper is answered as it should be, and no call of the keeper fails.
+/// Whether the session over this keeper gets the correct answers, and no call of the keeper fails.
 pub fn is_answered<R: Threads + Sync, S: Alter + Drop>(
     rt: &R,
     alloc: Global,
@@ -36,9 +36,9 @@ fn a_session_over_a_database_in_memory_is_answered(rt: HostRuntime) -> Result<()
 /// Which file of a store fails.
 #[derive(Clone, Copy, Debug)]
 pub enum Failing {
-    /// That of the log.
+    /// The log's file.
     Log,
-    /// That of the database.
+    /// The database's file.
     Database,
 }
 
@@ -50,7 +50,7 @@ pub fn no_files(alloc: Global) -> Files<Memory> {
     }
 }
 
-/// These files. One of them passes so many calls on, and fails at each after that.
+/// These files. One of them passes on this many calls, and fails at each call after that.
 pub fn fused(files: Files<Memory>, failing: Failing, calls: u64) -> Files<Fuse<Memory>> {
     let (of_log, of_db) = match failing {
         Failing::Log => (calls, u64::MAX),
@@ -115,8 +115,8 @@ fn crash_after<R: Threads + Sync, D: Crash + Drop>(
     }
 }
 
-// Whether the store in these files has what was acknowledged and at most one entry more, and the session over
-// it is answered as it should be.
+// Whether the store in these files has what was acknowledged and at most one entry more, and the session over it gets
+// the correct answers.
 fn is_safe<R: Threads + Sync, D: Crash + Drop>(
     rt: &R,
     alloc: Global,
@@ -146,14 +146,14 @@ fn goes_on<R: Threads + Sync, S: Alter + Drop>(
     }
 }
 
-/// How a session ended, one of whose disks fails from some call on.
+/// How a session ended, if one of its disks fails from some call on.
 #[derive(Clone, Copy, PartialEq, Eq, Debug)]
 pub enum Ending {
     /// No call failed.
     Whole,
     /// A call failed, and what the crash left is sound.
     Stopped,
-    /// What the crash left isn't.
+    /// What the crash left isn't sound.
     Lost,
 }
 
@@ -175,8 +175,8 @@ fn session_ending<R: Threads + Sync>(
     }
 }
 
-// The first number of calls with which the session isn't stopped, of every fourth one from the first on, and how
-// the session ended there.
+// The first number of calls that doesn't stop the session, among every fourth one starting with the first, and how the
+// session ended there.
 fn first_unstopped<R: Threads + Sync>(
     rt: &R,
     alloc: Global,
@@ -192,7 +192,7 @@ fn first_unstopped<R: Threads + Sync>(
     Ok((20_000, Ending::Stopped))
 }
 
-// Whether a crash at every fourth call from the first on loses nothing.
+// Whether a crash at every fourth call, starting with the first, loses nothing.
 fn loses_nothing<R: Threads + Sync>(
     rt: &R,
     alloc: Global,
@@ -214,7 +214,7 @@ fn a_crash_at_any_call_of_the_database_file_loses_nothing(rt: HostRuntime) -> Re
     Ok(())
 }
 
-// The calls of the log are parted, so that each test is short.
+// The calls of the log are divided among tests, so that each test is short.
 #[test]
 fn a_crash_in_the_first_of_four_calls_of_the_log_loses_nothing(
     rt: HostRuntime,
@@ -247,13 +247,13 @@ fn a_crash_in_the_last_of_four_calls_of_the_log_loses_nothing(rt: HostRuntime) -
 
 // ---- damage
 
-/// What is done to a store: the statements that do it to one of form 2, those that do such a thing to one of
-/// form 1 if they are others, and the status with which the program refuses the store then.
+/// Damage to a store: the statements that do it to a store of form 2, those that do the same to a store of form 1 if
+/// they are others, and the status with which the program refuses the store afterwards.
 pub type Damage = (&'static str, Option<&'static str>, ExitStatus);
 
-/// What is done to a store that has the session: another table of the name, a table without its second key, a
-/// further table, a further index, numbers that fit no field, an entry that lacks, a second row of the form, a
-/// form that no store has, cells of the other form, cells whose name or kind none has, and no cell at all.
+/// Damage to a store that has the session: another table with the name, a table without its second key, a further
+/// table, a further index, numbers that fit no field, a missing entry, a second row of the form, a form that no store
+/// has, cells of the other form, cells with an impossible name or kind, and no cell at all.
 pub const DAMAGE: [Damage; 13] = [
     (
         "DROP TABLE cell; CREATE TABLE cell (kind INTEGER, name TEXT, touched INTEGER, row TEXT)",
@@ -323,8 +323,7 @@ pub const DAMAGE: [Damage; 13] = [
     ),
 ];
 
-// Whether a store with the session is refused with this status after the damage, and has all its entries
-// still.
+// Whether a store with the session is refused with this status after the damage, and still has all its entries.
 fn is_refused<R: Threads + Sync>(
     rt: &R,
     alloc: Global,
@@ -369,7 +368,7 @@ fn entry_count<S: Alter>(conn: &mut Connection<S>) -> Option<i64> {
     }
 }
 
-// The first damage after which the store isn't refused as it should be.
+// The first damage after which the store isn't refused as required.
 fn first_taken<R: Threads + Sync>(rt: &R, alloc: Global) -> Result<Option<&'static str>, NoMemory> {
     for (damage, _, status) in DAMAGE {
         if !is_refused(rt, alloc, damage, status)? {

@@ -1,5 +1,5 @@
-//! Stores that are opened: a sound one, and one after each of many single changes, of which the number is
-//! told of the entry or the cell that was changed.
+//! Stores that are opened: a sound one, and one after each of many single changes. For these, the number of the entry
+//! or the cell that was changed is reported.
 use crate::limits::{ISSUER, MOMENT, TWO_RECORDS};
 use crate::runs::words;
 use lei_outside::{
@@ -25,10 +25,10 @@ impl Clock for Still {
     }
 }
 
-// The last number of the store's uploads, of which all but the first are of one record that is rejected.
+// The last number of the store's uploads. All but the first have one record, which is rejected.
 const UPLOADS: u64 = 999;
 
-// What is changed of a store: of an entry by its number, of its first cell, or of how many of them there are.
+// A change to a store: to an entry by its number, to its first cell, or to the number of its cells.
 #[derive(Clone, Copy, Debug)]
 enum Change {
     Nothing,
@@ -43,7 +43,7 @@ enum Change {
     OneCellMore,
 }
 
-// Changes, and the number that is told of each, which is 0 where nothing is told.
+// Changes, and the number that is reported for each, which is 0 if nothing is reported.
 const CHANGES: [(Change, u64); 9] = [
     (Change::Nothing, 0),
     (Change::Number(1), 1),
@@ -129,7 +129,7 @@ fn withdrawn(alloc: Global) -> Result<KeptCell, NoMemory> {
     })
 }
 
-// A keeper that has a store with a change.
+// A keeper with a store after a change.
 fn keeper_with(
     alloc: Global,
     entries: &[KeptEntry],
@@ -145,7 +145,7 @@ fn keeper_with(
     }
 }
 
-// Answers lines over a keeper, which comes back.
+// Answers lines over a keeper, and returns the keeper.
 fn answers<R: Threads + Sync>(
     rt: &R,
     alloc: Global,
@@ -179,7 +179,7 @@ fn lines(alloc: Global) -> Result<String, AllocError> {
     Ok(lines)
 }
 
-// A keeper that has what these lines leave.
+// A keeper with what these lines leave.
 fn kept<R: Threads + Sync>(rt: &R, alloc: Global, words: &[String]) -> Result<MapKeeper, NoMemory> {
     let lines = lines(alloc)?;
     let mut source = SureSource::new(Bytes::copy_of(alloc, lines.as_bytes())?, 65_536);
@@ -195,7 +195,7 @@ fn tables(mut keeper: MapKeeper) -> Result<(List<KeptEntry>, List<KeptCell>), Ke
     Ok((entries, cells))
 }
 
-// Whether the number is told of a store with a change, or nothing is told where it is 0.
+// Whether the number is reported for a store with a change, or nothing is reported if it is 0.
 fn is_told<R: Threads + Sync>(
     rt: &R,
     alloc: Global,
@@ -214,7 +214,7 @@ fn is_told<R: Threads + Sync>(
     begins_with(alloc, sink.written(), number)
 }
 
-// Whether a text begins with the line that tells a damaged store by this number, or is empty where that is 0.
+// Whether a text starts with the line that reports a damaged store by this number, or is empty if the number is 0.
 fn begins_with(alloc: Global, text: &[u8], number: u64) -> bool {
     if number == 0 {
         return text.is_empty();
@@ -225,8 +225,8 @@ fn begins_with(alloc: Global, text: &[u8], number: u64) -> bool {
     }
 }
 
-// The first change of which something else is told: of each twentieth entry another answer or none at all,
-// and others.
+// The first change for which something else is reported: another answer or a missing entry, for each twentieth entry,
+// and other changes.
 fn untold<R: Threads + Sync>(
     rt: &R,
     alloc: Global,

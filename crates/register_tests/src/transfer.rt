@@ -1,4 +1,4 @@
-//! A record that goes from one issuer to another, as a session over any keeper.
+//! A record that moves from one issuer to another, as a session over any keeper.
 use crate::runs::words;
 use crate::stores::Still;
 use lei_outside::{Bytes, Keeper, NoMemory, Sink, SureSink, SureSource};
@@ -6,8 +6,8 @@ use leireg_run::{Untold, no_file, run};
 use std::alloc::Global;
 use std::thread::Threads;
 
-// Three issuers are accredited. Then each upload has its issuer and number, and of the one record that it
-// sends the manager and the status, with the issuer that is to receive the record, if there is one.
+// Three issuers are accredited. Then each upload is given by its issuer and number. For the only record in it, the
+// manager and the status are given, and the issuer that is to receive the record, if there is one.
 macro_rules! session {
     ($([$issuer:literal $number:literal $manager:literal $status:literal $receiver:literal])*) => {
         concat!(
@@ -63,13 +63,13 @@ const REPLIES: &str = r#"200 {"entry":1,"issuer":"506700GE1G29325QX363"}
 pub struct Course {
     /// The status of the run.
     pub status: u8,
-    /// How many entries were acknowledged, which is how many replies came before the first that isn't 200.
+    /// How many entries were acknowledged: the number of replies before the first one that isn't 200.
     pub acknowledged: u64,
-    /// Each line was answered as it should be.
+    /// Each line got the correct answer.
     pub is_whole: bool,
 }
 
-/// Runs the session over a keeper, which comes back.
+/// Runs the session over a keeper, and returns the keeper.
 pub fn transfer<R: Threads + Sync, K: Keeper + Drop>(
     rt: &R,
     alloc: Global,
@@ -79,7 +79,7 @@ pub fn transfer<R: Threads + Sync, K: Keeper + Drop>(
     Ok((course_of(status, written.as_slice()), keeper))
 }
 
-/// The first lines of the session, so many of them.
+/// The first lines of the session, as many as this.
 pub fn first_lines(count: usize) -> &'static [u8] {
     let mut end: usize = 0;
     for line in LINES.lines().take(count) {
@@ -88,7 +88,7 @@ pub fn first_lines(count: usize) -> &'static [u8] {
     LINES.as_bytes().get(..end).unwrap_or(&[])
 }
 
-/// The status of a run over lines, what it wrote, and the keeper, which comes back.
+/// The status of a run over lines, what it wrote, and the keeper, which is returned.
 pub fn replies<R: Threads + Sync, K: Keeper + Drop>(
     rt: &R,
     alloc: Global,
@@ -121,7 +121,7 @@ fn course_of(status: u8, written: &[u8]) -> Course {
     }
 }
 
-/// How many lines of replies begin with 200, up to the first that doesn't.
+/// How many lines of replies start with 200, up to the first that doesn't.
 pub fn acknowledged(written: &[u8]) -> u64 {
     let mut count: u64 = 0;
     for line in written.split(|byte: &u8| -> bool { *byte == b'\n' }) {

@@ -10,7 +10,7 @@ use std::thread;
 use std::thread::Threads;
 use turnstile::{Pass, Said, Tally, Turnstile};
 
-// The marks that callers leave, each by its number.
+// The marks that callers leave, each identified by its number.
 #[derive(Drop)]
 struct Marks {
     marks: Vec<u64>,
@@ -44,7 +44,7 @@ impl Said for Mark {
     ghost said = { λ m. Some m.by };
 }
 
-// What was counted, of which no pass is told.
+// What was counted. No pass is told of it.
 #[derive(Drop)]
 struct Counted {
     counted: (usize, usize),
@@ -58,7 +58,7 @@ impl Said for Counted {
 
 type Caller = Pass<u64, u64>;
 
-// So many turns of one caller, each of which leaves a mark.
+// This many turns of one caller, each of which leaves a mark.
 fn take_turns<R: Wait>(
     rt: &R,
     turnstile: &Turnstile<Marks>,
@@ -81,7 +81,7 @@ fn take_turns<R: Wait>(
     pass
 }
 
-// Two callers in threads of their own, the marks of the second being one more than those of the first.
+// Two callers, each in its own thread. The number of the second one's mark is one greater than that of the first.
 fn two<R: Threads + Wait + Sync>(
     rt: &R,
     turnstile: &Turnstile<Marks>,
@@ -108,7 +108,7 @@ fn two<R: Threads + Wait + Sync>(
     )
 }
 
-// Turns of two callers at once, before they meet and afterwards. Their passes come back.
+// Turns of two callers at the same time, before they meet and afterwards. Their passes are returned.
 fn in_two_threads<R: Threads + Wait + Sync>(
     rt: &R,
     turnstile: &Turnstile<Marks>,
@@ -152,7 +152,7 @@ fn work<R: Wait>(rt: &R, turnstile: &Turnstile<Marks>, worker: &mut Worker, turn
     worker.pass = Some(take_turns(rt, turnstile, pass, worker.by, turns));
 }
 
-// All workers at once.
+// All workers at the same time.
 fn work_all<R: Threads + Wait + Sync>(
     rt: &R,
     turnstile: &Turnstile<Marks>,
@@ -188,7 +188,7 @@ fn workers_of(alloc: Global, mut passes: Vec<Caller>) -> Result<Vec<Worker>, All
     Ok(workers)
 }
 
-// A turn of each pass. The passes come back.
+// A turn of each pass. The passes are returned.
 fn one_each<R: Wait>(
     rt: &R,
     turnstile: &Turnstile<Marks>,
@@ -213,7 +213,7 @@ fn count(marks: &Marks, by: u64) -> (usize, usize) {
     (all.len(), all.iter().filter(|mark| **mark == by).count())
 }
 
-// No marks, with room for so many.
+// No marks, with room for this many.
 fn no_marks(alloc: Global, room: usize) -> Result<Marks, AllocError> {
     Ok(Marks {
         marks: Vec::with_capacity(alloc, room)?,

@@ -1,4 +1,4 @@
-// What words ask of a server.
+// What words ask a server to do.
 use lei_outside::NoMemory;
 use program_words::{Command, WordsFault, wanted};
 use std::alloc::Global;
@@ -30,7 +30,7 @@ const SERVERS: [(&str, u16, u32, u64, Option<&str>); 4] = [
     ),
 ];
 
-// Words that are no command, a line each.
+// Words that aren't a command, one line each.
 const OTHERS: &str = "serve
 serve --port 0
 serve --workers 1
@@ -49,7 +49,7 @@ serve --port 0 --workers 1 --help
 serve -- --port 0 --workers 1
 Serve --port 0 --workers 1";
 
-/// The words of a text, parted by spaces.
+/// The words of a text, separated by spaces.
 pub fn words_of(alloc: Global, text: &str) -> Result<Vec<String>, NoMemory> {
     let mut words = Vec::new(alloc);
     for word in text.split(' ') {

@@ -20,7 +20,7 @@ none_unless : (test : Bool) (n : ℕ) → (test ≡ true → ⊥) → cond test 
 none_unless true n never = absurd (never refl)
 none_unless false n never = refl
 
--- what stands for a number of the range is that number's decimal text
+-- bytes that write a number of the range are that number's decimal text
 pub number_within-decimal : (low high : ℕ) (bytes : List ℕ) (n : ℕ) → low ≤ n → n ≤ high → n < 2 ^ 32 → bytes ≡ decimal n
     → number_within low high bytes ≡ Some n
 unfolding number_within
@@ -33,7 +33,7 @@ number_within-decimal low high bytes n above below small is =
     ∙ ap (λ test. cond test (Some n) None)
     (all_three (leb low n) (leb n high) (bytes_eq (decimal n) bytes) at_least at_most plain)
 
--- and nothing else stands for one
+-- and nothing else writes one
 pub number_within-none : (low high : ℕ) (bytes : List ℕ)
     → ((n : ℕ) → low ≤ n → n ≤ high → bytes ≡ decimal n → ⊥) → number_within low high bytes ≡ None
 unfolding number_within
@@ -61,7 +61,7 @@ number_within-not_parsed low high bytes small parsed =
     let read : found ≡ Ok n = parse-decimal 32 n bytes found (omega arith) (omega arith) is parsed in
     cc)
 
--- what was read is no number of the range: it is out of range, or isn't written so
+-- what was read isn't a number of the range: it is out of range, or isn't written in this form
 pub number_within-other : (low high : ℕ) (bytes : List ℕ) (number : ℕ) → high < 2 ^ 32
     → ParsesUnsigned {E = Unit {0}} 32 10 bytes (Ok number)
     → (low ≤ number → number ≤ high → bytes ≡ decimal number → ⊥) → number_within low high bytes ≡ None

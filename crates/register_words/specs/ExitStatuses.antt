@@ -1,9 +1,9 @@
--- The statuses that the program ends with: their numbers, and their words for a person. This project's profile.
+-- The exit statuses of the program: their numbers, and their words for a person. This project's profile.
 use Rattle.std.specs.Prelude.{ℕ, List, [], ◌∷◌, codes, slice_get, Option}
 use Rattle.lei_code.specs.Texts.{Text}
 use Rattle.register_words.specs.declared.exit_status.ExitStatus.{ExitStatus}
 
--- The number of a status, which the operating system gets.
+-- The number of a status, which the operating system receives.
 abbrev pub exit_number : ExitStatus → ℕ
 exit_number ExitStatus.Ok = 0
 exit_number ExitStatus.Usage = 1
@@ -16,7 +16,7 @@ exit_number ExitStatus.StoreDamaged = 7
 exit_number ExitStatus.InputTooLong = 8
 exit_number ExitStatus.DoorFault = 9
 
--- All statuses, in the order of their numbers, which begin at 0.
+-- All statuses, in the order of their numbers, which start at 0.
 abbrev pub exit_statuses : List ExitStatus
 exit_statuses =
     ExitStatus.Ok

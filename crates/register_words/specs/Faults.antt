@@ -4,7 +4,7 @@ use Rattle.lei_code.specs.Texts.{Text}
 use Rattle.register_words.specs.declared.malformed.Malformed.{Malformed}
 use Rattle.register_words.specs.declared.malformed.Malformed.TheVariants.{NotJson, NotAnUpload, NoItems, TooManyItems}
 
--- the words for a body that is no upload
+-- the words for a body that isn't an upload
 abbrev pub malformed_words : Malformed → Text
 malformed_words NotJson = codes "the body is no JSON text"
 malformed_words NotAnUpload = codes "the body is no upload"

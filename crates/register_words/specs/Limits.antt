@@ -10,7 +10,7 @@ body_limit = 4_194_304
 abbrev pub entry_limit : ℕ
 entry_limit = 10_000_000
 
--- bodies of at most 2,147,483,648 bytes together (2 GiB) are kept
+-- bodies of at most 2,147,483,648 bytes in total (2 GiB) are kept
 abbrev pub kept_limit : ℕ
 kept_limit = 2_147_483_648
 
@@ -22,7 +22,7 @@ record_limit = 500_000
 abbrev pub standard : Limits
 standard = record { body = body_limit; kept = kept_limit; entries = entry_limit; records = record_limit }
 
--- at least 1, and at most so many
+-- at least 1, and at most this number
 abbrev pub IsFrom1To : ℕ → ℕ → Type 0
 IsFrom1To most number = (1 ≤ number) × (number ≤ most)
 

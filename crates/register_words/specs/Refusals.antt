@@ -9,7 +9,7 @@ use Rattle.register_words.specs.declared.reply.Refusal.TheVariants as refusals
 use Rattle.register_words.specs.declared.reply.Reply.{Reply}
 use Rattle.register_words.specs.declared.reply.Reply.TheVariants as replies
 
--- the status code of a refusal, after those of HTTP (RFC 9110)
+-- the status code of a refusal, following HTTP (RFC 9110)
 abbrev pub refusal_status_code : Refusal → ℕ
 refusal_status_code TooLong = 413
 refusal_status_code NoRoute = 404
@@ -31,14 +31,14 @@ refusal_status_code HeadTooLong = 431
 refusal_status_code LengthRequired = 411
 refusal_status_code (refusals.Method allowed) = 405
 
--- how a body that is no upload is told
+-- how a body that isn't an upload is reported
 abbrev pub malformed_name : Malformed → Text
 malformed_name NotJson = codes "MALFORMED NOT_JSON"
 malformed_name NotAnUpload = codes "MALFORMED NOT_AN_UPLOAD"
 malformed_name NoItems = codes "MALFORMED NO_ITEMS"
 malformed_name TooManyItems = codes "MALFORMED TOO_MANY_ITEMS"
 
--- the name that a refusal is told by
+-- the name that a refusal is reported by
 abbrev pub refusal_name : Refusal → Text
 refusal_name TooLong = codes "TOO_LONG"
 refusal_name NoRoute = codes "NO_ROUTE"
@@ -60,7 +60,7 @@ refusal_name HeadTooLong = codes "HEAD_TOO_LONG"
 refusal_name LengthRequired = codes "LENGTH_REQUIRED"
 refusal_name (refusals.Method allowed) = codes "METHOD"
 
--- the number that some names are told with
+-- the number that some names are reported with
 abbrev pub refusal_number : Refusal → Option ℕ
 refusal_number TooLong = None
 refusal_number NoRoute = None
@@ -98,7 +98,7 @@ abbrev pub reply_status_code : Reply → ℕ
 reply_status_code (replies.Text code kind text) = code
 reply_status_code (replies.Words refusal) = refusal_status_code refusal
 
--- what is told in a reply: its text, or the refusal in words
+-- the text of a reply, or the refusal in words
 abbrev pub reply_words : Reply → Text
 reply_words (replies.Text code kind text) = text
 reply_words (replies.Words refusal) = refusal_words refusal

@@ -6,11 +6,11 @@ use Rattle.register_words.specs.declared.request.Request.TheVariants.{Accredit, 
 use Rattle.register_words.specs.Limits.{IsFrom1To}
 use Rattle.register_words.specs.Words.{number_limit}
 
--- the number of an upload lies from 1 to its limit, and so does that of a publication
+-- the number of an upload is from 1 to its limit, and so is that of a publication
 abbrev pub IsUploadNumber : ℕ → Type 0
 IsUploadNumber number = IsFrom1To number_limit number
 
--- where a request takes a new number, of an upload or a publication, it lies in its range
+-- if a request takes a new number, of an upload or a publication, it is in its range
 abbrev pub IsNumbered : Request → Type 0
 IsNumbered (Accredit issuer) = Unit {0}
 IsNumbered (Upload call) = IsUploadNumber call.number
@@ -21,7 +21,7 @@ IsNumbered (Copy sheet form) = Unit {0}
 IsNumbered (Delta base sheet form) = Unit {0}
 IsNumbered Status = Unit {0}
 
--- a request as readers make it: each LEI that it names is one, and its number lies in its range
+-- a request as readers make it: each LEI that it names is one, and its number is in its range
 abbrev pub IsRequest : Request → Type 0
 IsRequest (Accredit issuer) = IsValid issuer
 IsRequest (Upload call) = IsValid call.office × IsUploadNumber call.number
@@ -32,7 +32,7 @@ IsRequest (Copy sheet form) = Unit {0}
 IsRequest (Delta base sheet form) = Unit {0}
 IsRequest Status = Unit {0}
 
--- reading this request takes memory: an upload's, whose body is kept
+-- reading this request takes memory: it is an upload, whose body is kept
 abbrev pub TakesMemoryToRead : Request → Type 0
 TakesMemoryToRead (Accredit issuer) = ⊥
 TakesMemoryToRead (Upload call) = Unit {0}

@@ -1,6 +1,6 @@
-//! From which publication a delta goes.
+//! The publication that a delta starts from.
 
-/// The publication that a delta goes from.
+/// The publication that a delta starts from.
 #[derive(Clone, Copy, Debug, PartialEq, Eq)]
 pub enum Base {
     /// The one with this number.

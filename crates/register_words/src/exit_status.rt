@@ -1,3 +1,4 @@
+//! The statuses that the program ends with.
 ghost use Rattle.std.specs.Prelude.{◌≡◌};
 ghost use Rattle.register_words.specs.ExitStatuses.{exit_of, exit_number, exit_name};
 
@@ -6,7 +7,7 @@ ghost use Rattle.register_words.specs.ExitStatuses.{exit_of, exit_number, exit_n
 pub enum ExitStatus {
     /// The input was read to its end, and all was written.
     Ok,
-    /// The words are no command.
+    /// The words aren't a command.
     Usage,
     /// A text was refused, and the refusal was written.
     Refused,
@@ -20,14 +21,14 @@ pub enum ExitStatus {
     NoMemory,
     /// What the keeper has isn't what a history leaves, and the first difference was written.
     StoreDamaged,
-    /// The input has as many bytes as no input may have.
+    /// The input reached the length that every input must stay below.
     InputTooLong,
     /// A door failed.
     DoorFault,
 }
 
 impl ExitStatus {
-    /// The status as the operating system gets it.
+    /// The status as the operating system receives it.
     pub fn number(self) -> u8
         ensures { result ≡ exit_number self }
     {

@@ -1,5 +1,5 @@
-//! The register's protocol: what is asked of it and answered, what single words of requests are read as, and what it
-//! takes at most.
+//! The register's protocol: its requests and answers, the readings of the single words of requests, and the most that
+//! the register takes.
 #![tactic(auto)]
 
 mod base;

@@ -1,3 +1,4 @@
+//! The limits of an office.
 ghost use Rattle.std.specs.Prelude.{◌≡◌};
 ghost use Rattle.register_words.specs.Limits.{AreLimits, standard};
 
@@ -15,7 +16,7 @@ pub struct Limits {
 }
 
 impl Limits {
-    /// The limits of an office that is given no others.
+    /// The limits of an office that is given no other limits.
     pub fn standard() -> Limits
         ensures value { result ≡ standard }
         ensures limits { AreLimits result }

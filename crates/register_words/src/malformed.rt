@@ -1,18 +1,18 @@
-//! What is wrong with a body that is no upload.
+//! What is wrong with a body that isn't an upload.
 ghost use Rattle.std.specs.Prelude.{Some};
 
 use std::error::Error;
 use std::fmt;
 
-/// What is wrong with a body: the first of these that applies, in this order. The order and the four faults are
-/// this project's profile.
+/// What is wrong with a body: the first of these that applies, in this order. The order and the four faults are this
+/// project's profile.
 #[derive(Clone, Copy, Debug, PartialEq, Eq)]
 pub enum Malformed {
-    /// The bytes are no JSON text by RFC 8259, or none that `serde_json` reads: they are no UTF-8, begin with a byte
-    /// order mark, nest deeper than 127 levels, or have a number too large for a double or half of a surrogate pair,
-    /// also where the value would be dropped.
+    /// The bytes aren't a JSON text by RFC 8259, or not one that `serde_json` reads: they aren't UTF-8, start with a
+    /// byte order mark, nest deeper than 127 levels, or have a number too large for a double or half of a surrogate
+    /// pair, even if the value would be dropped.
     NotJson,
-    /// The value isn't an object, has another member than `records`, `relationships` and `exceptions`, one of these
+    /// The value isn't an object, has a member other than `records`, `relationships` and `exceptions`, one of these
     /// isn't a list of objects, or a value in one of the objects isn't a text.
     NotAnUpload,
     /// The body lists no item: each of its lists is absent or empty.

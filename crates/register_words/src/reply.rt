@@ -1,3 +1,4 @@
+//! Replies and refusals.
 ghost use Rattle.std.specs.Prelude.{◌≡◌, Some};
 
 use crate::malformed::Malformed;
@@ -16,43 +17,43 @@ pub enum Kind {
 pub enum Refusal {
     /// The line or the body is too long.
     TooLong,
-    /// The request's first word is none of those that are known.
+    /// The request's first word isn't a known one.
     NoRoute,
-    /// A word of the request is missing, too many or of another form.
+    /// The request has too few or too many words, or a word of another form.
     Path,
     /// The issuer isn't accredited.
     IssuerUnknown,
-    /// The issuer has sent another body under this number.
+    /// The issuer has already sent another body under this number.
     NumberTaken,
-    /// The number that the issuer's next upload has, or the next publication.
+    /// The number that the issuer's next upload, or the next publication, has to have.
     NumberAhead(u32),
     Malformed(Malformed),
-    /// There are as many entries as the limit, or the bodies that are kept would be too long with this one.
+    /// The number of entries is at its limit, or the kept bodies would be too long with this one.
     LedgerFull,
-    /// The issuer has sent no upload of this number.
+    /// The issuer has sent no upload with this number.
     NotKept,
     /// No record of this LEI is held.
     LeiUnknown,
     /// There is no publication yet.
     NothingPublished,
-    /// There is no publication of the number that a delta begins at.
+    /// There is no publication with the number that the delta starts from.
     PublicationUnknown,
     /// No publication is old enough to be the base of the delta.
     NoBase,
     NoMemory,
     /// The entry couldn't be kept.
     KeeperFault,
-    /// The head of an HTTP request is none (RFC 9112), or the length of its body isn't read.
+    /// The head of an HTTP request isn't valid (RFC 9112), or the length of its body can't be read.
     Head,
     /// The head of an HTTP request is too long, or has too many fields.
     HeadTooLong,
-    /// The length of an HTTP request's body isn't stated, or the body isn't sent as so many bytes.
+    /// The length of an HTTP request's body isn't stated, or the body isn't sent with a stated length.
     LengthRequired,
-    /// The route of an HTTP request has other methods: these.
+    /// The route of an HTTP request has only these methods.
     Method(Allowed),
 }
 
-/// The methods of a route of HTTP (RFC 9110).
+/// The methods of an HTTP route (RFC 9110).
 #[derive(Clone, Copy, Debug, PartialEq, Eq)]
 pub enum Allowed {
     Put,
@@ -63,7 +64,7 @@ pub enum Allowed {
 impl Refusal {
     ghost use Rattle.register_words.specs.Refusals.{refusal_status_code, refusal_name, refusal_number};
 
-    /// The status code of its reply, after those of HTTP (RFC 9110).
+    /// The status code of its reply, following HTTP (RFC 9110).
     pub fn status_code(self) -> u16
         ensures { result ≡ refusal_status_code self }
     {
@@ -87,7 +88,7 @@ impl Refusal {
         }
     }
 
-    /// Its name in a reply, and for a body that is no upload the fault's name behind it.
+    /// Its name in a reply, followed by the fault's name for a body that isn't an upload.
     pub fn name(self) -> &'static str
         ensures { result.now ≡ refusal_name self }
     {
@@ -117,7 +118,7 @@ impl Refusal {
         }
     }
 
-    /// The number that stands behind its name, after a space.
+    /// The number that follows its name, after a space.
     pub fn number(self) -> Option<u32>
         ensures { result ≡ refusal_number self }
     {
@@ -142,7 +143,7 @@ impl fmt::Display for Refusal {
     }
 }
 
-/// What is answered to a request.
+/// The reply to a request.
 #[derive(Debug, PartialEq, Eq, Drop)]
 pub enum Reply {
     Text { code: u16, kind: Kind, text: Bytes },
@@ -152,7 +153,7 @@ pub enum Reply {
 impl Reply {
     ghost use Rattle.register_words.specs.Refusals.{reply_status_code};
 
-    /// Its status code, after those of HTTP (RFC 9110).
+    /// Its status code, following HTTP (RFC 9110).
     pub fn status_code(&self) -> u16
         ensures { result ≡ reply_status_code self.now }
     {

@@ -1,3 +1,4 @@
+//! Requests.
 ghost use Rattle.std.specs.Prelude.{◌↔◌, IsTrue};
 ghost use Rattle.register_words.specs.Requests.{IsUploadNumber};
 
@@ -24,16 +25,16 @@ pub struct Call {
     pub body: Shared,
 }
 
-/// What the register is asked for.
+/// What the register is asked to do.
 #[derive(Debug, PartialEq, Eq, Drop)]
 pub enum Request {
     /// To let an issuing office send uploads.
     Accredit(Lei),
     /// To take an upload.
     Upload(Call),
-    /// To tell what was answered to the issuer's upload of this number.
+    /// To show the answer to the issuer's upload with this number.
     Kept(Lei, u32),
-    /// To publish what the register holds, as the publication of this number, from 1 to [`MAX_NUMBER`].
+    /// To publish what the register holds, as the publication with this number, from 1 to [`MAX_NUMBER`].
     Publish(u32),
     /// To show the record of this LEI.
     Show(Lei),
@@ -41,11 +42,11 @@ pub enum Request {
     Copy(Sheet, Form),
     /// To give the delta of a sheet from an earlier publication to the latest.
     Delta(Base, Sheet, Form),
-    /// To tell how much is kept and held.
+    /// To report how much is kept and held.
     Status,
 }
 
-/// What a reader makes of a request's bytes: what is asked, or the refusal that is its reply.
+/// What a reader makes of a request's bytes: the request, or the refusal that is its reply.
 #[derive(Debug, PartialEq, Eq, Drop)]
 pub enum Asked {
     Ask(Request),

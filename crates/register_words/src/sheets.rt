@@ -1,4 +1,4 @@
-//! The sheets of golden copies, and the forms that these are written in.
+//! The sheets of golden copies, and the forms that they are written in.
 
 /// A table of a golden copy.
 #[derive(Clone, Copy, Debug, PartialEq, Eq)]
@@ -11,7 +11,7 @@ pub enum Sheet {
     Repex,
 }
 
-/// How a golden copy is written.
+/// The form in which a golden copy is written.
 #[derive(Clone, Copy, Debug, PartialEq, Eq)]
 pub enum Form {
     /// RFC 4180, with every field in quotes and LF at the end of each line.

@@ -1,4 +1,4 @@
-// What single words are read as.
+// The readings of single words.
 ghost use Rattle.std.specs.Prelude.{◌≡◌, ◌≤◌, ◌↔◌, decimal, IfSome, IsTrue};
 ghost use Rattle.register_words.specs.Words.{base_of, code_of, form_of, number_of, number_within, sheet_of};
 
@@ -9,21 +9,21 @@ use lei_code::Lei;
 /// The greatest number of an upload, and of a publication. This project's profile.
 pub const MAX_NUMBER: u32 = 1_000_000;
 
-/// The LEI that the word is (ISO 17442-1), its check digits included.
+/// The LEI that the word is (ISO 17442-1), with correct check digits.
 pub fn code_of(word: &[u8]) -> Option<Lei>
     ensures { result ≡ code_of word.now }
 {
     Lei::read(word).ok()
 }
 
-/// The number of an upload or of a publication that is written so, from 1 to [`MAX_NUMBER`].
+/// The number of an upload or of a publication that the word writes, from 1 to [`MAX_NUMBER`].
 pub fn number_of(word: &[u8]) -> Option<u32>
     ensures { result ≡ number_of word.now }
 {
     number_within(word, 1, MAX_NUMBER)
 }
 
-/// The number from `low` to `high` that is written so in decimal, without sign or leading zero.
+/// The number from `low` to `high` that the word writes in decimal, without sign or leading zero.
 pub fn number_within(word: &[u8], low: u32, high: u32) -> Option<u32>
     ensures value { result ≡ number_within low high word.now }
     ensures range { IfSome result (λ number. (low ≤ number) × (number ≤ high)) }
@@ -54,7 +54,7 @@ fn is_decimal(text: &str, number: u32) -> bool
     itoa::Buffer::new().format(number) == text
 }
 
-/// The sheet that has this name.
+/// The sheet with this name.
 pub fn sheet_of(word: &[u8]) -> Option<Sheet>
     ensures { result ≡ sheet_of word.now }
 {
@@ -70,7 +70,7 @@ pub fn sheet_of(word: &[u8]) -> Option<Sheet>
     None
 }
 
-/// The form that has this name.
+/// The form with this name.
 pub fn form_of(word: &[u8]) -> Option<Form>
     ensures { result ≡ form_of word.now }
 {
@@ -83,7 +83,7 @@ pub fn form_of(word: &[u8]) -> Option<Form>
     None
 }
 
-/// The base of a delta that is named so: by its number, or by how old it is at least.
+/// The base of a delta that the word names: by its number, or by its least age.
 pub fn base_of(word: &[u8]) -> Option<Base>
     ensures { result ≡ base_of word.now }
 {

@@ -1,4 +1,4 @@
--- The active relationships of a table: which of them an item meets, and what it changes where it is put.
+-- The active relationships of a table: which of them an item meets, and what putting the item changes.
 use Rattle.std.specs.Prelude.{◌≡◌, ℕ, List, [], ◌∷◌, Bool, true, false, not, ◌&&◌, cond, find, Option, Some, None, option_map}
 use Rattle.std.specs.FinMap.{get, get-insert}
 use Rattle.std.specs.Ordering.{eq_by_cmp}
@@ -47,7 +47,7 @@ closed start kind row a =
     and_from _ _ a.active
     (and_from _ _ (same_bytes (start_in row) start a.starts) (same_bytes (relation_type_text (kind_in row)) (relation_type_text kind) a.types))
 
--- two rows that are active of one start and type: each is of the other's
+-- if two rows are active for one start and type, each is active for the other's
 of_one : (start : List ℕ) (kind : RelationType) (a b : Row) → ActiveOf start kind a → ActiveOf start kind b → ActiveOf (start_in a) (kind_in a) b
 of_one start kind a b first second = record {
   active = second.active;
@@ -55,14 +55,14 @@ of_one start kind a b first second = record {
   types = second.types ∙ sym first.types;
 }
 
--- and with one end they have one key
+-- and if they have the same end, they have the same key
 same_keys : (start : List ℕ) (kind : RelationType) (a b : Row) → ActiveOf start kind a → ActiveOf start kind b → end_in a ≡ end_in b → relation_key_in a ≡ relation_key_in b
 same_keys start kind a b first second ends =
     let starts : start_in a ≡ start_in b = first.starts ∙ sym second.starts in
     let types : relation_type_text (kind_in a) ≡ relation_type_text (kind_in b) = first.types ∙ sym second.types in
     λ i. starts i ∷ types i ∷ ends i ∷ []
 
--- ---- the end in the way of an item, over all rows and by the cell of its start and type
+-- ---- the end that conflicts with an item, over all rows and by the cell of its start and type
 
 abbrev active_row : Table → List ℕ → RelationType → Option Row
 active_row table start kind = find (is_active_of start kind) (relations_of table)
@@ -100,17 +100,17 @@ pub get-with_relation : (table : Table) (row : Row) (key : KeyTexts)
     → get (with_relation table row).relations key ≡ cond (eq_by_cmp key_cmp key (relation_key_in row)) (Some row) (get table.relations key)
 get-with_relation table row key = get-insert keys_total table.relations (relation_key_in row) row key
 
--- a row of the new table is the one that was put, or stood there under another key
+-- a row of the new table is the one that was put, or was already there under another key
 pub split : (table : Table) (row : Row) (key : KeyTexts) (other : Row) (P : Type 0) → get (with_relation table row).relations key ≡ Some other
     → (key ≡ relation_key_in row → row ≡ other → P)
     → (eq_by_cmp key_cmp key (relation_key_in row) ≡ false → get table.relations key ≡ Some other → P) → P
 split table row key other P at here there = inserted table.relations (relation_key_in row) row key other P at here there
 
--- no active relationship stands in the way of an active row
+-- no active relationship conflicts with an active row
 abbrev pub IsFitting : Table → Row → Type 0
 IsFitting table row = is_active row ≡ true → find (is_in_the_way row) (relations_of table) ≡ None
 
--- where the row is active of a start and a type, every other such row of the table has its key
+-- if the row is active for a start and a type, every other such row of the table has its key
 alone : (table : Table) (row : Row) (start : List ℕ) (kind : RelationType) (key : KeyTexts) (other : Row) → AreRelationsKeyed table → IsFitting table row
     → is_active_of start kind row ≡ true → get table.relations key ≡ Some other → is_active_of start kind other ≡ true → key ≡ relation_key_in row
 alone table row start kind key other keyed fits own at passes =
@@ -137,12 +137,12 @@ HasActives-put table row keyed actives fits start kind a b first second at_a at_
     alone table row start kind a first keyed fits own was_a is_a ∙ sym own_b)
     (λ other_b was_b. actives start kind a b first second was_a was_b is_a is_b))
 
--- ---- the end of the active relationship of a start and a type behind it
+-- ---- the end of the active relationship of a start and a type afterwards
 
 apart : (key own : KeyTexts) → (key ≡ own → ⊥) → eq_by_cmp key_cmp key own ≡ false
 apart key own never = false_from_ne_true (eq_by_cmp key_cmp key own) (λ t. never (same_key key own t))
 
--- a row under another key stays
+-- a row under another key is unchanged
 stays : (table : Table) (row : Row) (key : KeyTexts) (other : Row) → (key ≡ relation_key_in row → ⊥) → get table.relations key ≡ Some other
     → get (with_relation table row).relations key ≡ Some other
 stays table row key other never at =
@@ -158,12 +158,12 @@ types_alike a b same = ap (λ key. get_or key 1 []) same
 ends_alike : (a b : Row) → relation_key_in a ≡ relation_key_in b → end_in a ≡ end_in b
 ends_alike a b same = ap (λ key. get_or key 2 []) same
 
--- what is held of the start and the type, where the row is put and isn't active of them: its own end is held no longer
+-- what is held for the start and the type, if the row is put and isn't active for them: its own end is no longer held
 abbrev pub left_of : List ℕ → RelationType → Row → Option (List ℕ) → Option (List ℕ)
 left_of start kind row held = cond (is_from start kind row) (other_than (end_in row) held) held
 
 module _ (table : Table) (row : Row) (start : List ℕ) (kind : RelationType) (keyed : AreRelationsKeyed table) (actives : HasActives table) (fits : IsFitting table row) (not_own : is_active_of start kind row ≡ false) where
-  -- each row that is active of them stood there before
+  -- each row that is active for them was there before
   before : (key : KeyTexts) (other : Row) → get (with_relation table row).relations key ≡ Some other → is_active_of start kind other ≡ true
       → (eq_by_cmp key_cmp key (relation_key_in row) ≡ false) × (get table.relations key ≡ Some other)
   before key other at passes =
@@ -185,7 +185,7 @@ module _ (table : Table) (row : Row) (start : List ℕ) (kind : RelationType) (k
         (stays table row hit.0 was (λ same. never (sym own_key ∙ same)) hit.1) hit.2
         (λ key other at passes. actives start kind key hit.0 other was (before key other at passes).1 hit.1 passes hit.2)
 
-    -- a row whose place was taken isn't there any longer, and it was the only one
+    -- a row whose place was taken is no longer there, and it was the only one
     gone : relation_key_in was ≡ relation_key_in row → active_row (with_relation table row) start kind ≡ None
     gone same =
         let hit = find-values keys_total table.relations (is_active_of start kind) was is in
@@ -201,13 +201,13 @@ pub either_way : (b : Bool) (held : Option (List ℕ)) → held ≡ cond b held 
 either_way true held = refl
 either_way false held = refl
 
--- the row has the start and the type where one of them has its key
+-- the row has the start and the type if one of them has its key
 key_of_them : (start : List ℕ) (kind : RelationType) (row was : Row) → ActiveOf start kind was → relation_key_in was ≡ relation_key_in row → is_from start kind row ≡ true
 key_of_them start kind row was a same =
     and_from _ _ (same_bytes (start_in row) start (sym (starts_alike was row same) ∙ a.starts))
     (same_bytes (relation_type_text (kind_in row)) (relation_type_text kind) (sym (types_alike was row same) ∙ a.types))
 
--- and one of them has its key where it has them and its end
+-- and one of them has its key if the row has the start, the type and its end
 them_of_key : (start : List ℕ) (kind : RelationType) (row was : Row) → ActiveOf start kind was → is_from start kind row ≡ true → end_in was ≡ end_in row
     → relation_key_in was ≡ relation_key_in row
 them_of_key start kind row was a of_it ends =
@@ -242,7 +242,7 @@ module _ (table : Table) (row : Row) (start : List ℕ) (kind : RelationType) (k
       ap (option_map end_in) (none_left table row start kind keyed actives fits not_own is) ∙ either_way (is_from start kind row) None
   rest_left not_own (Some was) is = some_left not_own was is
 
-  -- the row's end where the row is active of the start and the type, and else what is left of what was held
+  -- the row's end if the row is active for the start and the type, and otherwise what is left of what was held
   pub active_of-put : active_of (with_relation table row) start kind ≡ cond (is_active_of start kind row) (Some (end_in row)) (left_of start kind row (active_of table start kind))
   active_of-put =
       elim (is_active_of start kind row) as (λ b. is_active_of start kind row ≡ b

@@ -1,4 +1,4 @@
--- Items that pass their checks leave no active parent beside the exception of its category.
+-- After items that pass their checks, no entity has both an active parent and the exception of its category.
 use Rattle.std.specs.Prelude.{◌≡◌, ℕ, List, [], ◌∷◌, Bool, true, false, ◌&&◌, cond, Option, Some, None, is_some}
 use Rattle.std.specs.FinMap.{get, get-insert, get-remove}
 use Rattle.std.specs.Option.{option_map_or}

@@ -1,4 +1,4 @@
--- A relationship that passes its checks leaves each chain of direct parents with an end.
+-- After a relationship that passes its checks, each chain of direct parents still ends.
 use Rattle.std.specs.Prelude.{◌≡◌, ◌≢◌, ℕ, List, [], ◌∷◌, Bool, true, false, ◌&&◌, cond, Option, Some, None}
 use Rattle.std.specs.List.{Contains}
 use Rattle.std.specs.Option.{option_to_list}
@@ -71,7 +71,7 @@ module _ (table : Table) (row : Row) (sound : IsSound table) (passes : (c37 (oth
       ≡ cond (is_active_of lei direct row) (Some (end_in row)) (left_of lei direct row (parent_of table lei))
   put_by lei = active_of-put table row lei direct sound.relations_keyed sound.actives (fitting table row passes)
 
-  -- the parents of other entities than the start stay
+  -- the parents of entities other than the start are unchanged
   elsewhere : (lei : List ℕ) → lei ≢ start_in row → parent_of (put table (Item.Relation row)) lei ≡ parent_of table lei
   elsewhere lei other =
       let not_active : is_active_of lei direct row ≡ false = false_from_ne_true _ (λ t. other (sym (opened lei direct row t).starts)) in
@@ -82,7 +82,7 @@ module _ (table : Table) (row : Row) (sound : IsSound table) (passes : (c37 (oth
       → IsTurned (parents_of table) (parents_of (put table (Item.Relation row))) (start_in row) targets
   turned targets here = record { here = here; elsewhere = λ lei other. ap option_to_list (elsewhere lei other) }
 
-  -- a direct parent turns its start to its end
+  -- a direct parent makes its start name its end
   with_parent : AllEnd (parents_of table) → is_direct_parent row ≡ true
       → walked (parent_of table) (start_in row) (end_in row) ≡ Walked.Ends → AllEnd (parents_of (put table (Item.Relation row)))
   with_parent all is ends =
@@ -95,7 +95,7 @@ module _ (table : Table) (row : Row) (sound : IsSound table) (passes : (c37 (oth
       ended_walk_keeps_ends (parent_of table) (parents_of (put table (Item.Relation row))) (start_in row) (end_in row) all
       (turned (end_in row ∷ []) (ap option_to_list here)) ends
 
-  -- where no parent was turned, all stay
+  -- if no parent was changed, all are unchanged
   unturned : AllEnd (parents_of table) → parent_of (put table (Item.Relation row)) (start_in row) ≡ parent_of table (start_in row)
       → AllEnd (parents_of (put table (Item.Relation row)))
   unturned all here =
@@ -107,7 +107,7 @@ module _ (table : Table) (row : Row) (sound : IsSound table) (passes : (c37 (oth
       ] refl in
       subst AllEnd (λ i lei. option_to_list (sym (same lei) i)) all
 
-  -- another relationship leaves its start with its parent or without one
+  -- another relationship leaves its start's parent unchanged, or leaves the start without one
   without_parent : AllEnd (parents_of table) → is_direct_parent row ≡ false → AllEnd (parents_of (put table (Item.Relation row)))
   without_parent all not_direct =
       let start = start_in row in

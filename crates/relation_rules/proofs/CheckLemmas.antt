@@ -1,4 +1,4 @@
--- Checks one after the other, and what they come to over the cells of a table.
+-- Checks one after another, and their result over the cells of a table.
 use Rattle.std.specs.Prelude.{◌≡◌, ℕ, List, [], ◌∷◌, ◌++◌, Bool, true, false, ◌&&◌, cond, Option, Some, None, is_some}
 use Rattle.std.specs.Option.{option_map_or, option_or}
 use Rattle.std.specs.Str.{bytes_eq}
@@ -25,13 +25,13 @@ use Rattle.lei_records.specs.Parents.{is_direct, parent_category, parent_of, par
 use Rattle.relation_rules.proofs.ActiveLemmas.{other_end-is}
 use Rattle.relation_rules.proofs.ParentLemmas.{walk_parents-over_table}
 
--- ---- checks one after the other
+-- ---- checks one after another
 
 either : (first second : Option FailedCheck) → unless_failed first (checked_of second) ≡ checked_of (option_or first second)
 either None second = refl
 either (Some check) second = refl
 
--- those before, and then those behind, are the first that fails of all
+-- the earlier checks followed by the later ones give the first that fails of all
 pub chained : (before behind : List Finding) → unless_failed (first_failing before) (checked_of (first_failing behind)) ≡ checked_of (first_failing (before ++ behind))
 chained before behind =
     either (first_failing before) (first_failing behind) ∙ ap checked_of (sym (first_failing-append before behind))
@@ -41,13 +41,13 @@ pub on_held : {X : Type 0} (cell : Option X) (key : CellKey) (next : Option X �
 on_held None key next = refl
 on_held (Some x) key next = refl
 
--- what a cell has but for its own, and what is seen of it but for that
+-- what a cell has except its own, and what is seen of it except its own
 pub seen_other : (own : List ℕ) (found : Option (List ℕ)) → seen (other_than own found) ≡ unless_own own (seen found)
 seen_other own None = refl
 seen_other own (Some lei) =
     elim (bytes_eq lei own) as (λ b. seen (cond b None (Some lei)) ≡ cond b Seen.Empty (Seen.Held lei)) [ true ↦ refl | false ↦ refl ]
 
--- ---- from C37 on
+-- ---- C37 and the checks after it
 
 abbrev walked_by : Bool → Bool → Walked
 walked_by met long = cond met Walked.Meets (cond long Walked.Long Walked.Ends)
@@ -60,7 +60,7 @@ last_lines active direct met long stands =
     fails_if ((active && direct) && met) 38 Detail.None ∷ fails_if ((active && direct) && long) 39 Detail.None
     ∷ stands_line active stands ∷ []
 
--- the checks by their order are those that are asked
+-- the checks by their order are those that apply
 by_order : (active direct : Bool) (other : Option (List ℕ)) (met long stands : Bool)
     → cond active
     (unless_failed (first_failing (fails_if (active && is_some other) 37 (code_detail other) ∷ []))
@@ -112,9 +112,9 @@ from_active table item actives =
     ∙ ((λ i. cond active (unless_failed (first_failing (c37 (other_end table item) item ∷ [])) (parents i)) Checked.Passes)
     ∙ by_order active (is_direct (kind_in item)) (other_end table item) met long (has_own_exception table item)))
 
--- ---- from C30 on
+-- ---- C30 and the checks after it
 
--- the cells of a table come to the first check that fails on it
+-- the result over the cells of a table is the first check that fails on it
 pub check_relation-cells : (table : Table) (issuer : List ℕ) (item : Row) → HasActives table
     → check_relation (cells_of table) issuer item ≡ checked_of (first_failing (relation_checks table issuer item))
 unfolding check_relation

@@ -1,4 +1,4 @@
--- A cell that is told missing is one that the item needs and the view lacks.
+-- A cell that is reported missing is one that the item needs and the view lacks.
 use Rattle.std.specs.Prelude.{◌≡◌, ℕ, List, [], ◌∷◌, Bool, true, false, cond, find, Option, Some, None, IsTrue}
 use Rattle.std.specs.List.{Contains}
 use Rattle.std.specs.Str.{bytes_eq}
@@ -26,9 +26,9 @@ use Rattle.relation_rules.specs.Checking.{check_active, check_category, check_en
 use Rattle.relation_rules.specs.Needs.{IsNeeded, exception_keys, exception_names, is_lacking, lacks, relation_names}
 use Rattle.lei_records.specs.Parents.{is_direct, parent_category, parent_type}
 
--- ---- what tells a missing cell
+-- ---- what reports a missing cell
 
--- a check that failed tells none
+-- a check that failed reports none
 unless_told : (failed : Option FailedCheck) (next : Checked) (key : CellKey) → unless_failed failed next ≡ Checked.Missing key → next ≡ Checked.Missing key
 unless_told None next key is = is
 unless_told (Some check) next key is = cc
@@ -37,7 +37,7 @@ never_told : (failed : Option FailedCheck) (key : CellKey) → checked_of failed
 never_told None key is = cc
 never_told (Some check) key is = cc
 
--- a cell that is looked at is told where it is missing, or what comes then tells one
+-- a cell that is read is reported if it is missing; otherwise what follows reports one
 seen_told : {X : Type 0} (seen : Seen X) (own : CellKey) (next : Option X → Checked) (key : CellKey) (G : Type 0) → on_seen seen own next ≡ Checked.Missing key
     → (is_lacking seen ≡ true → own ≡ key → G) → ((cell : Option X) → next cell ≡ Checked.Missing key → G) → G
 seen_told (Seen.Held x) own next key G is here there = there (Some x) is
@@ -59,7 +59,7 @@ lacked own false None true key is = cc
 lacked own false None false key is = cc
 lacked own false (Some lei) long key is = (lei, refl, cc)
 
--- the own one may be there or not, but no cell is missing for it
+-- the entity's own one may be there or not, but no cell is missing for it
 own_lacking : (own : List ℕ) (seen : Seen (List ℕ)) → is_lacking (unless_own own seen) ≡ is_lacking seen
 own_lacking own Seen.Empty = refl
 own_lacking own Seen.Missing = refl

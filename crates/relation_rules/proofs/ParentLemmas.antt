@@ -15,7 +15,7 @@ is_known : (next : Option (List ℕ)) → (held (seen next) ≡ next) × (is_mis
 is_known None = (refl, refl)
 is_known (Some lei) = (refl, refl)
 
--- the walk where each answer is known is that along what is known
+-- if each answer is known, the walk is the one along what is known
 walk_over-known : (next : Next) (key : List ℕ → CellKey) (start first : List ℕ) → walk_over (λ lei. seen (next lei)) key start first ≡ walked next start first
 walk_over-known next key start first =
     let answers : SeenNext = λ lei. seen (next lei) in

@@ -10,7 +10,7 @@ use Rattle.lei_records.proofs.OptionLemmas.{none_where, some_mapped}
 use Rattle.relation_rules.specs.Checks.{c37, is_in_the_way, other_end}
 use Rattle.relation_rules.proofs.ActiveLemmas.{HasActives-put, IsFitting, split, with_relation}
 
--- a relationship that passes C37 has no other one in its way
+-- a relationship that passes C37 conflicts with no other
 pub fitting : (table : Table) (row : Row) → (c37 (other_end table row) row).fails ≡ false → IsFitting table row
 fitting table row passes =
     let found = find (is_in_the_way row) (relations_of table) in

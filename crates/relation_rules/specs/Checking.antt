@@ -1,5 +1,5 @@
--- The checks over any view: what a view's cells make of a relationship and of an exception, or the first cell that its
--- checks ask for and the view lacks.
+-- The checks over any view: the result that a view's cells give for a relationship and for an exception, or the first
+-- cell that the checks need and the view lacks.
 use Rattle.std.specs.Prelude.{ℕ, [], ◌∷◌, Bool, if◌then◌else◌, Option, Some, None, is_some}
 use Rattle.lei_code.specs.Texts.{Lei}
 use Rattle.lei_shapes.specs.declared.lists.ExceptionCategory.{ExceptionCategory}
@@ -21,29 +21,29 @@ use Rattle.successor_rules.specs.Walks.{walk_over}
 use Rattle.relation_rules.specs.declared.checked.Checked.{Checked}
 use Rattle.relation_rules.specs.Checks.{c30, c31, c32, c33, c34, c35, c36, c37, c40, c50, c51, c52, c53}
 
--- ---- what becomes of checks
+-- ---- the results of checks
 
--- A check that failed, or none.
+-- A check that failed, or a pass.
 abbrev pub checked_of : Option FailedCheck → Checked
 checked_of None = Checked.Passes
 checked_of (Some check) = Checked.Fails check
 
--- A check that fails and tells nothing but its number.
+-- A check that fails and reports nothing but its number.
 abbrev pub failed : ℕ → Checked
 failed number = Checked.Fails (record { number = number; detail = Detail.None })
 
--- The check that failed, or what comes of those behind it.
+-- The check that failed, or the result of those after it.
 abbrev pub unless_failed : Option FailedCheck → Checked → Checked
 unless_failed None next = next
 unless_failed (Some check) next = Checked.Fails check
 
--- What comes of what a cell has, and the cell's key where the view lacks it.
+-- The result for what a cell has, or the cell's key if the view lacks it.
 abbrev pub on_seen : {X : Type 0} → Seen X → CellKey → (Option X → Checked) → Checked
 on_seen (Seen.Held x) key next = next (Some x)
 on_seen Seen.Empty key next = next None
 on_seen Seen.Missing key next = Checked.Missing key
 
--- The check of the first number fails where a walk comes back to its start, and that of the second where it is too
+-- The check with the first number fails if a walk comes back to its start, and the one with the second if it is too
 -- long.
 abbrev pub check_walked : ℕ → ℕ → Walked → Checked → Checked
 check_walked cycle long Walked.Meets next = failed cycle
@@ -53,7 +53,7 @@ check_walked cycle long (Walked.Missing key) next = Checked.Missing key
 
 -- ---- a relationship
 
--- C40 of a relationship by the category of its parents: whether the exception stands. One that is no parent asks for
+-- C40 of a relationship by the category of its parents: whether there is an exception. One that isn't a parent needs
 -- none.
 abbrev pub check_category : Cells → Row → Option ExceptionCategory → Checked
 check_category cells item None = Checked.Passes
@@ -80,8 +80,8 @@ abbrev pub check_other_end : Cells → Row → Option Lei → Checked
 check_other_end cells item other = unless_failed (first_failing (c37 other item ∷ []))
     (check_parents cells item)
 
--- The same, where the end isn't known yet: a relationship that isn't active asks for no further cell, and its own end
--- isn't another one.
+-- The same if the end isn't known yet: a relationship that isn't active needs no further cell, and its own end doesn't
+-- count as another one.
 abbrev pub check_active : Cells → Row → Checked
 check_active cells item =
     if is_active item
@@ -112,7 +112,7 @@ check_start cells issuer item start =
     (on_seen (cells.record_cell (end_in item)) (CellKey.Rec (end_in item))
     (check_end cells issuer item start))
 
--- What the checks C30 to C40 of a relationship that an issuer uploads come to over a view.
+-- The result of the checks C30 to C40 over a view, for a relationship that an issuer uploads.
 unfoldable pub check_relation : Cells → Lei → Row → Checked
 check_relation cells issuer item =
     unless_failed (first_failing (c30 item ∷ c31 item ∷ []))
@@ -121,7 +121,7 @@ check_relation cells issuer item =
 
 -- ---- an exception
 
--- C52 of a put, by the type of the parents that it speaks of.
+-- C52 of a put, by the type of the parents that it is about.
 abbrev pub check_put : Cells → Row × Bool → RelationType → Checked
 check_put cells item kind =
     on_seen (cells.active (subject_in item.0) kind) (CellKey.Act (subject_in item.0) kind)
@@ -133,7 +133,7 @@ check_withdrawal cells item category =
     on_seen (cells.exception (subject_in item.0) category) (CellKey.Exc (subject_in item.0) category)
     (λ stands. checked_of (first_failing (c53 (is_some stands) item ∷ [])))
 
--- The one or the other, by the action.
+-- C52 or C53, by the action.
 abbrev pub check_action : Cells → Row × Bool → Checked
 check_action cells item =
     if item.1 then check_withdrawal cells item (exception_category_in item.0)
@@ -144,7 +144,7 @@ abbrev pub check_subject : Cells → Lei → Row × Bool → Option RecCell → 
 check_subject cells issuer item held =
     unless_failed (first_failing (c50 held ∷ c51 held issuer ∷ [])) (check_action cells item)
 
--- What the checks C50 to C53 of an exception that an issuer uploads come to over a view.
+-- The result of the checks C50 to C53 over a view, for an exception that an issuer uploads.
 unfoldable pub check_exception : Cells → Lei → Row × Bool → Checked
 check_exception cells issuer item =
     on_seen (cells.record_cell (subject_in item.0)) (CellKey.Rec (subject_in item.0))

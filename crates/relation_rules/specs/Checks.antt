@@ -1,5 +1,4 @@
--- The checks of a relationship, C30 to C40, and of an exception, C50 to C53, that is brought to a table. This project's
--- profile.
+-- The checks of a relationship, C30 to C40, and of an exception, C50 to C53, on a table. This project's profile.
 use Rattle.std.specs.Prelude.{List, [], ◌∷◌, Bool, true, false, not, ◌&&◌, ◌||◌, int_lt, find, Option, is_some, is_none, option_map}
 use Rattle.std.specs.Option.{option_map_or}
 use Rattle.std.specs.Str.{bytes_eq}
@@ -20,11 +19,11 @@ use Rattle.relation_rules.specs.Statuses.{is_over, may_follow}
 
 -- ---- a relationship alone
 
--- C30 fails where start and end are the same LEI.
+-- C30 fails if start and end are the same LEI.
 abbrev pub c30 : Row → Finding
 c30 item = fails_if (bytes_eq (start_in item) (end_in item)) 30 Detail.None
 
--- C31 fails where EndDate is before StartDate, or LastUpdateDate before InitialRegistrationDate.
+-- C31 fails if EndDate is before StartDate, or LastUpdateDate before InitialRegistrationDate.
 abbrev pub c31 : Row → Finding
 c31 item =
     fails_if (option_map_or (λ ended. int_lt ended (started_in item)) (ended_in item) false
@@ -32,19 +31,19 @@ c31 item =
 
 -- ---- the records of its start and its end, if there are any
 
--- C32 fails where no record of the start is held.
+-- C32 fails if no record of the start is held.
 abbrev pub c32 : Option RecCell → Finding
 c32 start = fails_if (is_none start) 32 Detail.None
 
--- C33 fails where no record of the end is held.
+-- C33 fails if no record of the end is held.
 abbrev pub c33 : Option RecCell → Finding
 c33 end = fails_if (is_none end) 33 Detail.None
 
--- A record is managed by another issuer than this one.
+-- A record is managed by an issuer other than this one.
 abbrev pub is_managed_elsewhere : Lei → RecCell → Bool
 is_managed_elsewhere issuer cell = not (bytes_eq cell.manager issuer)
 
--- C34 fails where the item's ManagingLOU or that of its start's record isn't the issuer that uploads it.
+-- C34 fails if the item's ManagingLOU or that of its start's record isn't the issuer that uploads it.
 abbrev pub c34 : Option RecCell → Lei → Row → Finding
 c34 start issuer item =
     fails_if
@@ -62,8 +61,8 @@ abbrev pub is_fund : Category → Bool
 is_fund Category.Fund = true
 is_fund other = false
 
--- A relationship of the type may start at an entity of the category: a branch's at a BRANCH alone, a fund's at a FUND
--- alone, and a parent's at each.
+-- A relationship of the type may start at an entity of the category: a branch's only at a BRANCH, a fund's only at a
+-- FUND, and a parent's at any.
 abbrev pub may_start : RelationType → Category → Bool
 may_start RelationType.IsDirectlyConsolidatedBy category = true
 may_start RelationType.IsUltimatelyConsolidatedBy category = true
@@ -72,14 +71,14 @@ may_start RelationType.IsFundManagedBy category = is_fund category
 may_start RelationType.IsSubfundOf category = is_fund category
 may_start RelationType.IsFeederTo category = is_fund category
 
--- C35 fails where the start is no BRANCH and the type is a branch's, or no FUND and the type is a fund's.
+-- C35 fails if the type is a branch's and the start isn't a BRANCH, or the type is a fund's and the start isn't a FUND.
 abbrev pub c35 : Option RecCell → Row → Finding
 c35 start item =
     fails_if (option_map_or (λ cell. not (may_start (kind_in item) cell.category)) start false) 35 Detail.None
 
 -- ---- the other relationships
 
--- C36 fails where the item's registration status may not follow the held one, or ACTIVE stands beside RETIRED or
+-- C36 fails if the item's registration status may not follow the held one, or the item is ACTIVE and RETIRED or
 -- ANNULLED.
 abbrev pub c36 : Option RelCell → Row → Finding
 c36 held item =
@@ -90,16 +89,16 @@ c36 held item =
 abbrev pub is_from : Lei → RelationType → Row → Bool
 is_from start kind row = bytes_eq (start_in row) start && is_same_type (kind_in row) kind
 
--- The other relationship is active, and has the item's start and type and another end.
+-- The other relationship is active, and has the item's start and type but another end.
 abbrev pub is_in_the_way : Row → Row → Bool
 is_in_the_way item other =
     is_active_of (start_in item) (kind_in item) other && not (bytes_eq (end_in other) (end_in item))
 
--- The end of a relationship that is in the item's way, and of the first of them in the order of keys.
+-- The end of a relationship that conflicts with the item: of the first one in the order of keys.
 abbrev pub other_end : Table → Row → Option Lei
 other_end table item = option_map end_in (find (is_in_the_way item) (relations_of table))
 
--- C37 fails where the item is ACTIVE, and an ACTIVE relationship of its start and type has another end, which is told.
+-- C37 fails if the item is ACTIVE, and an ACTIVE relationship of its start and type has another end, which is reported.
 abbrev pub c37 : Option Lei → Row → Finding
 c37 other item = fails_if (is_active item && is_some other) 37 (code_detail other)
 
@@ -109,22 +108,22 @@ c37 other item = fails_if (is_active item && is_some other) 37 (code_detail othe
 abbrev pub is_direct_parent : Row → Bool
 is_direct_parent item = is_active item && is_direct (kind_in item)
 
--- C38 fails where the item is an ACTIVE direct parent, and one of the first 200 members behind its start is the start.
+-- C38 fails if the item is an ACTIVE direct parent, and one of the first 200 members after its start is the start.
 abbrev pub c38 : Next → Row → Finding
 c38 next item = fails_if (is_direct_parent item && is_met next (start_in item) (end_in item)) 38 Detail.None
 
--- C39 fails where the item is an ACTIVE direct parent, and there is a 201st member behind its start.
+-- C39 fails if the item is an ACTIVE direct parent, and there is a 201st member after its start.
 abbrev pub c39 : Next → Row → Finding
 c39 next item = fails_if (is_direct_parent item && is_long next (end_in item)) 39 Detail.None
 
 -- ---- the exceptions
 
--- The exception of the parents of the item's type stands for its start.
+-- The item's start has the exception of the parents of the item's type.
 abbrev pub has_own_exception : Table → Row → Bool
 has_own_exception table item = option_map_or (has_exception table (start_in item))
     (parent_category (kind_in item)) false
 
--- C40 fails where the item is an ACTIVE parent, and the exception of its category stands for the start.
+-- C40 fails if the item is an ACTIVE parent, and the start has the exception of its category.
 abbrev pub c40 : Bool → Row → Finding
 c40 stands item = fails_if (is_active item && stands) 40 Detail.None
 
@@ -140,19 +139,19 @@ relation_checks table issuer item =
 
 -- ---- an exception, as its row and whether it is a withdrawal
 
--- C50 fails where no record of the exception's LEI is held.
+-- C50 fails if no record of the exception's LEI is held.
 abbrev pub c50 : Option RecCell → Finding
 c50 held = fails_if (is_none held) 50 Detail.None
 
--- C51 fails where the ManagingLOU of that record isn't the issuer that uploads the exception.
+-- C51 fails if the ManagingLOU of that record isn't the issuer that uploads the exception.
 abbrev pub c51 : Option RecCell → Lei → Finding
 c51 held issuer = fails_if (option_map_or (is_managed_elsewhere issuer) held false) 51 Detail.None
 
--- C52 fails where the action is PUT, and the entity has an ACTIVE parent of the category, which is told.
+-- C52 fails if the action is PUT, and the entity has an ACTIVE parent of the category, which is reported.
 abbrev pub c52 : Option Lei → Row × Bool → Finding
 c52 parent item = fails_if (not item.1 && is_some parent) 52 (code_detail parent)
 
--- C53 fails where the action is WITHDRAW, and no such exception is held.
+-- C53 fails if the action is WITHDRAW, and no such exception is held.
 abbrev pub c53 : Bool → Row × Bool → Finding
 c53 stands item = fails_if (item.1 && not stands) 53 Detail.None
 

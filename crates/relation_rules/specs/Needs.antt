@@ -21,7 +21,7 @@ is_lacking (Seen.Held x) = false
 is_lacking Seen.Empty = false
 is_lacking Seen.Missing = true
 
--- The view lacks the cell of this key.
+-- The view lacks the cell with this key.
 abbrev pub lacks : Cells → CellKey → Bool
 lacks cells (CellKey.Rec lei) = is_lacking (cells.record_cell lei)
 lacks cells (CellKey.Rel start kind end) = is_lacking (cells.relation start kind end)
@@ -29,13 +29,13 @@ lacks cells (CellKey.Exc lei category) = is_lacking (cells.exception lei categor
 lacks cells (CellKey.Key authority id) = is_lacking (cells.holder authority id)
 lacks cells (CellKey.Act start kind) = is_lacking (cells.active start kind)
 
--- The exception in the place of an entity's parents, where there is a category of it.
+-- The exception that replaces an entity's parents, if there is a category for it.
 abbrev pub exception_keys : Lei → Option ExceptionCategory → List CellKey
 exception_keys lei None = []
 exception_keys lei (Some category) = CellKey.Exc lei category ∷ []
 
 -- The cells that a relationship names: the records of its start and its end, the relationship itself, the active one of
--- its start and type, and the exception in the place of such a parent.
+-- its start and type, and the exception that replaces such a parent.
 abbrev pub relation_names : Row → List CellKey
 relation_names item =
     (CellKey.Rec (start_in item) ∷ CellKey.Rec (end_in item)
@@ -44,7 +44,7 @@ relation_names item =
     ++ exception_keys (start_in item) (parent_category (kind_in item))
 
 -- The relationship is an active direct parent, and the cell is that of the direct parent of one of the first 200
--- members of its walk, as far as the view knows it.
+-- members of its walk, to the view's knowledge.
 pub record IsOfWalk (cells : Cells) (item : Row) (key : CellKey) : Type 0 where
   pub direct : IsTrue (is_direct_parent item)
   pub member : Lei
@@ -53,12 +53,12 @@ pub record IsOfWalk (cells : Cells) (item : Row) (key : CellKey) : Type 0 where
       (end_in item)) member
   pub is : key ≡ CellKey.Act member RelationType.IsDirectlyConsolidatedBy
 
--- A relationship needs a cell: it names it, or the cell is of its walk.
+-- A relationship needs a cell: it names the cell, or the cell belongs to its walk.
 abbrev pub IsNeeded : Cells → Row → CellKey → Type 0
 IsNeeded cells item key = Contains (relation_names item) key ⊎ IsOfWalk cells item key
 
--- The cells that an exception names, and it needs no other: the record of its LEI, the exception itself, and the active
--- parent of its category.
+-- The cells that an exception names, and it needs no others: the record of its LEI, the exception itself, and the
+-- active parent of its category.
 abbrev pub exception_names : Row → List CellKey
 exception_names row =
     CellKey.Rec (subject_in row) ∷ CellKey.Exc (subject_in row) (exception_category_in row)

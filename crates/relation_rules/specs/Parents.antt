@@ -1,4 +1,4 @@
--- What holds of the parents that a register has.
+-- What holds for the parents that a register has.
 use Rattle.std.specs.Prelude.{◌≡◌, None, IsTrue}
 use Rattle.lei_code.specs.Texts.{Lei}
 use Rattle.lei_shapes.specs.declared.lists.ExceptionCategory.{ExceptionCategory}
@@ -10,7 +10,7 @@ use Rattle.successor_rules.specs.Chains.{AllEnd}
 pub record ParentChainsEnd (table : Table) : Type 0 where
   pub ends : AllEnd (parents_of table)
 
--- Where an exception stands, the entity has no active parent of its category.
+-- If an entity has an exception, it has no active parent of that category.
 abbrev pub AreApart : Table → Type 0
 AreApart table = (lei : Lei) (category : ExceptionCategory)
     → IsTrue (has_exception table lei category) → active_of table lei (parent_type category) ≡ None

@@ -7,7 +7,7 @@ use Rattle.lei_shapes.specs.declared.lists.RelationRegistration.{RelationRegistr
 abbrev pub Columns : Type 0
 Columns = Bool × Bool × Bool × Bool × Bool
 
--- The table has a row for each status that is held, and a first row for where no relationship is held.
+-- The table has a row for each status that is held, and a first row for the case that no relationship is held.
 abbrev pub columns : Option RelationRegistration → Columns
 columns None = (true, true, false, false, false)
 columns (Some RelationRegistration.Issued) = (true, true, true, true, true)
@@ -24,11 +24,11 @@ in_column RelationRegistration.Lapsed row = row.2
 in_column RelationRegistration.Retired row = row.3
 in_column RelationRegistration.Annulled row = row.4
 
--- The item's status may follow the held one, or may come first where none is held.
+-- The item's status may follow the held one, or may come first if none is held.
 abbrev pub may_follow : Option RelationRegistration → RelationRegistration → Bool
 may_follow held new = in_column new (columns held)
 
--- The relationship's registration came to its end: an active relationship doesn't stand beside RETIRED or ANNULLED.
+-- The relationship's registration has ended: a relationship with RETIRED or ANNULLED may not be active.
 abbrev pub is_over : RelationRegistration → Bool
 is_over RelationRegistration.Issued = false
 is_over RelationRegistration.Published = false

@@ -1,4 +1,4 @@
-//! What becomes of an item's checks.
+//! The result of an item's checks.
 ghost use Rattle.std.specs.Prelude.{◌≡◌};
 ghost use Rattle.lei_records.specs.declared.check.Detail.{Detail};
 ghost use Rattle.lei_records.specs.Checks.{IsNumber};
@@ -7,18 +7,18 @@ ghost use Rattle.relation_rules.specs.Checking;
 use lei_code::Lei;
 use lei_records::{CellKey, Check, Detail};
 
-/// What becomes of an item's checks over a view.
+/// The result of an item's checks over a view.
 #[derive(Debug, PartialEq, Eq, Drop)]
 pub enum Checked {
     /// None of them fails.
     Passes,
-    /// The first that fails.
+    /// The first one that fails.
     Fails(Check),
-    /// None fails before one that asks for this cell, which the view lacks.
+    /// No check fails before one that needs this cell, which the view lacks.
     Missing(CellKey),
 }
 
-/// A check that tells nothing but its number.
+/// A check that reports nothing but its number.
 pub fn plain(number: u8) -> Check
     requires { IsNumber number }
     ensures { result ≡ record { number = number; detail = Detail.None } }
@@ -29,7 +29,7 @@ pub fn plain(number: u8) -> Check
     }
 }
 
-/// A check that tells the LEI that stands in the way.
+/// A check that reports the LEI that it conflicts with.
 pub fn telling(number: u8, lei: Lei) -> Check
     requires { IsNumber number }
     ensures { result ≡ record { number = number; detail = Detail.Code lei } }
@@ -40,7 +40,7 @@ pub fn telling(number: u8, lei: Lei) -> Check
     }
 }
 
-/// A check that fails and tells nothing but its number.
+/// A check that fails and reports nothing but its number.
 pub fn failed(number: u8) -> Checked
     requires { IsNumber number }
     ensures { result ≡ Checking.failed number }

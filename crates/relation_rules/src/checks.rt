@@ -69,7 +69,7 @@ fn may_start(kind: RelationType, category: Category) -> bool
     }
 }
 
-// C36: the relationship that is held under the item's key.
+// C36: the relationship held under the item's key.
 pub fn held_check(held: Option<RelCell>, item: &Relation) -> Option<Check>
     ensures { result ≡ first_failing (Checks.c36 held item.now ∷ []) }
 {

@@ -18,19 +18,19 @@ use lei_records::numbers::{LEI_UNKNOWN, NOTHING_TO_WITHDRAW, PARENT_STANDS};
 use lei_records::{CellKey, ExceptionItem, RecCell, Seen, View};
 use lei_shapes::{ExceptionCategory, RelationType};
 
-/// The checks C50 to C53 of an exception, or of its withdrawal, that an issuer uploads, beside what the view answers:
-/// the first that fails. `Missing` where none fails before one that asks for a cell that the view lacks, with the key
-/// of the first such cell: the record of its LEI, and then the active parent of its category with a put, and the
-/// exception itself with a withdrawal.
+/// The checks C50 to C53 of an exception, or of its withdrawal, that an issuer uploads, by what the view answers: the
+/// first that fails. `Missing` if none fails before one that needs a cell that the view lacks, with the key of the
+/// first such cell. The cells are the record of the exception's LEI, and then the active parent of its category for a
+/// put, or the exception itself for a withdrawal.
 pub fn exception_check<V: View>(view: &V, issuer: &Lei, item: &ExceptionItem) -> Checked
     ensures answers { result ≡ Checking.check_exception (V.cells view.now) issuer.now item.now }
 
-    // A cell that is told missing is one that the view lacks and the item names.
+    // A cell that is reported missing is one that the view lacks and the item names.
     ensures lacking { (key : CellKey) → result ≡ Checked.Missing key → IsTrue (lacks (V.cells view.now) key) }
     ensures named { (key : CellKey) → result ≡ Checked.Missing key
         → Contains (exception_names item.now.0) key }
 
-    // Over the cells of a sound table: the first that fails of all checks, each asked over all rows.
+    // Over the cells of a sound table: the first that fails of all checks, each applied to all rows.
     ensures over_tables { (table : Table) → IsSound table → V.cells view.now ≡ cells_of table
         → result ≡ Checking.checked_of (first_failing (exception_checks table issuer.now item.now)) }
 {
@@ -48,7 +48,7 @@ fn check_exception<V: View>(view: &V, issuer: &Lei, item: &ExceptionItem) -> Che
     }
 }
 
-// From C51 on, with the record of the exception's LEI.
+// C51 and the checks after it, with the record of the exception's LEI.
 fn check_subject<V: View>(view: &V, issuer: &Lei, item: &ExceptionItem, held: &RecCell) -> Checked
     ensures { result ≡ Checking.check_subject (V.cells view.now) issuer.now item.now (Some held.now) }
 {
@@ -62,7 +62,7 @@ fn check_subject<V: View>(view: &V, issuer: &Lei, item: &ExceptionItem, held: &R
     }
 }
 
-// C52 of a put: no parent may stand beside it.
+// C52 of a put: the entity may have no such parent.
 fn check_put<V: View>(view: &V, item: &ExceptionItem, kind: RelationType) -> Checked
     ensures { item.now.1 ≡ false → result ≡ Checking.check_put (V.cells view.now) item.now kind }
 {

@@ -9,7 +9,7 @@ ghost use Rattle.lei_records.specs.Tables.{IsSound, Table, put};
 ghost use Rattle.relation_rules.specs.Checks.{c37, exception_checks, other_end, relation_checks};
 ghost use Rattle.relation_rules.specs.Parents.{AreApart, ParentChainsEnd};
 
-/// A relationship beside which no active one of its start and type has another end, or that isn't active, can be put
+/// If no active relationship of its start and type has another end, or the relationship isn't active, it can be put
 /// into a sound table, which stays sound.
 pub fn fitting_relations_keep_tables_sound()
     ensures { (table : Table) (row : Row) → IsSound table → IsRelationRow row
@@ -22,14 +22,14 @@ pub fn exceptions_keep_tables_sound()
         → IsSound (put table (Item.Exception (row, withdraws))) }
 {}
 
-/// A relationship that passes its checks on a sound table leaves each chain of direct parents with an end.
+/// After a relationship that passes its checks on a sound table, each chain of direct parents still ends.
 pub fn accepted_relations_keep_parents()
     ensures { (table : Table) (issuer : Lei) (row : Row) → IsSound table → ParentChainsEnd table
         → first_failing (relation_checks table issuer row) ≡ None
         → ParentChainsEnd (put table (Item.Relation row)) }
 {}
 
-/// A record and an exception leave the chains of direct parents as they are, and a record the exceptions too.
+/// A record or an exception leaves the chains of direct parents as they are, and a record leaves the exceptions too.
 pub fn records_and_exceptions_keep_parents()
     ensures records { (table : Table) (row : Row) → ParentChainsEnd table
         → ParentChainsEnd (put table (Item.Record row)) }
@@ -38,7 +38,8 @@ pub fn records_and_exceptions_keep_parents()
         → ParentChainsEnd table → ParentChainsEnd (put table (Item.Exception item)) }
 {}
 
-/// Items that pass their checks on a sound table leave no active parent beside the exception of its category.
+/// After items that pass their checks on a sound table, no entity has both an active parent and the exception of its
+/// category.
 pub fn accepted_items_keep_apart()
     ensures relations { (table : Table) (issuer : Lei) (row : Row) → IsSound table → AreApart table
         → first_failing (relation_checks table issuer row) ≡ None → AreApart (put table (Item.Relation row)) }

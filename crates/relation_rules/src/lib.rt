@@ -1,5 +1,5 @@
-//! The rules of relationships and of reporting exceptions: the checks that are asked of them beside what is held, and
-//! that no chain of direct parents comes back. No call takes memory. This project's profile.
+//! The rules of relationships and of reporting exceptions: their checks against what is held, and that no chain of
+//! direct parents comes back. No call takes memory. This project's profile.
 #![tactic(auto)]
 
 mod checked;

@@ -1,4 +1,4 @@
-//! Parents: the walk from one direct parent to the next, and the exceptions that stand in their place.
+//! Parents: the walk from one direct parent to the next, and the exceptions that replace parents.
 ghost use Rattle.std.specs.Prelude.{◌≡◌};
 ghost use Rattle.lei_records.specs.declared.view.CellKey.{CellKey};
 ghost use Rattle.lei_shapes.specs.declared.lists.RelationType.{RelationType};
@@ -10,7 +10,7 @@ use lei_records::{CellKey, Seen, View};
 use lei_shapes::{ExceptionCategory, RelationType};
 use successor_rules::{Chain, Walked, follow};
 
-/// The category of the exceptions that speak of the parents of a type, and none if the type is no parent's.
+/// The category of the exceptions about the parents of a type, and `None` if the type isn't a parent's.
 pub fn parent_category(kind: RelationType) -> Option<ExceptionCategory>
     ensures { result ≡ Kinds.parent_category kind }
 {
@@ -25,7 +25,7 @@ pub fn parent_category(kind: RelationType) -> Option<ExceptionCategory>
     }
 }
 
-/// The type of the parents that exceptions of a category speak of.
+/// The type of the parents that exceptions of a category are about.
 pub fn parent_type(category: ExceptionCategory) -> RelationType
     ensures { result ≡ Kinds.parent_type category }
 {
@@ -39,14 +39,14 @@ pub fn parent_type(category: ExceptionCategory) -> RelationType
     }
 }
 
-/// Whether relationships of the type are those to direct parents.
+/// Whether relationships of the type lead to direct parents.
 pub fn is_direct(kind: RelationType) -> bool
     ensures { result ≡ Kinds.is_direct kind }
 {
     matches!(kind, RelationType::IsDirectlyConsolidatedBy)
 }
 
-/// The chain of direct parents over a view, by whose active relationships an entity has at most one.
+/// The chain of direct parents over a view. By its active relationships an entity has at most one direct parent.
 #[derive(Drop)]
 pub struct ParentChain<'a, V> {
     pub view: &'a V,
@@ -68,8 +68,8 @@ impl<'a, V: View> Chain for ParentChain<'a, V> {
     }
 }
 
-// The walk of an entity whose LEI is `start`: it begins at its parent `first`, and goes on to the direct parent of
-// each.
+// The walk of an entity whose LEI is `start`: it starts at its parent `first`, and goes from each to that one's direct
+// parent.
 pub fn walk<V: View>(view: &V, start: &Lei, first: &Lei) -> Walked
     ensures { result ≡ Checking.walk_parents (V.cells view.now) start.now first.now }
 {

@@ -24,20 +24,20 @@ use lei_records::{CellKey, RecCell, RelCell, Relation, Seen, View};
 use lei_shapes::ExceptionCategory;
 use successor_rules::Walked;
 
-/// The checks C30 to C40 of a relationship that an issuer uploads, beside what the view answers: the first that fails.
-/// `Missing` where none fails before one that asks for a cell that the view lacks, with the key of the first such cell.
-/// The cells are asked for in the order of the checks: the records of start and end, the relationship held under the
-/// item's key, and, of an active item, the active one of its start and type, the direct parents of a direct parent, and
-/// the exception in a parent's place.
+/// The checks C30 to C40 of a relationship that an issuer uploads, by what the view answers: the first that fails.
+/// `Missing` if none fails before one that needs a cell that the view lacks, with the key of the first such cell. The
+/// cells are read in the order of the checks: the records of start and end, and the relationship held under the item's
+/// key. For an active item they are followed by the active relationship of its start and type, the direct parents of a
+/// direct parent, and the exception that replaces a parent.
 pub fn relation_check<V: View>(view: &V, issuer: &Lei, item: &Relation) -> Checked
     ensures answers { result ≡ Checking.check_relation (V.cells view.now) issuer.now item.now }
 
-    // A cell that is told missing is one that the view lacks and the item needs.
+    // A cell that is reported missing is one that the view lacks and the item needs.
     ensures lacking { (key : CellKey) → result ≡ Checked.Missing key → IsTrue (lacks (V.cells view.now) key) }
     ensures needed { (key : CellKey) → result ≡ Checked.Missing key
         → IsNeeded (V.cells view.now) item.now key }
 
-    // Over the cells of a sound table: the first that fails of all checks, each asked over all rows.
+    // Over the cells of a sound table: the first that fails of all checks, each applied to all rows.
     ensures over_tables { (table : Table) → IsSound table → V.cells view.now ≡ cells_of table
         → result ≡ Checking.checked_of (first_failing (relation_checks table issuer.now item.now)) }
 {
@@ -58,7 +58,7 @@ fn check_relation<V: View>(view: &V, issuer: &Lei, item: &Relation) -> Checked
     }
 }
 
-// From C33 on, with the start's record.
+// C33 and the checks after it, with the start's record.
 fn check_start<V: View>(view: &V, issuer: &Lei, item: &Relation, start: &RecCell) -> Checked
     ensures { result ≡ Checking.check_start (V.cells view.now) issuer.now item.now (Some start.now) }
 {
@@ -69,7 +69,7 @@ fn check_start<V: View>(view: &V, issuer: &Lei, item: &Relation, start: &RecCell
     }
 }
 
-// From C34 on: the end has a record too.
+// C34 and the checks after it: the end has a record too.
 fn check_managed<V: View>(view: &V, issuer: &Lei, item: &Relation, start: &RecCell) -> Checked
     ensures { result ≡ Checking.check_managed (V.cells view.now) issuer.now item.now (Some start.now) }
 {
@@ -83,7 +83,7 @@ fn check_managed<V: View>(view: &V, issuer: &Lei, item: &Relation, start: &RecCe
     }
 }
 
-// From C36 on, with the relationship that is held under the item's key.
+// C36 and the checks after it, with the relationship that is held under the item's key.
 fn check_held<V: View>(view: &V, item: &Relation, held: Option<RelCell>) -> Checked
     ensures { result ≡ Checking.check_held (V.cells view.now) item.now held }
 {
@@ -93,7 +93,7 @@ fn check_held<V: View>(view: &V, item: &Relation, held: Option<RelCell>) -> Chec
     check_active(view, item)
 }
 
-// From C37 on: a relationship that isn't active asks for no further cell.
+// C37 and the checks after it: a relationship that isn't active needs no further cell.
 fn check_active<V: View>(view: &V, item: &Relation) -> Checked
     ensures { result ≡ Checking.check_active (V.cells view.now) item.now }
 {
@@ -107,7 +107,7 @@ fn check_active<V: View>(view: &V, item: &Relation) -> Checked
     }
 }
 
-// C37 of an active item, with the end of the active relationship of its start and type, and the checks behind it.
+// C37 of an active item, with the end of the active relationship of its start and type, and the checks after it.
 fn check_end<V: View>(view: &V, item: &Relation, end: Lei) -> Checked
     ensures { Relations.is_active item.now ≡ true
         → (key : CellKey) → result
@@ -120,7 +120,7 @@ fn check_end<V: View>(view: &V, item: &Relation, end: Lei) -> Checked
     check_parents(view, item)
 }
 
-// From C38 on, of an active item: only a direct parent is followed.
+// C38 and the checks after it, of an active item: only a direct parent is followed.
 fn check_parents<V: View>(view: &V, item: &Relation) -> Checked
     ensures { Relations.is_active item.now ≡ true
         → result ≡ Checking.check_parents (V.cells view.now) item.now }
@@ -136,7 +136,7 @@ fn check_parents<V: View>(view: &V, item: &Relation) -> Checked
     }
 }
 
-// C40 of an active item: a relationship that is no parent asks for no exception.
+// C40 of an active item: a relationship that isn't a parent needs no exception.
 fn check_exception<V: View>(view: &V, item: &Relation) -> Checked
     ensures { Relations.is_active item.now ≡ true
         → result ≡ Checking.check_category (V.cells view.now) item.now

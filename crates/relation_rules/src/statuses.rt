@@ -4,7 +4,7 @@ ghost use Rattle.relation_rules.specs.Statuses;
 
 use lei_shapes::RelationRegistration;
 
-// Whether a status may follow the held one, or may come first where none is held.
+// Whether a status may follow the held one, or may come first if none is held.
 pub fn may_follow(held: Option<RelationRegistration>, new: RelationRegistration) -> bool
     ensures { result ≡ Statuses.may_follow held new }
 {
@@ -25,7 +25,7 @@ fn is_in_force(status: RelationRegistration) -> bool
     )
 }
 
-// Whether the registration came to its end.
+// Whether the registration has ended.
 pub fn is_over(status: RelationRegistration) -> bool
     ensures { result ≡ Statuses.is_over status }
 {

@@ -1,4 +1,4 @@
--- What is answered to FIND.
+-- The answer to FIND.
 use Rattle.std.proofs.Common.{◌≡◌, ◌≤◌, ℕ, List, [], length, map, Bool, true, false, cond, eqb, ltb, sym, ap, ◌∙◌, arith}
 use Rattle.std.proofs.lemmas.Bool.Decides.{nat_tests}
 use Rattle.serde_json.specs.Written.{compact_text}

@@ -1,4 +1,4 @@
--- Who answers a search, and lines as its queries.
+-- The answerer of a search, and lines as its queries.
 use Rattle.std.proofs.Common.{◌≡◌, ℕ, ℤ, List, inl, inr, Option, refl, ◌∙◌, subst}
 use Rattle.register_words.specs.declared.sheets.Form.{Form}
 use Rattle.request_loop.specs.Frames.{Fits}
@@ -61,7 +61,7 @@ answers_unread form (QueryAsked.Query query) state new moments reply takes answe
 answers_unread form (QueryAsked.Packet head packet) state new moments reply takes answered =
     (answered.0, inr (inr (record { reply_is = answered.1; stays = answered.2 })))
 
--- ---- it does as the search does
+-- ---- it acts like the search
 
 -- it has the state, and the form
 abbrev IsLike : Form → SearchState → Searching → Type 0
@@ -90,7 +90,7 @@ served form most start now left left_now ended state is held serves =
 nothing_ends : NoEnd → ⊥
 nothing_ends end = elim end [ ]
 
--- a search answers what was read where memory was wanting as what was meant
+-- if memory ran out for reading, a search answers what was read as it answers what was meant
 answers_alike : (form : Form) → AnswersAlike (SearchStep form)
 answers_alike form meant read old new moments reply reads answered =
     let S : SearchAsked → Type 0 = λ asked. SearchStep form old asked moments reply new in

@@ -1,4 +1,4 @@
--- The values of names, one after the other.
+-- The values of names, one after another.
 use Rattle.std.proofs.Common.{◌≡◌, List, [], ◌∷◌, ◌++◌, false, refl, ap, ◌∙◌}
 use Rattle.serde_json.specs.Data.{item, no_items}
 use Rattle.serde_json.specs.Written.{items_have_float}

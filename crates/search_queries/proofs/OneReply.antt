@@ -18,7 +18,7 @@ use Rattle.query_reading.specs.declared.reply.QueryReply.TheVariants as replies
 use Rattle.search_queries.specs.Searches.{IsShort, LacksMemory, RefusesDelta, SearchAsked, SearchState, SearchStep, TakesDelta, table_of, take_refusal}
 use Rattle.search_queries.proofs.ReadFiles.{no_delta, some_delta}
 
--- the same, but that memory ran out for the one or the other
+-- the same, except that memory ran out for one or the other
 abbrev pub OneOf : SearchState → QueryReply → SearchState → QueryReply → SearchState → Type 0
 OneOf state reply new other next =
     LacksMemory state reply new ⊎ LacksMemory state other next ⊎ ((reply ≡ other) × (new ≡ next))
@@ -62,7 +62,7 @@ goes_wrong : (table : NameTable) (delta : DeltaRead) (p q : ℕ) → IsRefusal t
 goes_wrong table delta p q wrong from =
     wrong.2 (same_some p q table.publication wrong.0 (from ∙ wrong.1))
 
--- memory ran out for the one or the other, or they are the same
+-- memory ran out for one or the other, or they are the same
 abbrev SameFault : TakeFault → TakeFault → Type 0
 SameFault fault other = (fault ≡ faults.NoMemory) ⊎ (other ≡ faults.NoMemory) ⊎ (fault ≡ other)
 
@@ -99,7 +99,7 @@ refused_once state new next delta reply other one also (inr (inr same)) =
       one.stays ∙ sym also.stays,
     ))
 
--- one that is taken is refused for want of memory alone
+-- a delta that is taken is refused only for lack of memory
 refused_taken : (state : SearchState) (delta : DeltaRead) (fault : TakeFault) → IsRefusal (table_of state) delta fault
     → Takes (table_of state) delta → fault ≡ faults.NoMemory
 refused_taken state delta (faults.WrongBase p q) why takes =

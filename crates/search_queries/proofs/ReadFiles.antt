@@ -40,7 +40,7 @@ pub delta_changes : (bytes : Text) (form : Form) (read : DeltaRead) → IsDeltaR
 delta_changes bytes Form.Csv read is = (is.1 (some_head 1) some_delta_head).changes_are
 delta_changes bytes Form.Json read is = is.2.changes_are
 
--- a head is there exactly in JSON
+-- there is a head exactly if the form is JSON
 pub copy_numbered : (bytes : Text) (form : Form) (read : CopyRead) → IsCopyRead bytes Sheet.Lei form read
     → is_some (number_in read.head) ≡ has_number form
 copy_numbered bytes Form.Csv read is = ap (λ head. is_some (number_in head)) is.0

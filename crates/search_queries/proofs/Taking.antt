@@ -1,4 +1,4 @@
--- What is answered to TAKE.
+-- The answer to TAKE.
 use Rattle.std.proofs.Common.{◌≡◌, ◌⊎◌, ℕ, List, [], Bool, length, map, Option, inl, inr, refl, sym, ap, ◌∙◌, subst}
 use Rattle.std.proofs.lemmas.List.{length-map}
 use Rattle.lei_code.specs.Texts.{Text}
@@ -83,19 +83,19 @@ packet_read form table table_now packet delta reply read answered state held =
     let so = answered state held in
     (so.0, so.1, inr (inl (delta, read, so.2)))
 
--- one that was not
+-- a packet that wasn't
 pub packet_refused : (form : Form) (table : NameTable) (packet : Text) (reply : QueryReply) → IsNoDelta form packet
     → reply ≡ replies.Refused refusals.DeltaNotRead → TakesSo form table packet reply table
 packet_refused form table packet reply none is state held =
     (state, held, inl (record { none = none; reply_is = is; stays = refl }))
 
--- one for which there was no memory
+-- a packet for which memory ran out
 pub packet_unread : (form : Form) (table : NameTable) (packet : Text) (reply : QueryReply)
     → reply ≡ replies.Refused refusals.NoMemory → TakesSo form table packet reply table
 packet_unread form table packet reply is state held =
     (state, held, inr (inr (record { reply_is = is; stays = refl })))
 
--- ---- steps of who answers
+-- ---- steps of the answerer
 
 pub find_step : (old : Searching) (asked : SearchAsked) (query : FindQuery) (reply : QueryReply)
     → asked ≡ QueryAsked.Query query

@@ -1,4 +1,4 @@
--- The texts with which a search answers: JSON objects in their compact form, with their names in byte order (RFC 8259).
+-- The texts of a search's answers: JSON objects in their compact form, with their names in byte order (RFC 8259).
 use Rattle.std.specs.Prelude.{ℕ, List, [], ◌∷◌, codes, length}
 use Rattle.serde_json.specs.Data.{Data, number, unsigned, string, array, object, Items, no_items, item, member, no_members}
 use Rattle.serde_json.specs.Written.{compact_text}
@@ -16,7 +16,7 @@ abbrev pub name_items : List Name → Items
 name_items [] = no_items
 name_items (name ∷ names) = item (name_answer name) (name_items names)
 
--- How many names were found, these items of the page, and its number.
+-- How many names were found, these items of the page, and the page's number.
 abbrev pub found_value : ℕ → Items → ℕ → Data
 found_value matches names page =
     object (member (codes "matches") (number (unsigned matches))
@@ -27,7 +27,7 @@ found_value matches names page =
 abbrev pub found_answer : ℕ → List Name → ℕ → Data
 found_answer matches names page = found_value matches (name_items names) page
 
--- What is answered where these names were found.
+-- The answer if these names were found.
 unfoldable pub found_text : List Name → ℕ → Text
 found_text found page = compact_text (found_answer (length found) (page_of page found) page)
 
@@ -35,6 +35,6 @@ found_text found page = compact_text (found_answer (length found) (page_of page 
 abbrev pub rows_answer : ℕ → Data
 rows_answer rows = object (member (codes "rows") (number (unsigned rows)) no_members)
 
--- What is answered where a delta was taken, and so many rows are held after it.
+-- The answer if a delta was taken, and this many rows are held after it.
 unfoldable pub rows_text : ℕ → Text
 rows_text rows = compact_text (rows_answer rows)

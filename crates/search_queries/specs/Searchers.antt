@@ -1,4 +1,4 @@
--- What contracts see of who answers a search.
+-- What contracts see of the answerer of a search.
 use Rattle.std.specs.Prelude.{◌≡◌, ◌⊎◌, ◌+◌, ◌≤◌, ℕ, ℤ, List, Bool, true, false, length, is_some}
 use Rattle.register_words.specs.declared.sheets.Form.{Form}
 use Rattle.register_words.specs.declared.sheets.Sheet.{Sheet}
@@ -11,7 +11,7 @@ use Rattle.query_reading.specs.declared.asked.QueryAsked.{QueryAsked}
 use Rattle.query_reading.specs.declared.reply.QueryReply.{QueryReply}
 use Rattle.search_queries.specs.Searches.{RefusesDelta, SearchAsked, SearchState, SearchStep, TakeStep, TakesDelta, table_of}
 
--- Who answers: the form of the copy and of the deltas, what an index has of the copy, and how many steps were counted.
+-- The answerer: the form of the copy and of the deltas, what an index has of the copy, and how many steps were counted.
 pub record Searching : Type 0 where
   pub form : Form
   pub table : NameTable
@@ -31,33 +31,34 @@ has_number Form.Json = true
 abbrev pub IsNumbered : Form → NameTable → Type 0
 IsNumbered form table = is_some table.publication ≡ has_number form
 
--- The count of steps rises by no more than the members of the delta that the packet is. If it is none, it stays.
+-- The count of steps rises by at most the number of members of the delta in the packet. If the packet isn't a delta, it
+-- stays.
 abbrev pub CountsDelta : Form → Text → ℕ → ℕ → Type 0
 CountsDelta form packet before now =
     (now ≡ before)
     ⊎ ((delta : DeltaRead) × IsDeltaRead packet Sheet.Lei form delta × (before ≤ now)
     × (now ≤ before + length delta.changes))
 
--- What is asked takes so many steps: TAKE as many as the delta has members at most, and anything else none.
+-- What is asked takes this many steps: TAKE at most as many as the delta has members, and anything else none.
 abbrev pub Counts : Form → SearchAsked → ℕ → ℕ → Type 0
 Counts form (QueryAsked.Refuse refusal) before now = now ≡ before
 Counts form (QueryAsked.Query query) before now = now ≡ before
 Counts form (QueryAsked.Packet head packet) before now = CountsDelta form packet before now
 
--- A packet was answered as in every state that the index may have.
+-- A packet was answered as the search answers it in every state that the index may have.
 abbrev pub TakesSo : Form → NameTable → Text → QueryReply → NameTable → Type 0
 TakesSo form table packet reply table_now =
     (state : SearchState) → IsStateOf state table
     → (now : SearchState) × IsStateOf now table_now × TakeStep form state packet reply now
 
--- A delta that was read was answered so.
+-- A delta that was read was answered the same way.
 abbrev pub TakesDeltaSo : NameTable → DeltaRead → QueryReply → NameTable → Type 0
 TakesDeltaSo table delta reply table_now =
     (state : SearchState) → IsStateOf state table
     → (now : SearchState) × IsStateOf now table_now
     × (RefusesDelta state delta reply now ⊎ TakesDelta state delta reply now)
 
--- A step of who answers: in every state that the index may have, the reply and the next state are those of the search.
+-- A step of the answerer: in every state that the index may have, the reply and the next state are those of the search.
 pub record AnswersSo (old : Searching) (asked : SearchAsked) (moments : List ℤ) (reply : QueryReply)
     (new : Searching) : Type 0 where
   pub form : new.form ≡ old.form

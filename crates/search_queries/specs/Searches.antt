@@ -1,4 +1,4 @@
--- A search: its state, and what is answered to a query. This project's profile.
+-- A search: its state, and the replies to queries. This project's profile.
 use Rattle.std.specs.Prelude.{◌≡◌, ◌⊎◌, ◌<◌, ◌^◌, ⊤, ◌==◌, ℕ, ℤ, Bool, List, [], length, map, nat_lt, if◌then◌else◌, Option}
 use Rattle.lei_code.specs.Texts.{Text}
 use Rattle.register_words.specs.declared.sheets.Form.{Form}
@@ -29,8 +29,8 @@ SearchAsked = QueryAsked FindQuery (Unit {0})
 
 -- ---- the state
 
--- The state of a search: the golden copy of `lei` that it holds, which is the number of its publication, known in JSON
--- alone, its width, and its rows.
+-- The state of a search: the golden copy of `lei` that it holds. The copy has the number of its publication, known only
+-- in JSON, its width, and its rows.
 pub record SearchState : Type 0 where
   pub publication : Option ℕ
   pub wide : Bool
@@ -51,7 +51,7 @@ after_delta state delta =
 
 -- ---- FIND
 
--- The reply where a text has so many words.
+-- The reply if a text has this many words.
 abbrev pub find_by_words : SearchState → ℕ → Text → ℕ → QueryReply
 find_by_words state page text count =
     if count == 0 then replies.Refused refusals.NoWord
@@ -64,13 +64,13 @@ find_reply state query = find_by_words state query.page query.text (length (word
 
 -- ---- TAKE
 
--- The refusal of a delta that a copy doesn't take.
+-- The refusal for a delta that a copy doesn't take.
 abbrev pub take_refusal : TakeFault → QueryRefusal
 take_refusal (faults.WrongBase publication from) = refusals.WrongBase publication from
 take_refusal faults.OlderDelta = refusals.OlderDelta
 take_refusal faults.NoMemory = refusals.NoMemory
 
--- The bytes are no delta of `lei` in this form.
+-- The bytes aren't a delta of `lei` in this form.
 abbrev pub IsNoDelta : Form → Text → Type 0
 IsNoDelta form packet =
     (head : Head) (wide : Bool) (changes : List Change) → IsDelta packet Sheet.Lei form head wide changes → ⊥
@@ -80,7 +80,7 @@ pub record LacksMemory (state : SearchState) (reply : QueryReply) (new : SearchS
   pub reply_is : reply ≡ replies.Refused refusals.NoMemory
   pub stays : new ≡ state
 
--- The packet is no delta, and nothing changes.
+-- The packet isn't a delta, and nothing changes.
 pub record RefusesPacket (form : Form) (state : SearchState) (packet : Text) (reply : QueryReply)
     (new : SearchState) : Type 0 where
   pub none : IsNoDelta form packet
@@ -95,7 +95,7 @@ pub record RefusesDelta (state : SearchState) (delta : DeltaRead) (reply : Query
   pub reply_is : reply ≡ replies.Refused (take_refusal fault)
   pub stays : new ≡ state
 
--- The packet is a delta that the copy takes: its rows are patched by it, and the reply has their number.
+-- The packet is a delta that the copy takes: its rows are patched by the delta, and the reply has their number.
 pub record TakesDelta (state : SearchState) (delta : DeltaRead) (reply : QueryReply)
     (new : SearchState) : Type 0 where
   pub takes : Takes (table_of state) delta
@@ -112,8 +112,8 @@ TakeStep form state packet reply new =
 
 -- ---- queries
 
--- The reply to what is asked, and the state after it. The clock is not asked. FIND and every refusal leave the state
--- as it is.
+-- The reply to what is asked, and the state after it. The clock isn't read. FIND and every refusal leave the state
+-- unchanged.
 abbrev pub SearchStep : Form → SearchState → SearchAsked → List ℤ → QueryReply → SearchState → Type 0
 SearchStep form state (QueryAsked.Refuse refusal) moments reply new =
     (moments ≡ []) × (reply ≡ replies.Refused refusal) × (new ≡ state)

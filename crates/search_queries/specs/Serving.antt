@@ -1,4 +1,4 @@
--- A search that is served: what was answered of the bytes of an input.
+-- A search that is served: the answers to the bytes of an input.
 use Rattle.std.specs.Prelude.{◌≤◌, ℕ, List, length, Option, None}
 use Rattle.register_words.specs.declared.sheets.Form.{Form}
 use Rattle.request_loop.specs.Frames.{Rules}
@@ -17,13 +17,13 @@ use Rattle.search_queries.specs.Searches.{SearchAsked, SearchState, SearchStep}
 abbrev pub search_rules : Rules SearchAsked QueryReply NoEnd
 search_rules = query_rules search_says
 
--- How far a search has come: its state, and the bytes that were written. No clock tells it moments.
+-- The progress of a search: its state, and the bytes that were written. No clock gives it moments.
 abbrev pub search_progress : SearchState → Option (List ℕ) → Progress SearchState
 search_progress state written = progress state None written
 
--- A search over this state was served: the bytes that were taken are cut into queries, these were answered in order,
--- each by the reply that belongs to it in the state that the ones before it left, and what was written are the bytes
--- of the replies. The index has the state after them.
+-- A search over this state was served. The bytes that were taken are cut into queries, which were answered in order.
+-- Each reply is the one that belongs to the query in the state that the queries before it left. The written bytes are
+-- those of the replies. The index has the state after them.
 abbrev pub ServesQueries : Form → ℕ → SearchState → Option (List ℕ) → Option (List ℕ) → NameTable → Option (List ℕ)
     → Option (List ℕ) → Ended NoEnd → Type 0
 ServesQueries form most state written left table written_now left_now ended =
@@ -31,9 +31,9 @@ ServesQueries form most state written left table written_now left_now ended =
     × Serves (SearchStep form) search_rules most (search_progress state written) left
     (search_progress now written_now) left_now ended
 
--- A search over this state was served whole, to the end of these bytes: all that they ask was answered in order, and
--- what was written are the bytes of the replies. Or the bytes are as many as end a session. Nothing else ends it where
--- nothing fails.
+-- A search over this state was served completely, to the end of these bytes: all that they ask was answered in order,
+-- and the written bytes are those of the replies. Or the bytes are so many that they end a session. Nothing else ends
+-- it if nothing fails.
 abbrev pub CompletesQueries : Form → ℕ → SearchState → Option (List ℕ) → List ℕ → NameTable → Option (List ℕ)
     → Ended NoEnd → Type 0
 CompletesQueries form most state written bytes table written_now Ended.AtEnd =

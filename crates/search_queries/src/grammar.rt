@@ -1,4 +1,4 @@
-//! What lines of a search say.
+//! The meaning of a search's lines.
 ghost use Rattle.std.specs.Prelude.{◌≡◌, option_map, IfOk, OnErr};
 ghost use Rattle.query_reading.specs.Meanings.{IsWhole};
 ghost use Rattle.query_reading.specs.declared.grammar.LineMeaning.{LineMeaning as Meaning};
@@ -45,7 +45,7 @@ impl Grammar for SearchGrammar {
     }
 }
 
-// What a first word says alone.
+// What a first word says on its own.
 fn read_alone(word: &[u8]) -> SearchMeaning
     ensures { result ≡ says_alone word.now }
 {
@@ -55,7 +55,7 @@ fn read_alone(word: &[u8]) -> SearchMeaning
     LineMeaning::Refused(QueryRefusal::NoRoute)
 }
 
-// What a first word says with what stands after its space.
+// What a first word says with what follows its space.
 fn read_words(alloc: Global, word: &[u8], rest: &[u8]) -> Result<SearchMeaning, NoMemory>
     ensures ok { IfOk result (λ meaning. meaning ≡ says_with word.now rest.now) }
     ensures err { OnErr result (IsWhole (says_with word.now rest.now)) }
@@ -69,7 +69,7 @@ fn read_words(alloc: Global, word: &[u8], rest: &[u8]) -> Result<SearchMeaning, 
     Ok(LineMeaning::Refused(QueryRefusal::NoRoute))
 }
 
-// FIND: the number of a page, and all after the space that follows it as the text.
+// FIND: the number of a page, and everything after the space that follows it as the text.
 #[tactic(auto, unfolding(crate::specs::Grammar::find_of))]
 fn read_find(alloc: Global, rest: &[u8]) -> Result<SearchMeaning, NoMemory>
     ensures ok { IfOk result (λ meaning. meaning ≡ find_of rest.now) }

@@ -4,8 +4,8 @@ ghost use Rattle.query_reading.specs.declared.reply.QueryReply.{QueryReply};
 ghost use Rattle.register_words.specs.declared.sheets.Form.{Form as DeclaredForm};
 ghost use Rattle.search_queries.specs.Searches.{IsShort, LacksMemory, SearchAsked, SearchState, SearchStep};
 
-/// In a state a query has one reply, and one state comes after it, unless memory runs out. Of packets of 2^64 bytes or
-/// more nothing is said.
+/// In a state a query has one reply and one next state, unless memory runs out. This doesn't cover packets of 2^64
+/// bytes or more.
 pub fn queries_have_one_reply()
     ensures { (form : DeclaredForm) (state new next : SearchState) (asked : SearchAsked)
         → (moments later : Items ℤ) (reply other : QueryReply) → IsShort asked

@@ -1,4 +1,4 @@
-//! The queries of a search by words of names, and who answers them.
+//! The queries of a search by words of names, and the answerer of these queries.
 #![tactic(auto)]
 
 mod grammar;

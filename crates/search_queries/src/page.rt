@@ -1,4 +1,4 @@
-//! The pages of what is found.
+//! The pages of the search results.
 ghost use Rattle.std.specs.Prelude.{◌≡◌, ◌≤◌};
 ghost use Rattle.search_queries.specs.Grammar.{page_of};
 
@@ -25,7 +25,7 @@ impl Model for Page {
 }
 
 impl Page {
-    /// The page whose number is written so in decimal, without sign or leading zero.
+    /// The page whose number the word writes in decimal, without sign or leading zero.
     pub fn read(word: &[u8]) -> Option<Self>
         ensures { result ≡ page_of word.now }
     {

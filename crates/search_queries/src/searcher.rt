@@ -1,4 +1,4 @@
-//! Who answers a search.
+//! The answerer of a search.
 ghost use Rattle.std.specs.Prelude.{◌≡◌, ◌⊎◌, ◌≤◌, ◌+◌, List as Items, ℕ, length, IfOk};
 ghost use Rattle.register_words.specs.declared.sheets.Sheet.{Sheet as DeclaredSheet};
 ghost use Rattle.copy_forms.specs.Files.{IsCopyRead, IsDeltaRead};
@@ -19,8 +19,8 @@ use std::marker::Model;
 use std::sync::ledger::Ledger;
 use worker_pool::Steps;
 
-/// Who answers a search, over an index of the copy that is held. Contracts see the form of the copy and of the deltas,
-/// what the index has of the copy, and how many steps were counted.
+/// The answerer of a search, over an index of the copy that is held. Contracts see the form of the copy and of the
+/// deltas, what the index has of the copy, and how many steps were counted.
 #[derive(Drop)]
 pub struct Searcher<L: Ledger> {
     alloc: Global,
@@ -40,7 +40,7 @@ impl<L: Ledger> Model for Searcher<L> {
 }
 
 impl<L: Ledger> Searcher<L> {
-    /// Who answers over a copy of `lei` that was read in this form. Each name is folded once, which is one step.
+    /// An answerer over a copy of `lei` that was read in this form. Each name is folded once, which is one step.
     pub fn open(
         alloc: Global,
         copy: &CopyRead,
@@ -93,7 +93,7 @@ impl<L: Ledger> Searcher<L> {
         }
     }
 
-    // Takes a delta that was read. The memory for the reply is taken first, so nothing changes if there is none.
+    // Takes a delta that was read. The memory for the reply is allocated first, so nothing changes if there is none.
     fn take_delta(&mut self, delta: &DeltaRead) -> QueryReply
         requires read { (packet : Items ℕ) × IsDeltaRead packet DeclaredSheet.Lei self.old.form delta.now }
         ensures form { self.new.form ≡ self.old.form }
@@ -111,7 +111,7 @@ impl<L: Ledger> Searcher<L> {
     }
 }
 
-// The refusal of a delta that isn't taken.
+// The refusal for a delta that isn't taken.
 fn refusal_of(fault: TakeFault) -> QueryRefusal
     ensures { result ≡ take_refusal fault }
 {

@@ -18,7 +18,7 @@ use query_reading::QueryFraming;
 use request_loop::{Ended, Intake, Wire, serve};
 use std::sync::ledger::Ledger;
 
-// The clock of a search, which is never asked.
+// The clock of a search, which is never read.
 #[derive(Drop)]
 struct UnaskedClock {}
 
@@ -33,7 +33,7 @@ impl Clock for UnaskedClock {
 }
 
 /// Serves one session of a search: reads lines from the wire, with the deltas that they announce, and writes the reply
-/// to each query before the next is asked.
+/// to each query before the next is read.
 pub fn serve_queries<R, L: Ledger, W: Wire>(
     rt: &R,
     intake: Intake,

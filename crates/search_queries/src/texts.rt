@@ -9,10 +9,10 @@ use name_search::Found;
 use serde_json::{Value, json};
 use std::alloc::Global;
 
-/// So many bytes have room for the text of the number of rows, whatever it is.
+/// This many bytes have room for the text with the number of rows, whatever that number is.
 pub const ROWS_ROOM: usize = 64;
 
-/// What is answered where this was found, with the names of this page.
+/// The answer if these rows were found, with the names of this page.
 pub fn found_text(alloc: Global, found: &Found, page: u32) -> Result<Bytes, NoMemory>
     ensures { IfOk result
         (λ text. text ≡ compact_text (found_answer found.now.matches found.now.names page)) }
@@ -55,7 +55,7 @@ fn name_value(alloc: Global, name: &(Text, Text)) -> Result<Value, NoMemory>
     Ok(json!(in alloc; {"LEI": key, "LegalName": legal})?)
 }
 
-/// What is answered where so many rows are held after a delta. It is put into memory that was taken before.
+/// The answer if this many rows are held after a delta. It is written into memory that was allocated before.
 #[tactic(auto, unfolding(crate::specs::Answers::rows_text))]
 pub fn rows_text(mut text: Vec<u8>, rows: u64) -> Bytes
     requires none { text.items ≡ [] }
@@ -70,7 +70,7 @@ pub fn rows_text(mut text: Vec<u8>, rows: u64) -> Bytes
     Bytes::from(text)
 }
 
-// Puts a piece after the others, where it has room.
+// Appends a piece, if there is room for it.
 fn append(held: &mut Vec<u8>, piece: &[u8])
     requires { vec_len held.old + length piece.now ≤ vec_capacity held.old }
     ensures items { held.new.items ≡ held.old.items ++ piece.now }

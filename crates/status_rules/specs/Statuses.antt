@@ -1,4 +1,4 @@
--- What a record's registration status asks of its entity status and of its renewal date. This project's profile.
+-- What a record's registration status requires of its entity status and of its renewal date. This project's profile.
 use Rattle.std.specs.Prelude.{Bool, true, false, not, ◌&&◌, ◌||◌, ℤ, pos, int_lt, ◌+ℤ◌}
 use Rattle.lei_shapes.specs.declared.lists.RecordStatus.{RecordStatus}
 use Rattle.lei_shapes.specs.declared.lists.EntityStatus.{EntityStatus}
@@ -43,11 +43,11 @@ abbrev pub is_null : EntityStatus → Bool
 is_null EntityStatus.Null = true
 is_null _ = false
 
--- Where the first is so, the second is so.
+-- If the first holds, the second holds.
 abbrev pub only_with : Bool → Bool → Bool
 only_with first second = not first || second
 
--- A record of this status may stand beside this status of its entity: ISSUED goes with ACTIVE alone, RETIRED with
+-- A record may have this status together with this status of its entity: ISSUED goes with ACTIVE alone, RETIRED with
 -- INACTIVE alone, and NULL with DUPLICATE and ANNULLED alone. Every other pair is allowed.
 abbrev pub entity_fits : RecordStatus → EntityStatus → Bool
 entity_fits status entity =
@@ -64,8 +64,8 @@ abbrev pub is_within_term : ℤ → ℤ → Bool
 is_within_term day today =
     not (is_before day today) && not (is_before (today +ℤ pos 400) day)
 
--- The day of the next renewal fits the status: ISSUED needs one within the term, and LAPSED one before today. The other
--- statuses ask nothing of it.
+-- The day of the next renewal fits the status: ISSUED requires a day within the term, and LAPSED one before today. The
+-- other statuses require nothing of it.
 abbrev pub renewal_fits : RecordStatus → ℤ → ℤ → Bool
 renewal_fits status renewal_day today =
     only_with (is_issued status) (is_within_term renewal_day today)

@@ -26,7 +26,7 @@ Changes =
     Option Party × Option Party × Option Party × Option Party × Option Party × Option Party
     × Option Party
 
--- The row of the held status, and the first row where no record is held.
+-- The row of the held status, or the first row if no record is held.
 abbrev pub changes_from : Option RecordStatus → Changes
 changes_from None = (N, none, none, none, none, none, none)
 changes_from (Some RecordStatus.Issued) = (M, M, M, none, M, M, M)
@@ -47,6 +47,6 @@ in_column RecordStatus.Retired row = row.4
 in_column RecordStatus.Duplicate row = row.5
 in_column RecordStatus.Annulled row = row.6
 
--- Who may change the held status to the item's, and nobody where the change is not permitted.
+-- Who may change the held status to the item's status, or nobody if the change isn't permitted.
 abbrev pub party : Option RecordStatus → RecordStatus → Option Party
 party old new = in_column new (changes_from old)

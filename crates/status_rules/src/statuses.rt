@@ -1,13 +1,13 @@
-//! What the registration status asks of the entity status and of the renewal date.
+//! What the registration status requires of the entity status and of the renewal date.
 ghost use Rattle.std.specs.Prelude.{◌≡◌};
 ghost use Rattle.status_rules.specs.Statuses;
 
 use lei_shapes::{EntityStatus, RecordStatus};
 
-// How many days ahead the renewal of an issued record may lie.
+// How many days ahead the renewal of an issued record may be.
 const LONGEST_TERM: i64 = 400;
 
-/// Whether a record of this status may stand beside this status of its entity.
+/// Whether a record may have this status together with this status of its entity.
 pub fn entity_fits(status: RecordStatus, entity: EntityStatus) -> bool
     ensures { result ≡ Statuses.entity_fits status entity }
 {

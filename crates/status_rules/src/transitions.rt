@@ -16,8 +16,7 @@ pub enum Party {
     Receiver,
 }
 
-/// Who may change a held status, or none where no record is held, to the item's status. `None`
-/// where nobody may.
+/// Who may change a held status to the item's status. `None` if nobody may. `old` is `None` if no record is held.
 pub fn transition(old: Option<RecordStatus>, new: RecordStatus) -> Option<Party>
     ensures { result ≡ party old new }
 {
@@ -32,7 +31,7 @@ pub fn transition(old: Option<RecordStatus>, new: RecordStatus) -> Option<Party>
     }
 }
 
-// No record is held: it comes as ISSUED.
+// No record is held: a new record is ISSUED.
 fn from_none(new: RecordStatus) -> Option<Party>
     ensures { result ≡ party None new }
 {
@@ -62,7 +61,7 @@ fn from_pending_transfer(new: RecordStatus) -> Option<Party>
     }
 }
 
-// The receiver takes the record over, or the manager takes it back into transfer.
+// The receiver takes over the record, or the manager returns it to transfer.
 fn from_pending_archival(new: RecordStatus) -> Option<Party>
     ensures { result ≡ party (Some RecordStatus.PendingArchival) new }
 {

@@ -48,7 +48,7 @@ operands nodes depth index value one place is p =
     = ap (op_term (term_to nodes depth)) (sym is) ∙ p in
     (cc, cc)
 
--- Nodes of which two differ are two at least.
+-- If two of the nodes differ, there are at least two.
 two_nodes : (nodes : List Op) (index value one place : ℕ)
     → node_at nodes index ≡ Op.Binary (Compare Ge Binary) value one
     → node_at nodes value ≡ Op.Column 1 place → (depth : ℕ) × (length nodes ≡ suc (suc depth))
@@ -74,7 +74,7 @@ test_is nodes index value one place is p q = go (two_nodes nodes index value one
     go : (depth : ℕ) × (length nodes ≡ suc (suc depth)) → term_in nodes index ≡ at_least_one place
     go (depth, is) = subst (λ n. term_to nodes n index ≡ at_least_one place) (sym is) (by_depth depth)
 
--- And the other way round.
+-- The converse.
 pub test_nodes : (nodes : List Op) (index value one place : ℕ)
     → node_at nodes index ≡ Op.Binary (Compare Ge Binary) value one
     → term_in nodes index ≡ at_least_one place

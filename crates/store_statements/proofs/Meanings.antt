@@ -1,4 +1,4 @@
--- What each text means, by computing it.
+-- The meaning of each text, by computation.
 use Rattle.std.specs.Prelude.{◌≡◌, refl, false, [], ◌∷◌, codes, Ok}
 use Rattle.sqlite_schema.specs.declared.command.Source.TheVariants.{Values}
 use Rattle.sqlite_schema.specs.declared.command.Conflict.TheVariants.{Abort}
@@ -136,7 +136,7 @@ pub make_cells_plain : IsPlain (understood entry_schema cell_table_text)
 unfolding understood everything
 make_cells_plain = (refl, refl)
 
--- where the table of entries is there, nothing is done
+-- if the table of entries exists, nothing is done
 pub keep_entries_is : command_of (understood entry_schema entry_table_text) ≡ Nothing
 unfolding understood everything
 keep_entries_is = refl
@@ -163,7 +163,7 @@ pub make_cell2_plain : IsPlain (understood store_schema cell2_table_text)
 unfolding understood everything
 make_cell2_plain = (refl, refl)
 
--- where the table of the form is there, nothing is done
+-- if the table of the form exists, nothing is done
 pub keep_store_is : command_of (understood store_schema store_table_text) ≡ Nothing
 unfolding understood everything
 keep_store_is = refl

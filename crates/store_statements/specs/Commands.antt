@@ -14,7 +14,7 @@ use Rattle.sqlite_schema.specs.declared.command.Upsert.{Upsert}
 abbrev pub up : Key
 up = record { collation = Binary; descending = false }
 
--- An order that falls, byte by byte.
+-- A descending order, byte by byte.
 abbrev pub down : Key
 down = record { collation = Binary; descending = true }
 
@@ -27,7 +27,7 @@ within place = op2 (Compare Gt Binary) (col 1 place) (col 0 0)
 abbrev pub no_limit : Term
 no_limit = lit (Int (negsuc 0))
 
--- No row is left out at the front.
+-- No row is skipped at the front.
 abbrev pub no_offset : Term
 no_offset = lit (Int (pos 0))
 
@@ -85,8 +85,8 @@ insert_terms = col 0 0 ∷ lit Null ∷ col 0 1 ∷ col 0 2 ∷ col 0 3 ∷ col 
 abbrev pub put_terms : List Term
 put_terms = lit Null ∷ col 0 0 ∷ col 0 1 ∷ col 0 2 ∷ col 0 3 ∷ col 0 4 ∷ []
 
--- The row with the id of the sixth parameter, with the entry and the row of the cell that was to be put. The
--- last six parameters are the id and the columns of that cell.
+-- The row with the id in the sixth parameter, with the entry and the row of the cell that was to be put. The last six
+-- parameters are the id and the columns of that cell.
 abbrev pub put_query : Query
 put_query = record {
   from = inner 5 end;
@@ -100,7 +100,7 @@ put_query = record {
   offset = no_offset;
 }
 
--- Where a cell of the kind and the name stands, it gets the entry and the row.
+-- If there is a cell with the kind and the name, it gets the entry and the row.
 abbrev pub put_clause : Upsert
 put_clause = record { target = Some (1 ∷ 2 ∷ 3 ∷ []); update = Some (alone put_query) }
 

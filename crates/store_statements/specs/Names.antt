@@ -5,16 +5,15 @@ use Rattle.std.specs.Prelude.{◌≡◌, ◌≤◌, ◌<◌, ℕ, List, [], leng
 abbrev pub lei_length : ℕ
 lei_length = 20
 
--- The first characters of a name, or the whole name where it is shorter.
+-- The first characters of a name, or the whole name if it is shorter.
 abbrev pub lei_of : List ℕ → List ℕ
 lei_of name = take lei_length name
 
--- What follows them.
+-- What follows those characters.
 abbrev pub rest_of : List ℕ → List ℕ
 rest_of name = drop lei_length name
 
--- The two texts are parts of a name: the first is at most as long as an LEI, and where it is shorter nothing
--- follows it.
+-- The two texts are parts of a name: the first is at most as long as an LEI, and if it is shorter, nothing follows it.
 pub record AreParts (lei rest : List ℕ) : Type 0 where
   pub most : length lei ≤ lei_length
   pub whole : length lei < lei_length → rest ≡ []

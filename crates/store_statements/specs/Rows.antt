@@ -7,15 +7,15 @@ use Rattle.lei_outside.specs.declared.entry.KeptEntry.{KeptEntry}
 use Rattle.lei_outside.specs.declared.keeper.KeptCell.{KeptCell}
 use Rattle.store_statements.specs.Names.{lei_of, rest_of}
 
--- The values of an entry in the order of the columns: seq, kind, office, number, moment, rules, body and
--- answer. The office is a text, body and answer are blobs, and the others are integers.
+-- The values of an entry in the order of the columns: seq, kind, office, number, moment, rules, body and answer. The
+-- office is a text, the body and the answer are blobs, and the others are integers.
 abbrev pub entry_row : KeptEntry → Row
 entry_row e = Int (pos e.seq) ∷ Int (pos e.kind) ∷ Text e.office ∷ Int (pos e.number) ∷ Int e.moment
     ∷ Int (pos e.rules)
     ∷ Blob e.body ∷ Blob e.answer ∷ []
 
--- The values of a cell in the order of the columns of form 2: kind, the two parts of the name, touched and
--- row. The row is a blob, or NULL where there is none.
+-- The values of a cell in the order of the columns of form 2: kind, the two parts of the name, touched and row. The row
+-- is a blob, or NULL if there is none.
 abbrev pub cell_row : KeptCell → Row
 cell_row c = Int (pos c.kind) ∷ Text (lei_of c.name) ∷ Text (rest_of c.name) ∷ Int (pos c.touched)
     ∷ or_null Blob c.row ∷ []

@@ -14,7 +14,7 @@ use Rattle.sqlite_schema.specs.declared.schema.Table.{Table}
 use Rattle.sqlite_schema.specs.declared.schema.Index.{Index}
 use Rattle.sqlite_schema.specs.declared.schema.Schema.{Schema}
 
--- A column of a STRICT table that has no default, and whether it refuses NULL.
+-- A column of a STRICT table without a default, and whether it refuses NULL.
 abbrev pub column_of : List ℕ → Kind → Bool → Column
 column_of name kind not_null =
     record {
@@ -31,7 +31,7 @@ column_of name kind not_null =
 abbrev pub at_least_one : ℕ → Term
 at_least_one place = op2 (Compare Ge Binary) (col 1 place) (lit (Int (pos 1)))
 
--- No value is computed as a row is written.
+-- No value is computed when a row is written.
 abbrev pub no_stamps : Stamps
 no_stamps = record { places = []; terms = []; formats = [] }
 
@@ -56,7 +56,7 @@ entry_table = record {
   is_counted = false;
 }
 
--- The table of the cells of form 1. No two have one kind and name, and so no two have one entry, kind and name.
+-- The table of the cells of form 1. No two have the same kind and name, and so no two the same entry, kind and name.
 abbrev pub cell_table : Table
 cell_table = record {
   name = codes "cell";
@@ -92,7 +92,7 @@ store_table = record {
   is_counted = false;
 }
 
--- The table of the cells of form 2. No two have one kind and name, and so no two have one entry, kind and name.
+-- The table of the cells of form 2. No two have the same kind and name, and so no two the same entry, kind and name.
 abbrev pub cell2_table : Table
 cell2_table = record {
   name = codes "cell2";
@@ -112,7 +112,7 @@ cell2_table = record {
   is_counted = false;
 }
 
--- An index that SQLite makes of a key of a table of cells, which is the table of this tree.
+-- An index that SQLite makes for a key of a table of cells: the table with this tree.
 abbrev pub index_of : ℕ → List ℕ → ℕ → List ℕ → Index
 index_of table name tree places =
     record { name = name; tree = tree; table = table; columns = places; order = plain; is_unique = true }
@@ -133,19 +133,19 @@ by_parts = index_of 5 (codes "sqlite_autoindex_cell2_1") 6 (1 ∷ 2 ∷ 3 ∷ []
 abbrev pub by_entry2 : Index
 by_entry2 = index_of 5 (codes "sqlite_autoindex_cell2_2") 7 (4 ∷ 1 ∷ 2 ∷ 3 ∷ [])
 
--- The schema of a store in which nothing was made.
+-- The schema of a store whose tables aren't made yet.
 abbrev pub no_schema : Schema
 no_schema = record { tables = []; indexes = []; views = [] }
 
--- That of a store with the table of entries alone.
+-- The schema of a store that has only the table of entries.
 abbrev pub entry_schema : Schema
 entry_schema = record { tables = entry_table ∷ []; indexes = []; views = [] }
 
--- That of a store as it was before there was a form 2.
+-- The schema of a store from before form 2 existed.
 abbrev pub both_schema : Schema
 both_schema = record { tables = entry_table ∷ cell_table ∷ []; indexes = by_name ∷ by_entry ∷ []; views = [] }
 
--- That of a store in which the cells of form 2 have no table yet.
+-- The schema of a store that has no table for the cells of form 2 yet.
 abbrev pub store_schema : Schema
 store_schema = record {
   tables = entry_table ∷ cell_table ∷ store_table ∷ [];
@@ -153,7 +153,7 @@ store_schema = record {
   views = [];
 }
 
--- That of a store with all four tables.
+-- The schema of a store with all four tables.
 abbrev pub whole_schema : Schema
 whole_schema = record {
   tables = entry_table ∷ cell_table ∷ store_table ∷ cell2_table ∷ [];

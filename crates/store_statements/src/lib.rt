@@ -1,4 +1,4 @@
-//! The statements of the stored tables, what each of their texts means, and which tables a store has.
+//! The statements of the stored tables, the meaning of each statement's text, and which tables a store has.
 #![tactic(auto)]
 
 mod stage;

@@ -16,7 +16,7 @@ use sqlite_sql::ops::{BinaryOp, CompareOp};
 use sqlite_value::keys::{Collation, Order};
 use sqlite_value::value::Value;
 
-/// What was made of a store.
+/// How far the tables of a store were made.
 #[derive(Clone, Copy, Debug, PartialEq, Eq)]
 pub enum Stage {
     /// No table.
@@ -29,11 +29,11 @@ pub enum Stage {
     Store,
     /// These three and the table of the cells of form 2.
     Whole,
-    /// Anything else, as a table of another shape, a further table, or an index.
+    /// Anything else, such as a table of another shape, a further table, or an index.
     Other,
 }
 
-// A column of this name and type, which has no default and takes NULL or doesn't.
+// A column with this name and type, which has no default, and which refuses NULL or not.
 fn is_column(column: &Column, name: &[u8], kind: Kind, not_null: bool) -> bool
     ensures { IsTrue result ↔ (column.now ≡ column_of name.now kind not_null) }
 {
@@ -46,7 +46,7 @@ fn is_column(column: &Column, name: &[u8], kind: Kind, not_null: bool) -> bool
     matches!(column.default, Value::Null) && column.collation == Collation::Binary
 }
 
-// The node at this index is the value at a place of a row.
+// The node at this index is the value at the given place of a row.
 fn is_place_at(nodes: &[Op], index: usize, place: usize) -> bool
     ensures { IsTrue result ↔ (node_at nodes.now index ≡ Op.Column 1 place) }
 {
@@ -63,7 +63,7 @@ fn is_one_at(nodes: &[Op], index: usize) -> bool
     matches!(nodes.get(index), Some(Op::Literal(Value::Int(1))))
 }
 
-// The node at this index tests that the value at a place of a row is at least 1.
+// The node at this index tests that the value at the given place of a row is at least 1.
 fn is_test_at(nodes: &[Op], index: usize, place: usize) -> bool
     ensures { IsTrue result ↔ (term_in nodes.now index ≡ at_least_one place) }
 {
@@ -75,7 +75,7 @@ fn is_test_at(nodes: &[Op], index: usize, place: usize) -> bool
     }
 }
 
-// The one check is that the value at this place of a row is at least 1.
+// The only check is that the value at this place of a row is at least 1.
 fn is_check(checks: &Terms, place: usize) -> bool
     ensures { IsTrue result ↔ (checks.now ≡ at_least_one place ∷ []) }
 {
@@ -270,7 +270,7 @@ fn is_store_table(table: &Table) -> bool
     table.computed.is_empty() && !table.is_counted
 }
 
-// An index of a table, by the table's tree, its own name, tree and places.
+// An index of a table, by the table's tree and by the index's name, tree and places.
 fn is_index(index: &Index, table: u32, name: &[u8], tree: u32, places: &[usize]) -> bool
     ensures { IsTrue result ↔ (index.now ≡ index_of table name.now tree places.now) }
 {
@@ -333,7 +333,7 @@ fn are_all_indexes(indexes: &[Index]) -> bool
     are_first_indexes(first, second) && are_second_indexes(third, fourth)
 }
 
-/// Which tables a store with this schema has. It looks at nothing but the schema, and takes no memory.
+/// Which tables a store with this schema has. It reads nothing but the schema, and takes no memory.
 pub fn stage_of(schema: &Schema) -> Stage
     ensures nothing { (result ≡ Stage.Nothing) ↔ (schema.now ≡ no_schema) }
     ensures entries { (result ≡ Stage.Entries) ↔ (schema.now ≡ entry_schema) }

@@ -1,4 +1,4 @@
--- What the statements answer of a store that is ready, and what they make of it inside a transaction.
+-- The answers of the statements for a store that is ready, and what they make of it inside a transaction.
 use Rattle.std.proofs.Common.{◌≡◌, inl, inr, ◌≤◌, ◌<◌, ◌^◌, nat_le, nat_lt, ℕ, true, false, List, [], ◌∷◌, ◌++◌, map, Some, Ok, Err, Result, IfOk, IfErr, OnOk, IsTrue, refl, sym, ap, subst, ◌∙◌, arith}
 use Rattle.std.proofs.lemmas.Bool.Decides.{nat_tests}
 use Rattle.std.proofs.lemmas.List.Sums.{fold-append}
@@ -36,7 +36,7 @@ pub plain_under : (s : Schema) (sql : List ℕ) → s ≡ whole_schema → IsPla
     → IsPlain (understood s sql)
 plain_under s sql is plain = subst (λ x. IsPlain (understood x sql)) (sym is) plain
 
--- what is told after it was told before, of a store that holds it
+-- what is told afterwards was told before, for a store that holds it
 held : (old new : State) (t : KeptTables) → IsReady old → IsUnchanged old new
     → told_by new.now.schema new.now.trees ≡ Some t → HasRows old.now t
 held old new t ready same told =
@@ -83,7 +83,7 @@ pub ran_inside : (sql : List ℕ) (params : Row) (old new : State) (count : ℕ)
 ran_inside sql params old new count h = record
     { was_open = h.1.was_open; is_open = h.1.is_open; committed = h.1.committed_is; mode = h.1.mode }
 
--- Also a statement that is refused commits nothing.
+-- A statement that is refused commits nothing, either.
 pub keeps_commit : (sql : List ℕ) (params : Row) (old new : State) (r : Result ℕ Error)
     → ExecutesInside 0 sql params old new r → KeepsCommit old new
 keeps_commit sql params old new (Ok count) h = record
@@ -170,7 +170,7 @@ turns_then f g P Q R a b c fits one two = record {
       (second.0, (second.1.0 ∙ first.1.0, second.1.1 ∙ first.1.1));
 }
 
--- In a store of form 2 the told tables become that.
+-- In a store of form 2 the told tables become what the function makes of them.
 pub turns_tells : (change : KeptTables → KeptTables) (Fits : KeptTables → Type 0) (old new : State)
     (t : KeptTables) → Turns change Fits old new → Fits t → Tells old.now.schema old.now.trees t
     → Tells new.now.schema new.now.trees (change t)
@@ -182,7 +182,7 @@ turns_tells change Fits old new t turns fits tells =
       emptied = it.1.0 ∙ tells.emptied;
     }
 
--- the cells so far with one more
+-- the cells so far and one more
 pub one_more : (front : List KeptCell) (c : KeptCell) (t : KeptTables)
     → with_cell c (with_cells front t) ≡ with_cells (front ++ c ∷ []) t
 one_more front c t = ap (λ cells. record { entries = t.entries; cells = cells })

@@ -1,4 +1,4 @@
--- What the query on cells of form 2 answers.
+-- The answer of the query on cells of form 2.
 use Rattle.std.proofs.Common.{◌≡◌, ℕ, pos, Bool, true, false, cond, List, [], ◌∷◌, map, filter, Less, Equal, refl, sym, ap, ap₂, subst, ◌∙◌}
 use Rattle.std.specs.List.{AllByRecursion}
 use Rattle.std.specs.Ordering.{nat_cmp, ordering_then}

@@ -1,4 +1,4 @@
--- What the putting of a cell of form 2 makes of a store.
+-- What putting a cell of form 2 makes of a store.
 use Rattle.std.proofs.Common.{◌≡◌, ◌⊎◌, inl, inr, ℕ, ℤ, pos, Bool, true, false, not, ◌&&◌, ◌||◌, List, [], ◌∷◌, ◌++◌, cond, filter, map, Option, None, Some, Ok, Less, is_eq, arith, refl, sym, ap, subst, ◌∙◌, true≢false, IsPermutation}
 use Rattle.std.specs.List.{AllByRecursion}
 use Rattle.std.specs.FinMap.{find}
@@ -68,7 +68,7 @@ pub record Stay (old rest : List Row) (c : KeptCell) : Type 0 where
   pub found : (q : CellPlace) → same_place q (place_of c) ≡ false
       → find (slice_cmp nat_cmp) q (map (placed form_2) rest) ≡ find (slice_cmp nat_cmp) q (map (placed form_2) old)
 
--- the cell's row is put beside those that stay, and nothing else changes
+-- the cell's row is put alongside those that stay, and nothing else changes
 pub record Puts (old new : Database) (c : KeptCell) : Type 0 where
   pub schema : new.schema ≡ whole_schema
   pub sound : IsDatabase new
@@ -182,7 +182,7 @@ find_rest q id (r ∷ rows) gone = go (has_rowid id r) refl (find_rest q id rows
     go true e more = rw (e, gone r (inl refl) e) more
     go false e more = rw e (ap (cond (same_place q (place form_2 r)) (Some (placed form_2 r).1)) more)
 
--- The row with the id of a cell of this place is taken out.
+-- The row with the id of a cell of this place is removed.
 stay_without : (rows : List Row) (r : Row) (id : ℤ) (c : KeptCell) → AreCells form_2 rows → Apart form_2 rows → Has rows r
     → rowid r ≡ Int id → place form_2 r ≡ place_of c → Stay rows (without_rowid id rows) c
 stay_without rows r id c are apart has is same =
@@ -235,14 +235,14 @@ row_again : (id : ℤ) (c : KeptCell) (o : Option (List ℕ))
 row_again id c None = refl
 row_again id c (Some b) = refl
 
--- a cell is read of its row again
+-- a cell is read back from its row
 pub cell_again : (id : ℤ) (c : KeptCell) → cell2_of (stored_cell2 id c) ≡ c
 cell_again id c = λ i. record c { name = joined_again c.name i; row = row_again id c c.row i }
 
 pub cell_is_cell : (id : ℤ) (c : KeptCell) → cell_fits c ≡ true → IsCell form_2 (stored_cell2 id c)
 cell_is_cell id c fits = (ap (stored_cell2 id) (sym (cell_again id c)), ap cell_fits (cell_again id c) ∙ fits)
 
--- where no row has the place of the cell
+-- if no row has the place of the cell
 stay_all : (rows : List Row) (found : List Row) (id : ℤ) (c : KeptCell) → cell_fits c ≡ true → AreCells form_2 rows
     → AreConflicts (Some by_both) whole_schema.indexes cell2_table rows (stored_cell2 id c) found → found ≡ []
     → Stay rows rows c
@@ -275,7 +275,7 @@ module _ (limit : Option ℕ) (keys : Keys) (c : KeptCell) (fits : cell_fits c �
   abbrev task : Task
   task = record { limit = limit; keys = keys; schema = whole_schema; table = cell2_table; params = cell_row c }
 
-  -- what is put, and beside which rows
+  -- what is put, and alongside which rows
   record Put (next : Trees) : Type 0 where
     pub entries : next 0 ≡ db 0
     pub form : KeepsForm db next
@@ -348,7 +348,7 @@ module _ (limit : Option ℕ) (keys : Keys) (c : KeptCell) (fits : cell_fits c �
       (record (cell2_of r) { touched = c.touched; row = c.row }) (cast_int _)
       ∙ ap (stored_cell2 (id_in (column r 0))) (same_cell (cell2_of r) c same))
 
-  -- in the place of a row
+  -- in place of a row
   put_over : (id : ℤ) (there : Row) (more found : List Row) (w : Written)
       → AreConflicts (Some by_both) whole_schema.indexes cell2_table (db 5) (stored_cell2 id c) found
       → found ≡ there ∷ more
@@ -382,7 +382,7 @@ module _ (limit : Option ℕ) (keys : Keys) (c : KeptCell) (fits : cell_fits c �
       (subst (Applies whole_schema keys db _) trees applied)
       (stay_without (db 5) r rid c are apart sound.1 (ap rowid is.0) same)
 
-  -- whichever it is
+  -- either way
   put_tried : (id : ℤ) (w : Written) → rows.Tries task Abort (put_clause ∷ []) (stored_cell2 id c) db (Ok w)
       → Put w.trees
   put_tried id w (inl never) = absurd (let e = never.1 in cc)

@@ -49,7 +49,7 @@ told_once s t trees left tables sound is tells = is
     ∙ (ap (λ x. told_by x trees) (one_schema s t trees sound tells.holds.sound)
     ∙ tells_told t trees tables tells)
 
--- where a crash leaves the last commit and nothing else
+-- if a crash leaves the last commit and nothing else
 pub found_settled : (s : State) (t : KeptTables) → ((db : Trees) → s.may_leave db → db ≡ s.committed.trees)
     → s.now ≡ s.committed → Tells s.now.schema s.now.trees t
     → (left : Option KeptTables) → IsFound s left → left ≡ Some t

@@ -1,4 +1,4 @@
--- What the query on entries answers.
+-- The answer of the query on entries.
 use Rattle.std.proofs.Common.{◌≡◌, ◌≤◌, ◌&&◌, ℕ, pos, Bool, true, false, cond, min, List, [], ◌∷◌, map, filter, nat_lt, nat_le, Less, refl, sym, ap₂, subst, ◌∙◌, arith}
 use Rattle.std.specs.List.{AllByRecursion}
 use Rattle.std.proofs.lemmas.Bool.Decides.{nat_tests}
@@ -48,7 +48,7 @@ two_tests true true = refl
 two_tests true false = refl
 two_tests false b = refl
 
--- a number passes where it is within the range
+-- a number passes if it is within the range
 pub in_range : (after upto n : ℕ) → n ≤ 9223372036854775807
     → (is_true (binary (Compare Gt Binary) (Int (pos n)) (Int (pos (min after 9223372036854775807))))
     && (is_true (binary (Compare Le Binary) (Int (pos n)) (Int (pos (min upto 9223372036854775807)))) &&

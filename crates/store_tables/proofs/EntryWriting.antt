@@ -1,4 +1,4 @@
--- What the insertion of an entry makes of a store.
+-- What inserting an entry makes of a store.
 use Rattle.std.proofs.Common.{◌≡◌, ℕ, pos, Bool, true, false, not, [], ◌∷◌, None, Ok, arith, refl, ap, subst, ◌∙◌}
 use Rattle.sqlite_value.specs.declared.value.Value.TheVariants.{Null, Int, Text, Blob}
 use Rattle.sqlite_trees.specs.Tree.{Trees, put_row}
@@ -24,7 +24,7 @@ use Rattle.store_tables.specs.Stored.{stored_entry}
 use Rattle.store_tables.proofs.SameLemmas.{left_of}
 use Rattle.store_tables.proofs.WriteLemmas.{cast_int, cast_null, same_value, went}
 
--- the entry's row is put where its number was free, and nothing else changes
+-- the entry's row is put if its number was free, and nothing else changes
 pub record Inserts (old new : Database) (e : KeptEntry) : Type 0 where
   pub schema : new.schema ≡ whole_schema
   pub sound : IsDatabase new

@@ -1,4 +1,4 @@
--- The form: what reading it answers, and what writing it makes of a store.
+-- The form: the answer of reading it, and what writing it makes of a store.
 use Rattle.std.proofs.Common.{◌≡◌, ℕ, pos, Bool, true, List, [], ◌∷◌, map, filter, take, length, None, Ok, Err, Result, OnOk, IsPermutation, refl, sym, ap, subst, ◌∙◌, arith}
 use Rattle.std.proofs.lemmas.List.Sorted.{IsPermutation-sym, length_permutation}
 use Rattle.sqlite_value.specs.declared.value.Value.TheVariants.{Null, Int}

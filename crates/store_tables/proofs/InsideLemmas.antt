@@ -1,4 +1,4 @@
--- What a query leaves of a transaction that it runs in.
+-- What a query leaves of the transaction that it runs in.
 use Rattle.std.proofs.Common.{◌⊎◌, inl, inr, ℕ, List, None, Some, Option, Ok, Err, Result, IfOk, IfErr, IsTrue, ◌∙◌}
 use Rattle.sqlite_value.specs.Order.{Row}
 use Rattle.sqlite_schema.specs.declared.command.Returning.{Returning}
@@ -64,7 +64,7 @@ failed_keeps sql params old new e (inl (inl it)) = not_run_keeps sql params old 
 failed_keeps sql params old new e (inl (inr it)) = fails_keeps sql _ old new e it.0 it.0.returning it.2
 failed_keeps sql params old new e (inr it) = unchanged_keeps old new it.5
 
--- A query inside a transaction commits nothing, also where it fails.
+-- A query inside a transaction commits nothing, even if it fails.
 pub query_keeps : {X : Type 0} (sql : List ℕ) (params : Row) (old new : State) (show : X → List Row)
     (r : Result X Error) → IsTrue old.in_transaction
     → IfOk r (λ rows. Shown sql params old new (show rows))

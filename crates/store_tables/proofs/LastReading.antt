@@ -1,4 +1,4 @@
--- What the query on the last number answers.
+-- The answer of the query on the last number.
 use Rattle.std.proofs.Common.{◌≡◌, inl, inr, ◌-◌, Bool, true, List, [], ◌∷◌, ◌++◌, length, map, filter, take, reverse, slice_get, Less, refl, sym, ap, subst, ◌∙◌, IsPermutation}
 use Rattle.std.proofs.lemmas.List.{reverse-append}
 use Rattle.std.specs.List.{AllByRecursion}

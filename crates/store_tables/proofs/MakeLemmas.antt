@@ -1,4 +1,4 @@
--- What the making of the tables makes of a store.
+-- What making the tables makes of a store.
 use Rattle.std.proofs.Common.{◌≡◌, ◌⊎◌, inl, inr, ℕ, false, List, [], None, Some, Option, Ok, Err, Result, OnOk, sym, ap, subst, ◌∙◌, option_and_then}
 use Rattle.sqlite_schema.specs.declared.schema.Schema.{Schema}
 use Rattle.sqlite_schema.specs.declared.schema.Table.{Table}

@@ -31,7 +31,7 @@ abbrev or_else : Option CellContent → Option CellContent → Option CellConten
 or_else (Some v) o = Some v
 or_else None o = o
 
--- what stands in a place once cells of rows that are apart are put
+-- what is in a place after cells of rows with different places were put
 found_put : (q : CellPlace) (rows : List Row) (m : Cells) → Apart form_1 rows
     → get (put_cells m (map cell_of rows)) q
     ≡ or_else (find (slice_cmp nat_cmp) q (map (placed form_1) rows)) (get m q)
@@ -59,7 +59,7 @@ or_none : (o : Option CellContent) → or_else o None ≡ o
 or_none None = refl
 or_none (Some v) = refl
 
--- All cells of rows that are apart make their map.
+-- All cells of rows with different places make their map.
 all_put : (rows : List Row) → Apart form_1 rows
     → put_cells empty (map cell_of rows) ≡ from_entries {R = slice_cmp nat_cmp} (map (placed form_1) rows)
 all_put rows apart = same_map nat_list_cmp_total same_places _ _ (λ q.
@@ -130,7 +130,7 @@ all_numbered (r ∷ rows) each = ((cell_number (cell_of r) each.0.1).0, all_numb
 abbrev AreNumbered : List KeptCell → KeptTables → Type 0
 AreNumbered cells t = AllByRecursion (λ cell. 1 ≤ cell.touched) cells
 
--- The cells of a page are put, and then its rows are taken out.
+-- The cells of a page are put, and then its rows are removed.
 pub copies_page : (page : List Row) (last : ℤ) (cells : List KeptCell) (a b c : State)
     → cells ≡ map cell_of page → Turns (with_cells cells) (AreNumbered cells) a b → Clears last b c
     → Copies page last a c
@@ -173,7 +173,7 @@ no_page : (rows : List Row) → [] ≡ take 100 rows → rows ≡ []
 no_page [] e = refl
 no_page (r ∷ rows) e = absurd (cc)
 
--- where no row is the last, there is none
+-- if no row is the last, there is none
 pub no_last : (rows : List Row) → last_id rows ≡ None → rows ≡ []
 no_last rows none = elim (snoc rows) [
   | inl empty ↦ empty
@@ -235,7 +235,7 @@ carries_then a b c more one two = record {
   done = λ before t carried. two.done before t (one.carried before t carried);
 }
 
--- All cells are carried over, and then the form is written.
+-- All cells are moved, and then the form is written.
 pub moves_by : (a b c : State) → Carries a b false → Forms b c → Moves a c
 moves_by a b c carries forms = record {
   inside = record {

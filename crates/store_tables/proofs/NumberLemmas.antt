@@ -73,7 +73,7 @@ found_number form q content (r ∷ rows) each found = go (eq_by_cmp (slice_cmp n
         subst (λ c. IsEntryNumber c.touched) same (n.0, omega (arith, n.1))
     go false is more = more is
 
--- Tables that are told are kept ones.
+-- Told tables are kept tables.
 pub told_kept : (form : CellForm) (entries cells : List Row) → AreTold form entries cells
     → AreKept (tables_of form entries cells)
 told_kept form entries cells are = record {

@@ -1,4 +1,4 @@
--- Pages of the cells of form 1: what reading one answers, and what taking its rows out makes of a store.
+-- Pages of the cells of form 1: the answer of reading one, and what removing its rows makes of a store.
 use Rattle.std.proofs.Common.{◌≡◌, inl, inr, ℕ, ℤ, Bool, true, false, not, cond, ◌&&◌, List, [], ◌∷◌, ◌++◌, map, filter, take, option_map, None, Some, Ok, Err, Result, OnOk, IfOk, Less, IsTrue, IsPermutation, refl, sym, ap, subst, ◌∙◌, arith, true≢false, is_le}
 use Rattle.std.specs.Ordering.{ordering_reverse}
 use Rattle.std.specs.List.{AllByRecursion, list_all}
@@ -96,7 +96,7 @@ pub page_by : {X : Type 0} (old new : State) (show : X → List Row) (r : Result
 page_by old new show (Ok rows) inside h = reads_page old new (show rows) inside h
 page_by old new show (Err e) inside h = tt
 
--- ---- taking out
+-- ---- removal
 
 abbrev clears_row : ℤ → Row → Bool
 clears_row last = passes 1 clear_query.filter clear_query.project clear_query.order no_limit (Int last ∷ [])
@@ -172,7 +172,7 @@ module _ (last : ℤ) (page rest : List Row) (ordered : List Output)
   abbrev gone : List ℤ
   gone = ids_of (map (λ (o : Output). o.1) ordered)
 
-  -- a row of the page is taken out
+  -- a row of the page is removed
   taken : (r : Row) → Has page r → IsCell form_1 r → stays gone r ≡ false
   taken r has is = go (stays gone r) refl
     where
@@ -281,7 +281,7 @@ pub all_front : {X : Type 0} (P : X → Type 0) (xs ys : List X) → AllByRecurs
 all_front P [] ys all = (tt, all)
 all_front P (x ∷ xs) ys all = let it = all_front P xs ys all.1 in ((all.0, it.0), it.1)
 
--- the rows that are taken out of those with a page in front, up to the page's last id, are the page
+-- if a page comes first, the rows removed up to the page's last id are the page
 page_passed : (last : ℤ) (page rest : List Row) → AreCells form_1 (page ++ rest) → last_id page ≡ Some last
     → filter (clears_row last) (page ++ rest) ≡ page
 page_passed last page rest are is =

@@ -1,5 +1,5 @@
--- The places of cells: no two rows of a table of cells have one place, so their map has each of them, in the
--- order of places.
+-- The places of cells: no two rows of a table of cells have the same place, so their map has each of them, in the order
+-- of places.
 use Rattle.std.proofs.Common.{◌≡◌, ℕ, ℤ, pos, Bool, true, false, ◌&&◌, cond, T, List, [], ◌∷◌, length, map, None, Some, Ordering, Less, Equal, Greater, is_eq, is_lt, refl, sym, ap, ap₂, inl, inr, subst, subst₂, ◌∙◌, arith, true≢false, IsPermutation}
 use Rattle.std.specs.List.{AllByRecursion}
 use Rattle.std.specs.Ordering.{is_ne, eq_by_cmp, int_cmp, nat_cmp, ordering_then}
@@ -66,7 +66,7 @@ keys_agree m n s t = ap₂ (λ a b. a && (b && true)) (int_equal m n) (text_equa
 abbrev pub by_place : List ℕ
 by_place = 1 ∷ 2 ∷ []
 
--- it tells whether two cells of form 1 have one place
+-- it says whether two cells of form 1 have the same place
 pub agree_is : (a b : Row) → IsCell form_1 a → IsCell form_1 b
     → agree plain by_place a by_place b ≡ same_place (place form_1 a) (place form_1 b)
 unfolding first_key
@@ -96,7 +96,7 @@ parts_agree m n s t =
 abbrev pub by_both : List ℕ
 by_both = 1 ∷ 2 ∷ 3 ∷ []
 
--- and so of two cells of form 2, by the parts of their names
+-- and the same for two cells of form 2, by the parts of their names
 pub agree2_is : (a b : Row) → IsCell form_2 a → IsCell form_2 b
     → agree plain by_both a by_both b ≡ same_place (place form_2 a) (place form_2 b)
 unfolding first_key
@@ -106,7 +106,7 @@ agree2_is a b p q =
     ≡ same_place (place form_2 a) (place form_2 b)) (sym q.0)
     (parts_agree (cell2_of a).kind (cell2_of b).kind (cell2_of a).name (cell2_of b).name))
 
--- ---- no two rows have one place
+-- ---- no two rows have the same place
 
 abbrev pub Apart : CellForm → List Row → Type 0
 Apart form [] = Unit {0}
@@ -122,7 +122,7 @@ pub none_true : (b : Bool) → (b ≡ true → ⊥) → b ≡ false
 none_true true h = absurd (h refl)
 none_true false h = refl
 
--- A key of the table that tells places apart, and the ids of its rows.
+-- A key of the table that distinguishes places, and the ids of its rows.
 pub record Keyed (form : CellForm) (key : List ℕ) : Type 0 where
   pub agrees : (a b : Row) → IsCell form a → IsCell form b
       → agree plain key a key b ≡ same_place (place form a) (place form b)
@@ -217,7 +217,7 @@ module _ (form : CellForm) where
       (λ b. cond b (Some (placed form s).1) (find (slice_cmp nat_cmp) q (map (placed form) rows))) all.0
       ∙ none_found q rows all.1
 
-  -- The entries of the map of rows that are apart are what the rows put.
+  -- The entries of the map of rows with different places are what the rows put.
   pub entries_same : (rows : List Row) → Apart form rows
       → IsPermutation (map (placed form) rows)
       (entries (from_entries {R = slice_cmp nat_cmp} (map (placed form) rows)))

@@ -1,4 +1,4 @@
--- What a query over one table answers: what it shows of the rows that pass, in an order that ORDER BY allows.
+-- The answer of a query over one table: what it shows of the rows that pass, in an order that ORDER BY allows.
 use Rattle.std.proofs.Common.{◌≡◌, ℕ, Bool, true, false, cond, List, [], ◌∷◌, ◌++◌, map, filter, flat_map, None, Less, refl, ap, subst, ◌∙◌, IsPermutation}
 use Rattle.std.specs.List.{list_all}
 use Rattle.sqlite_value.specs.declared.keys.Key.{Key}
@@ -51,7 +51,7 @@ module _ (t : ℕ) (filters project : List Term) (order : List (Term × Key)) (l
     kept_is = a.distinct ∙ (ap (map (output asked)) (a.grouped ∙ staged_is (overlay db [] t))
         ∙ map-map (output asked) env _)
 
-    -- The answer is that of a list of outputs in strict order which has the same outputs.
+    -- The answer is that of a list of outputs in strict order with the same outputs.
     pub answer_is : (all : List Output) → IsAscending (λ x y. output_cmp asked x y ≡ Less) all
         → IsPermutation all (map shown (filter passes (overlay db [] t)))
         → (chain : (xs ys zs : List Output) → IsPermutation xs ys → IsPermutation ys zs → IsPermutation xs zs)

@@ -1,4 +1,4 @@
--- What tests of rows say, as facts on each row.
+-- The tests of rows as facts on each row.
 use Rattle.std.proofs.Common.{◌≡◌, ◌⊎◌, inl, inr, Bool, true, false, cond, ◌&&◌, List, [], ◌∷◌, None, Some, Ordering, Less, Equal, Greater, is_lt, ℕ, length, refl, sym, ap, ◌∙◌, arith, option_and_then}
 use Rattle.std.specs.List.{AllByRecursion, list_all}
 use Rattle.sqlite_value.specs.Order.{Row, column, value_cmp}
@@ -218,7 +218,7 @@ none_count : count no_schema ≡ 0
 unfolding count
 none_count = refl
 
--- a schema that is one of the five isn't another one of them
+-- a schema that is one of the five isn't another of them
 is_not : (schema s other : Schema) (m n : ℕ) → schema ≡ s → count s ≡ m → count other ≡ n → (m ≡ n → ⊥)
     → same_schema schema other ≡ false
 is_not schema s other m n is p q differ = not_same schema other

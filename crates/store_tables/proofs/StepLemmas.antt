@@ -1,4 +1,4 @@
--- The rows of entries and of cells of form 2, and what an insertion and a putting make of what they tell.
+-- The rows of entries and of cells of form 2, and how inserting an entry and putting a cell change what they tell.
 use Rattle.std.proofs.Common.{◌≡◌, ◌≤◌, ◌<◌, ◌+◌, ℕ, ℤ, pos, Bool, true, false, not, cond, ◌&&◌, ◌||◌, List, [], ◌∷◌, ◌++◌, map, Option, Some, Ordering, Less, Equal, Greater, is_eq, refl, sym, ap, subst, ◌∙◌, arith, true≢false}
 use Rattle.std.specs.List.{AllByRecursion}
 use Rattle.std.specs.FinMap.{find, from_entries, get, get-from_entries, get-insert, nat_cmp-IsAntisymmetric, same_map, slice_cmp-IsAntisymmetric}
@@ -31,8 +31,8 @@ use Rattle.store_tables.proofs.PlaceLemmas.{Apart, apart_rows, by_both, by_place
 use Rattle.store_tables.proofs.RowLemmas.{AreCells, AreEntries, AreTold, IsCell, IsEntry, told_as_back, told_as_is}
 use Rattle.store_tables.proofs.SameLemmas.{left_of}
 
--- The database has all four tables and obeys its schema, and its rows of entries and of cells of form 2 are
--- those of these tables.
+-- The database has all four tables and obeys its schema, and its rows of entries and of cells of form 2 are those of
+-- these tables.
 pub record HasRows (db : Database) (t : KeptTables) : Type 0 where
   pub whole : db.schema ≡ whole_schema
   pub sound : IsDatabase db
@@ -51,7 +51,7 @@ hold_rows db t h =
     let it = told_as_is form_2 (db.trees 0) (db.trees 5) t h.told in
     record { whole = h.whole; sound = h.sound; told = it.0; is = it.1 }
 
--- ---- no two cells have one place
+-- ---- no two cells have the same place
 
 not_not : (a : Bool) → not (true && a) ≡ true → a ≡ false
 not_not true h = absurd (cc)
@@ -66,7 +66,7 @@ rows_apart db t h =
     apart_rows form_2 by_both keyed_2 (db.trees 5)
     (λ x has. not_not _ (left_of _ _ (all_has _ (db.trees 5) x unique.1.1.1.0 has))) h.told.cells
 
--- and so of those of form 1
+-- and the same for those of form 1
 pub first_apart : (db : Database) → db.schema ≡ whole_schema → IsDatabase db → AreCells form_1 (db.trees 1)
     → Apart form_1 (db.trees 1)
 first_apart db whole sound are =
@@ -143,7 +143,7 @@ never_both : (q a b : CellPlace) → same_place a b ≡ false → same_place q b
 never_both q a b apart p r = true≢false
     (sym (itself a) ∙ (ap (same_place a) (sym (tied q a r) ∙ tied q b p) ∙ apart))
 
--- what stands in a place once a row is put
+-- what is in a place after a row was put
 find_put : (q : CellPlace) (new : Row) (rows : List Row)
     → AllByRecursion (λ s. same_place (place form_2 new) (place form_2 s) ≡ false) rows → is_taken rows new ≡ false
     → find (slice_cmp nat_cmp) q (map (placed form_2) (put_row new rows))
@@ -175,7 +175,7 @@ one_way : (b : Bool) (x : Option CellContent) (y z : Option CellContent) → (b 
 one_way true x y z same = refl
 one_way false x y z same = same refl
 
--- The map with the cell.
+-- The map after the cell was put.
 cells_put : (old rest new : List Row) (id : ℤ) (c : KeptCell) → Stay old rest c
     → new ≡ put_row (stored_cell2 id c) rest → is_taken rest (stored_cell2 id c) ≡ false
     → put_cell (from_entries {R = slice_cmp nat_cmp} (map (placed form_2) old)) c

@@ -1,4 +1,4 @@
--- What a transaction leaves, whether it is committed or taken back.
+-- What a transaction leaves, whether it is committed or rolled back.
 use Rattle.std.proofs.Common.{◌≡◌, ◌⊎◌, inl, inr, false, Option, Some, IsTrue, sym, ap, ◌∙◌, true≢false}
 use Rattle.sqlite_trees.specs.Tree.{Trees}
 use Rattle.sqlite.specs.declared.error.Error.{Error}
@@ -17,7 +17,7 @@ undone_by old mid new kept back = record {
   now = λ live. (back.undone live).0 ∙ kept.committed (back.was_open live);
 }
 
--- inside a transaction a commit that fails takes it back
+-- inside a transaction a commit that fails rolls it back
 pub failed_undone : (old mid new : State) (e : Error) → IsInside old mid → FailsToCommit mid new e
     → IsUndone old new
 failed_undone old mid new e inside (inl fails) =
@@ -25,7 +25,7 @@ failed_undone old mid new e inside (inl fails) =
     fails.3
 failed_undone old mid new e inside (inr (is, ended, same)) = absurd (true≢false (sym inside.mode ∙ ended))
 
--- Between transactions what is undone is as it was.
+-- Between transactions the state after a rollback is the state before.
 pub undone_now : (old new : State) → (IsTrue old.is_open → old.now ≡ old.committed) → IsUndone old new
     → IsTrue new.is_open → new.now ≡ old.now
 undone_now old new settled undone live = undone.now live ∙ sym (settled (undone.was_open live))
@@ -48,7 +48,7 @@ made_seen old new left crash found = elim (crash found.0 found.2) [
   )
 ]
 
--- A transaction that was taken back, or that was committed and changed nothing of what is told.
+-- A transaction that was rolled back, or that was committed and didn't change what is told.
 pub made_steady : (old new : State) → (HasCleanDisk new → IsTrue old.is_open → old.now ≡ old.committed)
     → (old.in_transaction ≡ false → new.in_transaction ≡ false)
     → (HasCleanDisk new → IsUndone old new
@@ -65,7 +65,7 @@ made_steady old new settled mode went survives = record {
   crash = λ clean left found. made_seen old new left (survives.crash clean) found;
 }
 
--- a part of a transaction that went on, and then one that kept the commit
+-- a part of a transaction that continued, and then one that kept the commit
 pub keeps_then : (a b c : State) → IsInside a b → KeepsCommit b c → KeepsCommit a c
 keeps_then a b c inside kept = record
     { was_open = λ _. inside.was_open; committed = λ live. kept.committed live ∙ inside.committed }

@@ -1,4 +1,4 @@
--- What comparisons of SQL say of numbers and texts.
+-- What SQL's comparisons say of numbers and texts.
 use Rattle.std.proofs.Common.{◌≡◌, ◌≤◌, ℕ, pos, Bool, true, false, min, nat_lt, nat_le, Some, is_gt, is_le, refl, ap, ◌∙◌, arith}
 use Rattle.std.specs.Ordering.{int_cmp}
 use Rattle.std.proofs.lemmas.Bool.Decides.{nat_tests}
@@ -27,7 +27,7 @@ pub is_at_most : (s a : ℕ) → is_true (binary (Compare Le Binary) (Int (pos s
 unfolding binary
 is_at_most s a = told_truth _ ∙ (ap is_le (value_cmp-Int (pos s) (pos a)) ∙ at_most_is s a)
 
--- a bound above all numbers may be lowered to their greatest
+-- a bound above all numbers may be lowered to the greatest number
 pub lower_bound : (a s : ℕ) → s ≤ 9223372036854775807 → nat_lt (min a 9223372036854775807) s ≡ nat_lt a s
 lower_bound a s low = grind (arith, nat_tests)
 

@@ -1,4 +1,4 @@
--- What every write has in common.
+-- What all writes have in common.
 use Rattle.std.proofs.Common.{◌≡◌, ◌⊎◌, inl, inr, ℤ, Bool, true, false, cond, Result, Ok, Err, refl}
 use Rattle.sqlite_value.specs.declared.value.Value.{Value}
 use Rattle.sqlite_value.specs.declared.value.Value.TheVariants.{Null, Int}
@@ -6,7 +6,7 @@ use Rattle.sqlite_sql.specs.Ops.{unary}
 use Rattle.sqlite_schema.specs.declared.schema.Kind.TheVariants.{Integer}
 use Rattle.sqlite_rules.specs.Cast.{cast}
 
--- a part that gave a value didn't stop on the way
+-- a part that returned a value didn't stop on the way
 pub went : {B E R : Type 0} {b : B} {Stops : E → Type 0} → ((stop : E) × Stops stop × (Ok b ≡ Err stop)) ⊎ R
     → R
 went (inl stopped) = absurd (let e = stopped.2 in cc)
@@ -19,7 +19,7 @@ either : (b : Bool) (x : Value) → cond b x x ≡ x
 either true x = refl
 either false x = refl
 
--- an integer and NULL stay as they are in a column of integers
+-- an integer and NULL are unchanged in a column of integers
 pub cast_null : cast Integer Null ≡ Null
 unfolding unary
 cast_null = either _ Null

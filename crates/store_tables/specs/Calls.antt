@@ -51,13 +51,12 @@ pub record IsReady (s : State) : Type 0 where
   pub whole : IsWhole s
   pub second : says_second (s.now.trees 4) ≡ true
 
--- What an open connection would tell of the trees that it sees, if these tell anything.
+-- What an open connection would tell of the trees that it sees, if they tell anything.
 abbrev pub IsSeen : State → Option KeptTables → Type 0
 IsSeen s left = IsTrue s.is_open
     × ((t : KeptTables) → told_by s.now.schema s.now.trees ≡ Some t → left ≡ Some t)
 
--- Between transactions a call changes nothing of what is told, if anything is, and adds nothing to what a
--- crash may leave.
+-- Between transactions a call doesn't change what is told, if anything is, and adds nothing to what a crash may leave.
 pub record IsSteady (old new : State) : Type 0 where
   pub clean : doubt old.is_clean ≤ doubt new.is_clean
   pub mode : old.in_transaction ≡ false → new.in_transaction ≡ false
@@ -79,15 +78,15 @@ pub record IsInside (old new : State) : Type 0 where
 abbrev pub KeepsForm : Trees → Trees → Type 0
 KeepsForm old new = (new 1 ≡ old 1) × (new 4 ≡ old 4)
 
--- Inside a transaction the entries and the cells of form 2 become what this makes of them, where a condition
--- holds of them.
+-- Inside a transaction the entries and the cells of form 2 become what this function makes of them, if a condition
+-- holds for them.
 pub record Turns (change : KeptTables → KeptTables) (Fits : KeptTables → Type 0) (old new : State) : Type 0
   where
     pub inside : IsInside old new
     pub holds : (t : KeptTables) → Fits t → Holds old.now.schema old.now.trees t
         → Holds new.now.schema new.now.trees (change t) × KeepsForm old.now.trees new.now.trees
 
--- The tables with an entry behind the others.
+-- The tables with an entry added after the others.
 abbrev pub with_entry : KeptEntry → KeptTables → KeptTables
 with_entry e t = record { entries = t.entries ++ e ∷ []; cells = t.cells }
 
@@ -99,48 +98,48 @@ with_cell c t = record { entries = t.entries; cells = put_cell t.cells c }
 abbrev pub with_cells : List KeptCell → KeptTables → KeptTables
 with_cells list t = record { entries = t.entries; cells = put_cells t.cells list }
 
--- An entry has the number behind the last.
+-- An entry has the number that follows the last.
 abbrev pub IsNext : KeptEntry → KeptTables → Type 0
 IsNext e t = e.seq ≡ last_number t + 1
 
--- What a transaction of a batch commits.
+-- What the transaction of a batch commits.
 abbrev pub IsKept : Batch → State → Trees → Type 0
 IsKept batch s trees =
     IsTrue s.is_open × ((t : KeptTables) → IsNext batch.entry t → Tells s.now.schema s.now.trees t
     → (schema : Schema) × Tells schema trees (with_batch batch t))
 
--- The row of an entry's number, or none where there is no entry.
+-- The row with an entry's number, or no row if there is no entry.
 abbrev pub number_row : Option KeptEntry → List Row
 number_row None = []
 number_row (Some e) = (Int (pos e.seq) ∷ []) ∷ []
 
--- That of the last entry.
+-- The row with the last entry's number.
 abbrev pub last_rows : KeptTables → List Row
 last_rows t = number_row (slice_get t.entries (length t.entries - 1))
 
 -- ---- the making of the tables
 
--- Not all tables were made.
+-- Not all tables are made yet.
 abbrev pub IsBegun : Schema → Type 0
 IsBegun schema = (schema ≡ no_schema) ⊎ (schema ≡ entry_schema)
 
--- The tables of form 1 were made, or the table of the form too.
+-- The tables of form 1 are made, and perhaps the table of the form.
 abbrev pub IsFirst : Schema → Type 0
 IsFirst schema = (schema ≡ both_schema) ⊎ (schema ≡ store_schema)
 
--- Inside a transaction tables are made, which changes nothing of what is told.
+-- Inside a transaction tables are made, which doesn't change what is told.
 pub record Makes (after : Schema) (old new : State) : Type 0 where
   pub inside : IsInside old new
   pub schema : new.now.schema ≡ after
   pub told : told_by new.now.schema new.now.trees ≡ told_by old.now.schema old.now.trees
 
--- What a transaction commits that changes nothing of what is told, if anything is.
+-- What is committed by a transaction that doesn't change what is told, if anything is.
 abbrev pub IsMade : State → Trees → Type 0
 IsMade s trees =
     IsTrue s.is_open × ((t : KeptTables) → told_by s.now.schema s.now.trees ≡ Some t
     → (schema : Schema) × IsSound schema trees × (told_by schema trees ≡ Some t))
 
--- A transaction was taken back.
+-- A transaction was rolled back.
 pub record IsUndone (old new : State) : Type 0 where
   pub was_open : IsTrue new.is_open → IsTrue old.is_open
   pub now : IsTrue new.is_open → new.now ≡ old.committed
@@ -155,7 +154,7 @@ pub record ReadsForm (old new : State) (rows : List Row) : Type 0 where
   pub none : rows ≡ [] → new.now.trees 4 ≡ []
   pub second : rows ≡ second_row ∷ [] → says_second (new.now.trees 4) ≡ true
 
--- Inside a transaction the form is written, where neither a form nor a cell of form 1 is there.
+-- Inside a transaction the form is written, if there is neither a form nor a cell of form 1.
 pub record Forms (old new : State) : Type 0 where
   pub inside : IsInside old new
   pub told : (t : KeptTables) → Holds old.now.schema old.now.trees t → old.now.trees 4 ≡ []
@@ -177,7 +176,7 @@ pub record ReadsPage (old new : State) (rows : List Row) : Type 0 where
   pub now : old.now.schema ≡ whole_schema → new.now ≡ old.now
   pub page : old.now.schema ≡ whole_schema → AreFirst (old.now.trees 1) → rows ≡ take 100 (old.now.trees 1)
 
--- Inside a transaction the first cells of form 1 are taken out, up to this id.
+-- Inside a transaction the first cells of form 1 are removed, up to this id.
 pub record Clears (last : ℤ) (old new : State) : Type 0 where
   pub inside : IsInside old new
   pub left : (page rest : List Row) → old.now.schema ≡ whole_schema → AreFirst (page ++ rest)
@@ -186,7 +185,7 @@ pub record Clears (last : ℤ) (old new : State) : Type 0 where
   pub holds : (t : KeptTables) → Holds old.now.schema old.now.trees t
       → Holds new.now.schema new.now.trees t
 
--- Of the cells of form 1 that were there, the first are in form 2, and the others are left.
+-- Of the cells of form 1 at the start, the first are in form 2, and the others are still in form 1.
 pub record Carried (before : Trees) (now : Database) (t : KeptTables) : Type 0 where
   pub are : AreFirst (before 1)
   pub front : List Row
@@ -197,13 +196,13 @@ pub record Carried (before : Trees) (now : Database) (t : KeptTables) : Type 0 w
   pub holds : Holds now.schema now.trees
       (record { entries = t.entries; cells = put_cells empty (map cell_of front) })
 
--- Inside a transaction a page of cells of form 1 that was read is carried over.
+-- Inside a transaction a page of cells of form 1 that was read is moved.
 pub record Copies (page : List Row) (last : ℤ) (old new : State) : Type 0 where
   pub inside : IsInside old new
   pub carried : (before : Trees) (t : KeptTables) → Carried before old.now t
       → page ≡ take 100 (old.now.trees 1) → last_id page ≡ Some last → Carried before new.now t
 
--- Inside a transaction cells of form 1 are carried over. Where this says that no more are left, none is.
+-- Inside a transaction cells of form 1 are moved. If the result says that no more are left, none is.
 pub record Carries (old new : State) (more : Bool) : Type 0 where
   pub inside : IsInside old new
   pub carried : (before : Trees) (t : KeptTables) → Carried before old.now t → Carried before new.now t

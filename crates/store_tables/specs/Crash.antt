@@ -7,7 +7,7 @@ use Rattle.sqlite.specs.State.{State, HasCleanDisk}
 use Rattle.lei_outside.specs.Keeping.{KeptTables}
 use Rattle.store_tables.specs.Told.{told_by, told_in}
 
--- What an open would tell of trees that a crash may leave, by the schema that they list.
+-- What an open would tell of trees that a crash may leave, by the schema listed in them.
 abbrev pub IsFound : State → Option KeptTables → Type 0
 IsFound s left = (trees : Trees) × (schema : Schema) × s.may_leave trees × IsSound schema trees
     × (left ≡ told_by schema trees)

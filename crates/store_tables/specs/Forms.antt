@@ -15,7 +15,7 @@ first_store entries cells = record {
   cells2 = [];
 }
 
--- In form 2 it says so, and no cell of form 1 is left.
+-- In form 2 the form is written, and no cell of form 1 is left.
 abbrev pub second_store : List Row → List (ℤ × KeptCell) → StoredRows
 second_store entries cells = record {
   entries = entries;

@@ -10,13 +10,13 @@ use Rattle.lei_outside.specs.declared.keeper.KeptCell.{KeptCell}
 use Rattle.store_statements.specs.Names.{lei_of, rest_of}
 use Rattle.store_tables.specs.Same.{same_row}
 
--- The row of an entry. Its number is the row's id, and NULL stands in the number's own column.
+-- The row of an entry. Its number is the row's id, and the number's own column has NULL.
 abbrev pub stored_entry : KeptEntry → Row
 stored_entry e = Int (pos e.seq) ∷ Null ∷ Int (pos e.kind) ∷ Text e.office ∷ Int (pos e.number) ∷ Int e.moment
     ∷ Int (pos e.rules)
     ∷ Blob e.body ∷ Blob e.answer ∷ []
 
--- The row of a cell in form 1, with an id that says nothing.
+-- The row of a cell in form 1, with an id that has no meaning.
 abbrev pub stored_cell : ℤ → KeptCell → Row
 stored_cell id c = Int id ∷ Int (pos c.kind) ∷ Text c.name ∷ Int (pos c.touched) ∷ or_null Blob c.row ∷ []
 
@@ -26,7 +26,7 @@ stored_cell2 id c = Int id ∷ Int (pos c.kind) ∷ Text (lei_of c.name) ∷ Tex
     ∷ Int (pos c.touched)
     ∷ or_null Blob c.row ∷ []
 
--- ---- what a row is read as, where it may be no row of an entry or a cell
+-- ---- what a row is read as, even if it isn't a row of an entry or a cell
 
 abbrev natural : ℤ → ℕ
 natural (pos n) = n
@@ -39,7 +39,7 @@ abbrev blob_of : Value → Option (List ℕ)
 blob_of (Blob b) = Some b
 blob_of _ = None
 
--- The entry that is read of a row.
+-- The entry that is read from a row.
 abbrev pub entry_of : Row → KeptEntry
 entry_of row = record {
   seq = number_at row 0;
@@ -52,7 +52,7 @@ entry_of row = record {
   answer = bytes (column row 8);
 }
 
--- The cell that is read of a row in form 1.
+-- The cell that is read from a row in form 1.
 abbrev pub cell_of : Row → KeptCell
 cell_of row = record {
   kind = number_at row 1;
@@ -61,7 +61,7 @@ cell_of row = record {
   row = blob_of (column row 4);
 }
 
--- The cell that is read of a row in form 2. Its name is both parts put together.
+-- The cell that is read from a row in form 2. Its name is both parts joined.
 abbrev pub cell2_of : Row → KeptCell
 cell2_of row = record {
   kind = number_at row 1;
@@ -70,16 +70,16 @@ cell2_of row = record {
   row = blob_of (column row 5);
 }
 
--- How cells stand in a table: the row of a cell, and the cell that is read of a row.
+-- How cells are stored in a table: the row of a cell, and the cell that is read from a row.
 pub record CellForm : Type 0 where
   pub stored : ℤ → KeptCell → Row
   pub read : Row → KeptCell
 
--- The cells of form 1, with their names whole.
+-- The cells of form 1, with whole names.
 abbrev pub form_1 : CellForm
 form_1 = record { stored = stored_cell; read = cell_of }
 
--- The cells of form 2, with their names in two parts.
+-- The cells of form 2, with names in two parts.
 abbrev pub form_2 : CellForm
 form_2 = record { stored = stored_cell2; read = cell2_of }
 
@@ -98,12 +98,12 @@ entry_fits e = is_entry_number e.seq &&
 abbrev pub cell_fits : KeptCell → Bool
 cell_fits c = is_entry_number c.touched && nat_lt c.kind (2 ^ 8)
 
--- The row is the one of the entry that is read of it, and the entry fits.
+-- The row is that of the entry that is read from it, and the entry fits.
 abbrev pub is_entry : Row → Bool
 is_entry row = same_row row (stored_entry (entry_of row)) && entry_fits (entry_of row)
 
--- The row is the one of the cell that is read of it, and the cell fits. So in form 2 no first part is longer
--- than an LEI, and nothing follows one that is shorter.
+-- The row is that of the cell that is read from it, and the cell fits. So in form 2 no first part is longer than an
+-- LEI, and nothing follows a shorter one.
 abbrev pub is_cell : CellForm → Row → Bool
 is_cell form row =
     same_row row (form.stored (id_in (column row 0)) (form.read row)) && cell_fits (form.read row)
@@ -114,6 +114,6 @@ is_cell form row =
 abbrev pub form_row : Row → Row
 form_row row = column row 0 ∷ column row 2 ∷ []
 
--- What the one row of a store of form 2 says.
+-- What the only row of the form's table says in a store of form 2.
 abbrev pub second_row : Row
 second_row = Int (pos 1) ∷ Int (pos 2) ∷ []

@@ -19,8 +19,8 @@ pub record StoredRows : Type 0 where
   pub forms : List Row
   pub cells2 : List Row
 
--- The rows under the schema. A table that isn't made has none. Under any schema but the five there are none
--- to speak of.
+-- The rows under the schema. A table that isn't made has none. Under any schema other than the five, the rows aren't
+-- defined.
 abbrev pub rows_in : Schema → Trees → Option StoredRows
 rows_in schema trees =
     if same_schema schema whole_schema
@@ -53,8 +53,8 @@ abbrev pub tables_of : CellForm → List Row → List Row → KeptTables
 tables_of form entries cells =
     record { entries = map entry_of entries; cells = from_entries (map (placed form) cells) }
 
--- The tables that rows tell by a form: field by field what they have, and none where some row has no entry or
--- no cell.
+-- The tables that rows tell by a form: field by field what they have, and none if some row doesn't have an entry or a
+-- cell.
 abbrev pub told_as : CellForm → List Row → List Row → Option KeptTables
 told_as form entries cells = if are_told form entries cells then Some (tables_of form entries cells) else None
 
@@ -68,15 +68,15 @@ abbrev pub says_second : List Row → Bool
 says_second (row ∷ []) = same_row (form_row row) second_row
 says_second _ = false
 
--- A store of form 1: neither the form nor a cell of form 2 was written.
+-- A store of form 1: neither the form nor a cell of form 2 has been written.
 abbrev pub is_first : StoredRows → Bool
 is_first rows = is_none rows.forms && is_none rows.cells2
 
--- A store of form 2: it says so, and no cell of form 1 is left.
+-- A store of form 2: its form is written, and no cell of form 1 is left.
 abbrev pub is_second : StoredRows → Bool
 is_second rows = says_second rows.forms && is_none rows.cells
 
--- The tables that the rows tell, by the form of the store. A store of neither form tells none.
+-- The tables that the rows tell, by the form of the store. A store of neither form tells nothing.
 abbrev pub told_of : StoredRows → Option KeptTables
 told_of rows =
     if is_first rows then told_as form_1 rows.entries rows.cells

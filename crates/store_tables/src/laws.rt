@@ -11,13 +11,13 @@ ghost use Rattle.store_statements.specs.Names.{AreParts, lei_of, rest_of};
 ghost use Rattle.store_tables.specs.Forms.{first_store, second_store};
 ghost use Rattle.store_tables.specs.Told.{told_by, told_of};
 
-/// Tables that a store tells are kept ones: the numbers of the entries are at least 1 and rise, and each cell
-/// has the number of an entry.
+/// Tables that a store tells are kept tables: the numbers of the entries are at least 1 and rise, and each cell has the
+/// number of an entry.
 pub fn told_tables_are_kept()
     ensures { (schema : Schema) (trees : Trees) (t : KeptTables) → told_by schema trees ≡ Some t → AreKept t }
 {}
 
-/// A name is its two parts put together, and no other two texts that fit make it.
+/// A name is its two parts joined, and no other two texts that fit form it.
 pub fn names_are_split_once()
     ensures parts { (name : List ℕ) → AreParts (lei_of name) (rest_of name)
         × (lei_of name ++ rest_of name ≡ name) }

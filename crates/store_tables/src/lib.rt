@@ -1,4 +1,4 @@
-//! What the rows of a store tell as kept tables, and what the statements make of them.
+//! The kept tables that the rows of a store tell, and what the statements make of them.
 #![tactic(auto)]
 
 pub mod laws;

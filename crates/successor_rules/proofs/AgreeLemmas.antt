@@ -47,7 +47,7 @@ module _ (nexts : Nexts) (own : List ℕ) where
             (rest.0, or_right (bytes_eq rest.0 x) (has xs rest.0) rest.1, rest.2)
       ]
 
--- one names no more than the other
+-- one names at most what the other names
 abbrev Fewer : Nexts → Nexts → Type 0
 Fewer less more = (lei : List ℕ) → Within (less lei) (more lei)
 
@@ -97,7 +97,7 @@ module _ (less more : Nexts) (own : List ℕ) (fewer : Fewer less more) where
       let many = ltb-true 200 (length (others 201 less own first)) wide in
       lt-ltb 200 (length (others 201 more own first)) (omega arith)
 
--- ---- the same is named by the LEIs that are reached
+-- ---- the reached LEIs name the same
 
 module _ (one other : Nexts) (own : List ℕ) where
   next-same : (xs : List (List ℕ)) → ((x : List ℕ) → has xs x ≡ true → one x ≡ other x) → next_level one own xs ≡ next_level other own xs
@@ -175,7 +175,7 @@ module _ (answers : SeenNexts) (nexts : Nexts) (key : List ℕ → CellKey) (own
       by Seen.Empty is = record { each = λ y at. ap (λ l. has l y) (agree lei (ap lacks_nexts is)) ∙ at }
       by Seen.Missing is = record { each = λ y at. absurd (false≢true (sym (ap (λ s. has (held_nexts s) y) is) ∙ at)) }
 
-  -- the view reports what becomes of the walk, or a cell that it lacks of an LEI in the levels that it knows
+  -- the view reports the result of the walk, or a cell that it lacks of an LEI in the levels that it knows
   pub agreeing-tells :
       (spread_over answers key own first ≡ spread_out nexts own first)
       ⊎ ((lei : List ℕ) × (lacks_nexts (answers lei) ≡ true) × (has (levels 201 (known_nexts answers) own first) lei ≡ true)

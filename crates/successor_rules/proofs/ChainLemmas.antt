@@ -9,12 +9,12 @@ use Rattle.successor_rules.specs.Chains.{AllEnd, EndsClear, EndsIn, IsTurned, Le
 
 -- ---- no way comes back
 
--- a way goes on by one more step
+-- a way continues by one more step
 one_more : (n : ℕ) (nexts : Nexts) (from to next : List ℕ) → Leads n nexts from to → Contains (nexts to) next → Leads (suc n) nexts from next
 one_more zero nexts from to next is at = (next, subst (λ lei. Contains (nexts lei) next) (sym is) at, refl)
 one_more (suc n) nexts from to next way at = (way.0, way.1, one_more n nexts way.0 to next way.2 at)
 
--- a way that comes back is one from its second member to that member too
+-- a way that comes back also leads from its second member to that member
 comes_back : (m n : ℕ) (nexts : Nexts) (lei : List ℕ) → EndsIn m nexts lei → Leads (suc n) nexts lei lei → ⊥
 comes_back zero n nexts lei ends way = ends
 comes_back (suc m) n nexts lei ends way =
@@ -25,12 +25,12 @@ never_returns nexts n lei all way = let ends = all lei in comes_back ends.0 n ne
 
 -- ---- one code names other next ones
 
--- what ends before so many codes ends before one more
+-- what ends before this many codes ends before one more
 one_later : (n : ℕ) (nexts : Nexts) (lei : List ℕ) → EndsIn n nexts lei → EndsIn (suc n) nexts lei
 one_later zero nexts lei ends = absurd ends
 one_later (suc n) nexts lei ends = λ next at. one_later n nexts next (ends next at)
 
--- so many codes more
+-- this many codes more
 more : ℕ → ℕ → ℕ
 more zero n = n
 more (suc m) n = suc (more m n)
@@ -40,7 +40,7 @@ unfolding more
 later zero n nexts lei ends = ends
 later (suc m) n nexts lei ends = one_later (more m n) nexts lei (later m n nexts lei ends)
 
--- a way that doesn't meet the code that was turned goes on as before
+-- a way that doesn't meet the changed code continues as before
 still_clear : (n : ℕ) (before after : Nexts) (start : List ℕ) (targets : List (List ℕ)) (lei : List ℕ) → IsTurned before after start targets
     → EndsClear n before start lei → EndsIn n after lei
 still_clear zero before after start targets lei turned clear = clear

@@ -13,11 +13,11 @@ use Rattle.successor_rules.proofs.ChainLemmas.{keeps_ends}
 use Rattle.successor_rules.proofs.LevelLemmas.{has, has-append, next-has, once-has, same_text}
 use Rattle.successor_rules.proofs.RiseLemmas.{levels-has, others-next, others-stand}
 
--- what is in a list, by test and by place
+-- membership in a list, by test and by place
 pub has_so : (xs : List (List ℕ)) (x : List ℕ) → Contains xs x → has xs x ≡ true
 has_so xs x at = (is_member-Decides bytes_eq-Decides xs x).1 at
 
--- what ends within so many steps ends within more
+-- what ends within this many steps ends within more
 ends_more : (m n : ℕ) (nexts : Nexts) (lei : List ℕ) → n ≤ m → EndsIn n nexts lei → EndsIn m nexts lei
 ends_more m zero nexts lei less ends = absurd ends
 ends_more zero (suc n) nexts lei less ends = absurd (omega arith)
@@ -56,7 +56,7 @@ module _ (nexts : Nexts) (own : List ℕ) (targets : List (List ℕ)) (ended : s
   parts : (is_wide nexts own targets ≡ false) × (is_back nexts own targets ≡ false)
   parts = ended_parts (is_wide nexts own targets) (is_back nexts own targets) ended
 
-  -- they are all of them
+  -- the reached LEIs are all the named ones except the entity's own
   closed : reached ≡ each_once (own ∷ []) named
   unfolding reached named
   closed =

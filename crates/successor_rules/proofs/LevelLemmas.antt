@@ -1,4 +1,4 @@
--- Levels: lists without doubles, and the level after one.
+-- Levels: lists without repetitions, and the level after a level.
 use Rattle.std.specs.Prelude.{◌≡◌, ℕ, zero, suc, ◌<◌, Bool, true, false, not, cond, ◌&&◌, ◌||◌, List, [], ◌∷◌, ◌++◌, length, get_or}
 use Rattle.std.specs.List.{AllByRecursion, IsDistinct}
 use Rattle.std.specs.Set.{is_member}
@@ -26,18 +26,18 @@ own_text x = (bytes_eq-Decides x x).1 refl
 pub has-append : (xs ys : List (List ℕ)) (x : List ℕ) → has (xs ++ ys) x ≡ (has xs x || has ys x)
 has-append xs ys x = list_any-append (bytes_eq x) xs ys
 
--- what the one list has, the other has too
+-- what the first list has, the second has too
 pub record Within (xs ys : List (List ℕ)) : Type 0 where
   pub each : (x : List ℕ) → has xs x ≡ true → has ys x ≡ true
 
--- what stands at a place is in the list
+-- what is at a place is in the list
 pub has-at : (xs : List (List ℕ)) (i : ℕ) (d : List ℕ) → i < length xs → has xs (get_or xs i d) ≡ true
 has-at [] i d less = absurd (omega arith)
 has-at (x ∷ xs) zero d less = or_left (bytes_eq x x) (has xs x) (own_text x)
 has-at (x ∷ xs) (suc i) d less =
     or_right (bytes_eq (get_or xs i d) x) (has xs (get_or xs i d)) (has-at xs i d (omega arith))
 
--- ---- lists without doubles
+-- ---- lists without repetitions
 
 -- what was seen adds nothing
 pub once-seen : (seen xs ys : List (List ℕ)) → Within xs seen → each_once seen (xs ++ ys) ≡ each_once seen ys
@@ -59,7 +59,7 @@ once-append seen (x ∷ xs) ys =
           ∙ ap (λ s. each_once later xs ++ each_once s ys) (append_assoc seen (x ∷ []) (each_once later xs)))
     ]
 
--- it has what the list has and was not seen
+-- it has what the list has and what wasn't seen
 pub once-has : (seen xs : List (List ℕ)) (x : List ℕ) → has (each_once seen xs) x ≡ (has xs x && not (has seen x))
 once-has seen [] x = refl
 once-has seen (y ∷ ys) x =
@@ -83,7 +83,7 @@ once-has seen (y ∷ ys) x =
     fresh false h true is = refl
     fresh false h false is = refl
 
--- what the list has was seen, or it is there
+-- what the list has was seen, or is in the result
 pub once-covers : (seen xs : List (List ℕ)) → Within xs (seen ++ each_once seen xs)
 once-covers seen xs = record {
   each = λ x at. has-append seen (each_once seen xs) x ∙ (ap (λ b. has seen x || b) (once-has seen xs x) ∙ covered (has seen x) (has xs x) at);
@@ -93,14 +93,14 @@ once-covers seen xs = record {
     covered true h is = refl
     covered false h is = ap (λ b. b && true) is
 
--- what a list lacks is another than each of its members
+-- what a list lacks differs from each of its members
 none_is : (x : List ℕ) (ys : List (List ℕ)) → has ys x ≡ false → AllByRecursion (λ y. bytes_eq x y ≡ false) ys
 none_is x [] lacks = tt
 none_is x (y ∷ ys) lacks =
     let parts = or_parts (bytes_eq x y) (has ys x) lacks in
     (parts.0, none_is x ys parts.1)
 
--- no LEI stands there twice
+-- no LEI is there twice
 pub once-distinct : (seen xs : List (List ℕ)) → IsDistinct bytes_eq (each_once seen xs)
 unfolding IsDistinct
 once-distinct seen [] = tt
@@ -121,7 +121,7 @@ once-distinct seen (x ∷ xs) =
     taken false true is = ap (λ e. not (e || false)) is
     taken false false is = refl
 
--- ---- the level after one
+-- ---- the level after a level
 
 module _ (nexts : Nexts) (own : List ℕ) where
   pub next-append : (xs ys : List (List ℕ)) → next_level nexts own (xs ++ ys) ≡ next_level nexts own xs ++ next_level nexts own ys
@@ -138,7 +138,7 @@ module _ (nexts : Nexts) (own : List ℕ) where
         | inr is ↦ or_right (has (onward nexts own z) y) (has (next_level nexts own zs) y) (next-has zs x y is names)
       ]
 
-  -- with one member more it has what that one names
+  -- with one more member it has what that member names
   next-one_more : (seen found : List (List ℕ)) (x : List ℕ) → Within (next_level nexts own seen) found
       → Within (next_level nexts own (seen ++ x ∷ [])) (found ++ each_once found (onward nexts own x))
   next-one_more seen found x within = record {
@@ -153,7 +153,7 @@ module _ (nexts : Nexts) (own : List ℕ) where
         ];
   }
 
-  -- doubles, and members of which all that they name was found, add nothing to the next level
+  -- repetitions, and members that name only what was found, add nothing to the next level
   pub next-once : (seen found xs : List (List ℕ)) → Within (next_level nexts own seen) found
       → each_once found (next_level nexts own xs) ≡ each_once found (next_level nexts own (each_once seen xs))
   next-once seen found [] within = refl
@@ -172,7 +172,8 @@ module _ (nexts : Nexts) (own : List ℕ) where
             ∙ sym (once-append found names (next_level nexts own (each_once later xs))))
       ] refl
 
-  -- an LEI that no seen member names is named by a member of the list if it is by one of the list without doubles
+  -- an LEI that no seen member names is named by a member of the list exactly if it is named by one of the list without
+  -- repetitions
   pub next-member : (seen xs : List (List ℕ)) (y : List ℕ) → has (next_level nexts own seen) y ≡ false
       → has (next_level nexts own xs) y ≡ has (next_level nexts own (each_once seen xs)) y
   next-member seen [] y none = refl
@@ -207,7 +208,7 @@ module _ (nexts : Nexts) (own : List ℕ) where
 
   -- ---- levels
 
-  -- one level more is the first with what the levels so far name
+  -- the levels with one more are the first level and what the levels so far name
   pub levels-last : (n : ℕ) (first : List (List ℕ)) → levels (suc n) nexts own first ≡ first ++ next_level nexts own (levels n nexts own first)
   unfolding levels
   levels-last zero first = refl
@@ -215,7 +216,7 @@ module _ (nexts : Nexts) (own : List ℕ) where
       ap (λ l. first ++ l) (levels-last n (next_level nexts own first)
       ∙ sym (next-append first (levels n nexts own (next_level nexts own first))))
 
--- the different LEIs of levels, other than the own one
+-- the different LEIs of levels, other than the entity's own
 pub others-has : (n : ℕ) (nexts : Nexts) (own : List ℕ) (first : List (List ℕ)) (lei : List ℕ)
     → has (others n nexts own first) lei ≡ (has (levels n nexts own first) lei && not (bytes_eq lei own))
 others-has n nexts own first lei =

@@ -1,4 +1,4 @@
--- The first 200 LEIs that a walk by levels reaches: what these name decides what becomes of it.
+-- The first 200 LEIs that a walk by levels reaches: what these name decides the result of the walk.
 use Rattle.std.specs.Prelude.{◌≡◌, ℕ, zero, suc, ◌+◌, ◌<◌, ◌≤◌, Bool, true, false, not, cond, ◌&&◌, ◌||◌, List, [], ◌∷◌, ◌++◌, length, take, drop, get_or, find, Option, Some, None}
 use Rattle.std.specs.List.{AllByRecursion, IsDistinct}
 use Rattle.std.proofs.Math.ListN.{get_or-append}
@@ -18,7 +18,7 @@ use Rattle.successor_rules.proofs.ViewLemmas.{spread-whole}
 use Rattle.successor_rules.proofs.LevelLemmas.{Within, has, has-append, has-at, next-has, once-distinct, once-has, own_text, same_text}
 use Rattle.successor_rules.proofs.RiseLemmas.{Begins, begins_length, begins_on, gathered, gathered-begins, others-next, others-rise, others-stand}
 
--- of two lists with which a third one begins, the shorter begins the longer
+-- of two lists that a third one starts with, the longer starts with the shorter
 shorter : (xs ys rest more : List (List ℕ)) → xs ++ rest ≡ ys ++ more → length xs ≤ length ys → Begins xs ys
 shorter [] ys rest more is less = record { rest = ys; is = refl }
 shorter (x ∷ xs) [] rest more is less = absurd (omega (arith, less))
@@ -30,7 +30,7 @@ shorter (x ∷ xs) (y ∷ ys) rest more is less =
 begins_longer : (xs ys all : List (List ℕ)) → Begins xs all → Begins ys all → length xs ≤ length ys → Begins xs ys
 begins_longer xs ys all one two less = shorter xs ys one.rest two.rest (sym one.is ∙ two.is) less
 
--- a front has what it has
+-- a list has everything that its front has
 front-has : (xs ys : List (List ℕ)) (x : List ℕ) → Begins xs ys → has xs x ≡ true → has ys x ≡ true
 front-has xs ys x begins at =
     ap (λ l. has l x) begins.is ∙ (has-append xs begins.rest x ∙ or_left (has xs x) (has begins.rest x) at)
@@ -50,13 +50,13 @@ distinct-front zero xs is = tt
 distinct-front (suc n) [] is = tt
 distinct-front (suc n) (x ∷ xs) is = (all-front (λ y. bytes_eq x y ≡ false) n xs is.0, distinct-front n xs is.1)
 
--- ---- each LEI is named by one before it, or it stands in the first level
+-- ---- each LEI is named by one before it, or is in the first level
 
 module _ (nexts : Nexts) (own : List ℕ) (first : List (List ℕ)) where
   abbrev all : List (List ℕ)
   all = others 201 nexts own first
 
-  -- what is gathered from a front that gathers no more is all
+  -- if what is gathered from a front adds nothing, the front is complete
   closed : (k : ℕ) → Begins (gathered nexts own first (take k all)) (take k all) → (n : ℕ) → Begins (others n nexts own first) (gathered nexts own first (take k all))
   unfolding levels
   closed k shut zero = record { rest = gathered nexts own first (take k all); is = refl }
@@ -93,7 +93,7 @@ module _ (nexts : Nexts) (own : List ℕ) (first : List (List ℕ)) where
       ∙ (ap (λ l. get_or l k []) rise.is ∙ get_or-append all rise.rest [] k less) in
       subst (λ x. has g x ≡ true) same (has-at g k [] more)
 
--- ---- one reaches too many if another one does that names less
+-- ---- one reaches too many if another one that names less does
 
 module _ (one other : Nexts) (own : List ℕ) (first : List (List ℕ))
     (more : (x : List ℕ) → has (reached one own first) x ≡ true → Within (one x) (other x)) where
@@ -198,7 +198,7 @@ module _ (one other : Nexts) (own : List ℕ) (first : List (List ℕ))
 
 -- ---- views
 
--- For an LEI one view answers as another does, or it lacks the cell.
+-- For an LEI one view answers as another does, or lacks the cell.
 abbrev pub IsNearer : SeenNexts → SeenNexts → List ℕ → Type 0
 IsNearer answers others lei = (lacks_nexts (answers lei) ≡ true) ⊎ (answers lei ≡ others lei)
 
@@ -215,7 +215,7 @@ module _ (answers more : SeenNexts) (key : List ℕ → CellKey) (own : List ℕ
       none_named Seen.Empty y lacking names = false≢true lacking
       none_named Seen.Missing y lacking names = false≢true names
 
-  -- Both walks become the same, or the first view lacks a cell of an LEI that is reached, and reports it.
+  -- Both walks have the same result, or the first view lacks a cell of an LEI that is reached, and reports it.
   abbrev pub SameOrLacks : Type 0
   SameOrLacks =
       (spread_over answers key own first ≡ spread_over more key own first)
@@ -237,7 +237,7 @@ module _ (answers more : SeenNexts) (key : List ℕ → CellKey) (own : List ℕ
       known : Nexts
       known = known_nexts answers
 
-      -- where they aren't too many, all are among the first 200
+      -- if they aren't too many, all are among the first 200
       all_reached : is_wide (known_nexts answers) own first ≡ false → reached (known_nexts answers) own first ≡ others 201 (known_nexts answers) own first
       all_reached narrow = take_all 200 (others 201 (known_nexts answers) own first) (ltb-false 200 (length (others 201 (known_nexts answers) own first)) narrow)
 
@@ -269,9 +269,9 @@ module _ (answers more : SeenNexts) (key : List ℕ → CellKey) (own : List ℕ
               let rest = find-same xs (λ y at. same y (or_right (bytes_eq y x) (has xs y) at)) in
               λ i. cond (here i) (Some x) (rest i)
 
--- ---- a cell that a view reports as lacking
+-- ---- a cell that a view reports as missing
 
--- nothing in place of what is lacking
+-- nothing in place of what is missing
 patch : Seen (List (List ℕ)) → Seen (List (List ℕ))
 patch (Seen.Held leis) = Seen.Held leis
 patch Seen.Empty = Seen.Empty

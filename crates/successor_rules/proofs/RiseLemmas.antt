@@ -1,4 +1,4 @@
--- The different LEIs of levels: those of one level more begin with those of the levels before, and are gathered from
+-- The different LEIs of levels: those of one level more start with those of the levels before, and are gathered from
 -- these.
 use Rattle.std.specs.Prelude.{◌≡◌, ℕ, zero, suc, ◌+◌, ◌<◌, ◌≤◌, false, cond, ◌||◌, List, [], ◌∷◌, ◌++◌, length}
 use Rattle.std.proofs.Common.{refl, sym, ap, subst, ◌∙◌, ◌⊎◌, inl, inr, arith, append_assoc}
@@ -8,9 +8,9 @@ use Rattle.successor_rules.specs.Chains.{Nexts}
 use Rattle.successor_rules.specs.Levels.{each_once, levels, next_level, others}
 use Rattle.successor_rules.proofs.LevelLemmas.{Within, has, has-append, levels-last, next-append, next-member, next-once, once-append, own_text}
 
--- ---- lists that begin with others
+-- ---- lists that start with others
 
--- the second list begins with the first
+-- the second list starts with the first
 pub record Begins (xs ys : List (List ℕ)) : Type 0 where
   pub rest : List (List ℕ)
   pub is : ys ≡ xs ++ rest
@@ -41,7 +41,7 @@ begins_both xs ys one two =
 -- ---- levels
 
 module _ (nexts : Nexts) (own : List ℕ) where
-  -- nothing is named past the own LEI
+  -- nothing is named past the entity's own LEI
   pub own_names_none : (y : List ℕ) → has (next_level nexts own (own ∷ [])) y ≡ false
   own_names_none y =
       ap (λ b. has (cond b [] (nexts own) ++ []) y) (own_text own)
@@ -82,7 +82,7 @@ module _ (nexts : Nexts) (own : List ℕ) where
         (subst (Begins (gathered (others n nexts own first))) (sym (others-next (suc n)))
         (gathered-begins (others n nexts own first) (others (suc n) nexts own first) (others-rise n)))
 
-    -- more levels begin with fewer
+    -- the LEIs of more levels start with those of fewer
     pub others-begin : (n m : ℕ) → n ≤ m → Begins (others n nexts own first) (others m nexts own first)
     others-begin n zero less =
         let is : n ≡ 0 = omega arith in
@@ -95,7 +95,7 @@ module _ (nexts : Nexts) (own : List ℕ) where
           subst (λ k. Begins (others n nexts own first) (others k nexts own first)) is (begins_self (others n nexts own first))
     ]
 
-    -- each level has a new LEI, or there is none from it on
+    -- each level has a new LEI, or no later level has one
     stands_or_grows : (n : ℕ) → (others (suc n) nexts own first ≡ others n nexts own first) ⊎ (n < length (others (suc n) nexts own first))
     unfolding levels
     stands_or_grows zero = by (others 1 nexts own first)
@@ -119,7 +119,7 @@ module _ (nexts : Nexts) (own : List ℕ) where
     pub others-stand : (n : ℕ) → length (others (suc n) nexts own first) ≤ n → others (suc n) nexts own first ≡ others n nexts own first
     others-stand n few = elim (stands_or_grows n) [ inl stands ↦ stands | inr grows ↦ absurd (omega arith) ]
 
-    -- whether an LEI stands in levels, by what is gathered
+    -- whether an LEI is in levels, by what is gathered
     pub levels-has : (n : ℕ) (y : List ℕ)
         → has (levels (suc n) nexts own first) y ≡ has (first ++ next_level nexts own (others n nexts own first)) y
     levels-has n y =

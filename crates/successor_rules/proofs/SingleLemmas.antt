@@ -41,7 +41,7 @@ once-fewer seen (y ∷ ys) x was at =
           let rest = once-fewer later ys x still (sym (ap (λ b. b || has ys x) other) ∙ at) in omega arith
     ] refl
 
--- no LEI stands in the list twice
+-- no LEI is in the list twice
 abbrev NoDouble : List (List ℕ) → Type 0
 NoDouble [] = Unit {0}
 NoDouble (x ∷ xs) = (has xs x ≡ false) × NoDouble xs
@@ -114,7 +114,7 @@ module _ (next : Next) where
         | inr later ↦ let rest = way y later in (suc rest.0, (y, names first y is, rest.1))
       ]
 
-  -- if each way ends, no member stands there twice
+  -- if each way ends, no member is there twice
   members-single : (n : ℕ) (first : List ℕ) → AllEnd nexts → NoDouble (members n next first)
   unfolding members
   members-single zero first all = tt
@@ -156,7 +156,7 @@ module _ (next : Next) where
         let is = ap (λ l. length (levels n nexts own l)) after.1 in
         let rest = levels-length n after.0 in omega arith
 
-    -- past an LEI that isn't the own one stands what it names
+    -- an LEI that isn't the entity's own is followed by what it names
     levels-next : (n : ℕ) (first : List ℕ) (named : Option (List ℕ)) → next first ≡ named → bytes_eq own first ≡ false
         → levels (suc n) nexts own (first ∷ []) ≡ first ∷ levels n nexts own (option_to_list named)
     unfolding levels nexts
@@ -169,7 +169,7 @@ module _ (next : Next) where
         by None = refl
         by (Some y) = refl
 
-    -- without the own LEI they are the members
+    -- without the entity's own LEI they are the members
     levels-members : (n : ℕ) (first : List ℕ) → has (members n next first) own ≡ false
         → levels n nexts own (first ∷ []) ≡ members n next first
     unfolding levels members
@@ -184,7 +184,7 @@ module _ (next : Next) where
             let parts = or_parts (bytes_eq own first) (has (members n next y) own) without in
             levels-next n first (Some y) is parts.0 ∙ ap (λ l. first ∷ l) (rest y parts.1)
 
-    -- with it they have it
+    -- if the members have the own LEI, the levels have it
     levels-meet : (n : ℕ) (first : List ℕ) → has (members n next first) own ≡ true → has (levels n nexts own (first ∷ [])) own ≡ true
     unfolding levels members
     levels-meet zero first at = absurd (false≢true at)
@@ -201,7 +201,7 @@ module _ (next : Next) where
             ∙ or_right (bytes_eq own first) (has (levels n nexts own (y ∷ [])) own)
             (rest y (sym (ap (λ b. b || has (members n next y) own) other) ∙ at))
 
-    -- ---- what becomes of both walks
+    -- ---- the results of both walks
 
     meets-so : (first : List ℕ) → has (members 201 next first) own ≡ true → spread_out nexts own (first ∷ []) ≡ Walked.Meets
     meets-so first at =

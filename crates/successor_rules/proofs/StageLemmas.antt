@@ -1,4 +1,4 @@
--- Asking the LEIs that were found, one after the other: how far that has come, and what it comes to.
+-- Looking up the LEIs that were found, one after another: the progress, and the result.
 use Rattle.std.specs.Prelude.{◌≡◌, ℕ, zero, suc, ◌+◌, ◌<◌, ◌≤◌, Bool, true, false, not, cond, ◌||◌, nat_lt, List, [], ◌∷◌, ◌++◌, length, take, drop, get_or, Option, Some, None, find}
 use Rattle.std.specs.Option.{option_or}
 use Rattle.std.specs.Str.{bytes_eq}
@@ -15,34 +15,34 @@ use Rattle.successor_rules.specs.Walks.{unless_lacking}
 use Rattle.successor_rules.proofs.LevelLemmas.{has, has-append, has-at, next-append, once-append, once-has}
 use Rattle.successor_rules.proofs.RiseLemmas.{Begins, begins_both, begins_length, begins_on, gathered, gathered-begins, levels-has, others-begin, others-next}
 
--- a list with the LEIs of another that it lacks
+-- a list with the LEIs of another list that it lacks
 abbrev pub joined : List ℕ → List (List ℕ) → List (List ℕ) → List (List ℕ)
 joined own found leis = found ++ each_once (own ∷ found) leis
 
--- an LEI that was gathered isn't the own one
+-- an LEI that was gathered isn't the entity's own
 not_own : (own : List ℕ) (leis : List (List ℕ)) (lei : List ℕ) → has (each_once (own ∷ []) leis) lei ≡ true → bytes_eq lei own ≡ false
 not_own own leis lei at =
     let parts = and_parts (has leis lei) (not (has (own ∷ []) lei)) (sym (once-has (own ∷ []) leis lei) ∙ at) in
     sym (or-false (bytes_eq lei own)) ∙ not-true (has (own ∷ []) lei) parts.1
 
--- the array that is full has the first of all
+-- a full array has the first of all
 pub cut_full : (own : List ℕ) (now total leis : List (List ℕ)) (i : ℕ) → joined own now (drop i leis) ≡ total → length now ≡ 200 → now ≡ take 200 total
 cut_full own now total leis i so_far full =
     sym (ap (take 200) (sym so_far)
     ∙ (take-append-le 200 now (each_once (own ∷ now) (drop i leis)) (omega (arith, full)) ∙ take_all 200 now (omega (arith, full))))
 
--- with more joined a list has the next place too
+-- after more were joined, a list still has the next place
 pub joined-longer : (own : List ℕ) (found leis now : List (List ℕ)) (i : ℕ) → now ≡ joined own found leis → i < length found → i + 1 ≤ length now
 joined-longer own found leis now i is less =
     let count = ap length is ∙ length-append found (each_once (own ∷ found) leis) in omega arith
 
--- lists of which one begins with the other have the same front
+-- if one list starts with the other, both have the same front
 front_of : (xs ys : List (List ℕ)) → Begins xs ys → 200 ≤ length xs → take 200 xs ≡ take 200 ys
 front_of xs ys begins many = sym (ap (take 200) begins.is ∙ take-append-le 200 xs begins.rest many)
 
 module _ (nexts : Nexts) (own : List ℕ) (first : List (List ℕ)) where
-  -- after the first i were asked: all that they and the first level name were found, and nothing else. They are reached
-  -- in i levels.
+  -- after the first i were looked up: all that they and the first level name was found, and nothing else. They are
+  -- reached in i levels.
   pub record Stage (i : ℕ) (found : List (List ℕ)) : Type 0 where
     pub all : found ≡ gathered nexts own first (take i found)
     pub early : Begins (take i found) (others i nexts own first)
@@ -54,7 +54,7 @@ module _ (nexts : Nexts) (own : List ℕ) (first : List (List ℕ)) where
     early = record { rest = []; is = refl };
   }
 
-  -- one more is asked
+  -- one more is looked up
   gathered-push : (leis : List (List ℕ)) (lei : List ℕ)
       → gathered nexts own first (leis ++ lei ∷ []) ≡ joined own (gathered nexts own first leis) (onward nexts own lei)
   gathered-push leis lei =
@@ -143,7 +143,7 @@ module _ (nexts : Nexts) (own : List ℕ) (first : List (List ℕ)) where
   pub cut_at_once : 200 < length (joined own [] first) → take 200 (joined own [] first) ≡ reached nexts own first
   cut_at_once many = front_of (joined own [] first) (others 201 nexts own first) first-begins (omega arith)
 
-  -- ---- all were asked
+  -- ---- all were looked up
 
   module _ (i : ℕ) (found : List (List ℕ)) (stage : Stage i found) (whole : length found ≤ i) where
     closed : found ≡ gathered nexts own first found
@@ -181,7 +181,7 @@ abbrev pub lack_in : SeenNexts → List (List ℕ) → Option (List ℕ)
 lack_in answers leis = find (λ lei. lacks_nexts (answers lei)) leis
 
 module _ (answers : SeenNexts) (own : List ℕ) (first : List (List ℕ)) where
-  -- what the walk knows after so many were asked
+  -- what the walk knows after this many were looked up
   pub record Asked (i : ℕ) (found : List (List ℕ)) (is_met : Bool) (lacking : Option (List ℕ)) : Type 0 where
     pub stage : Stage (known_nexts answers) own first i found
     pub within : i ≤ length found

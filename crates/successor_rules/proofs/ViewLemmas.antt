@@ -1,4 +1,4 @@
--- Levels over a table, in which no cell is missing.
+-- Levels over a table, which has no missing cells.
 use Rattle.std.specs.Prelude.{◌≡◌, ℕ, Bool, false, cond, List, [], ◌∷◌, find, Option, Some, None, option_map}
 use Rattle.std.specs.Option.{option_map_or}
 use Rattle.std.proofs.Common.{refl, ap, ◌∙◌}
@@ -16,7 +16,7 @@ none_found : (p : List ℕ → Bool) (xs : List (List ℕ)) → ((x : List ℕ) 
 none_found p [] never = refl
 none_found p (x ∷ xs) never = ap (λ b. cond b (Some x) (find p xs)) (never x) ∙ none_found p xs never
 
--- a view that lacks nothing reports what becomes of the walk
+-- a view that lacks nothing reports the result of the walk
 pub spread-whole : (answers : SeenNexts) (key : List ℕ → CellKey) (own : List ℕ) (first : List (List ℕ))
     → ((lei : List ℕ) → lacks_nexts (answers lei) ≡ false) → spread_over answers key own first ≡ spread_out (known_nexts answers) own first
 spread-whole answers key own first never =
@@ -25,7 +25,7 @@ spread-whole answers key own first never =
     ap (λ o. cond (is_wide (known_nexts answers) own first) Walked.Long (unless_lacking key o
     (cond (is_back (known_nexts answers) own first) Walked.Meets Walked.Ends))) lacks
 
--- what a table answers of the successors of each LEI
+-- what a table answers for the successors of each LEI
 row_is_known : (found : Option Row)
     → (held_nexts (successors_seen (seen (option_map rec_cell found))) ≡ option_map_or successors_in found [])
     × (lacks_nexts (successors_seen (seen (option_map rec_cell found))) ≡ false)

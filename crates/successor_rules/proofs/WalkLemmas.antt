@@ -78,7 +78,7 @@ lacking_in-suc n answers first (Some lei) is =
 
 -- ---- one step over a view
 
--- what becomes of the walk, by its three questions
+-- the result of the walk, by its three questions
 shape : (List ℕ → CellKey) → Bool → Option (List ℕ) → Bool → Walked
 shape key met lacks long = if met then Walked.Meets else unless_lacking key lacks (if long then Walked.Long else Walked.Ends)
 
@@ -126,7 +126,7 @@ pub walk_in-zero : (answers : SeenNext) (key : List ℕ → CellKey) (start firs
 unfolding members shape
 walk_in-zero answers key start first = ap (shape key false None) (long_in-zero (known answers) first (known answers first) refl)
 
--- ---- the same where some of the 200 members were looked at
+-- ---- the same if some of the 200 members were looked up
 
 left : (c : ℕ) → c < 200 → 200 - c ≡ suc (200 - (c + 1))
 left c less = omega arith
@@ -151,13 +151,13 @@ module _ (answers : SeenNext) (key : List ℕ → CellKey) (start first : List �
   one_step lei less so_far other is =
       sym (walk_in-next (200 - (c + 1)) answers key start first lei other is) ∙ ap (λ n. walk_in n answers key start first) (sym (left c less)) ∙ so_far
 
--- ---- over a table, in which no cell is missing
+-- ---- over a table, which has no missing cells
 
 none_found : (p : List ℕ → Bool) (xs : List (List ℕ)) → ((x : List ℕ) → p x ≡ false) → find p xs ≡ None
 none_found p [] never = refl
 none_found p (x ∷ xs) never = ap (λ b. cond b (Some x) (find p xs)) (never x) ∙ none_found p xs never
 
--- what a table answers of the successor of each code
+-- what a table answers for the successor of each code
 abbrev seen_next : Table → SeenNext
 seen_next table lei = successor_seen ((cells_of table).record_cell lei)
 
@@ -202,7 +202,7 @@ walked_in-zero : (next : Next) (start first : List ℕ) → walked_in zero next 
 unfolding members
 walked_in-zero next start first = ap (λ long. if long then Walked.Long else Walked.Ends) (long_in-zero next first (next first) refl)
 
--- the start is another code than one that the walk goes through
+-- the start differs from each code that the walk goes through
 apart : (start lei : List ℕ) → bytes_eq start lei ≡ false → lei ≢ start
 apart start lei other same = true≢false (sym ((bytes_eq-Decides start lei).1 (sym same)) ∙ other)
 
@@ -212,7 +212,7 @@ only lei next at = search rules
 none : (next : List ℕ) → Contains [] next → ⊥
 none next at = search rules
 
--- a walk that goes on from this code ends without meeting the start, if each one after it does
+-- a walk that continues from this code ends without meeting the start, if each one after it does
 goes_on : (n : ℕ) (next : Next) (start first : List ℕ) → bytes_eq start first ≡ false → walked_in (suc n) next start first ≡ Walked.Ends
     → ((second : List ℕ) → walked_in n next start second ≡ Walked.Ends → EndsClear n (nexts next) start second)
     → (named : Option (List ℕ)) → next first ≡ named → (lei : List ℕ) → Contains (nexts next first) lei → EndsClear n (nexts next) start lei

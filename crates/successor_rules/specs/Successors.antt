@@ -1,4 +1,4 @@
--- Successors over a view, and what holds of a register's successors.
+-- Successors over a view, and what holds for a register's successors.
 use Rattle.std.specs.Prelude.{◌≡◌, List, Option, Some, None, IsSome, slice_get}
 use Rattle.std.specs.List.{Contains}
 use Rattle.lei_code.specs.Texts.{Lei}
@@ -14,34 +14,34 @@ use Rattle.successor_rules.specs.Chains.{AllEnd}
 use Rattle.successor_rules.specs.Levels.{spread_over}
 use Rattle.successor_rules.specs.Walks.{walk_over}
 
--- What a view answers of the successor that a record names.
+-- What a view answers for the successor that a record names.
 abbrev pub named : Option Lei → Seen Lei
 named (Some lei) = Seen.Held lei
 named None = Seen.Empty
 
--- The same where it is asked for the record: none is named where no record is held.
+-- The same if the view is asked for the record: none is named if no record is held.
 abbrev pub successor_seen : Seen RecCell → Seen Lei
 successor_seen (Seen.Held cell) = named (slice_get cell.successors 0)
 successor_seen Seen.Empty = Seen.Empty
 successor_seen Seen.Missing = Seen.Missing
 
--- What becomes of the walk of successors from the LEI `first`, for a record whose own LEI is `start`.
+-- The result of the walk of successors from the LEI `first`, for a record whose own LEI is `start`.
 abbrev pub walk : Cells → Lei → Lei → Walked
 walk cells start first = walk_over (λ lei. successor_seen (cells.record_cell lei)) CellKey.Rec start first
 
 -- ---- if a record names several
 
--- What a view answers of the successors that a record names.
+-- What a view answers for the successors that a record names.
 abbrev pub successors_seen : Seen RecCell → Seen (List Lei)
 successors_seen (Seen.Held cell) = Seen.Held cell.successors
 successors_seen Seen.Empty = Seen.Empty
 successors_seen Seen.Missing = Seen.Missing
 
--- What becomes of the walk by levels from the successors that a record names, whose own LEI is this.
+-- The result of the walk by levels from the successors that a record names, whose own LEI is this.
 abbrev pub spread : Cells → Lei → List Lei → Walked
 spread cells own first = spread_over (λ lei. successors_seen (cells.record_cell lei)) CellKey.Rec own first
 
--- ---- what holds of a register's successors
+-- ---- what holds for a register's successors
 
 -- Each successor that a record names has a record itself, and each way along successors ends.
 pub record SuccessorChainsEnd (table : Table) : Type 0 where

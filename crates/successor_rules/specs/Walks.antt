@@ -1,4 +1,4 @@
--- What becomes of walks, over all that is held and over what a view answers. This project's profile.
+-- The results of walks, over all that is held and over what a view answers. This project's profile.
 use Rattle.std.specs.Prelude.{find, Bool, true, false, if◌then◌else◌, Option, Some, None}
 use Rattle.lei_code.specs.Texts.{Lei}
 use Rattle.lei_records.specs.declared.view.CellKey.{CellKey}
@@ -6,15 +6,15 @@ use Rattle.lei_records.specs.declared.view.Seen.{Seen}
 use Rattle.lei_records.specs.Walks.{Next, is_long, is_met, members}
 use Rattle.successor_rules.specs.declared.walks.Walked.{Walked}
 
--- What becomes of a walk from the member `first`, for an entity whose own LEI is `start`: it comes back to the start,
--- or it is too long, or it ends.
+-- The result of a walk from the member `first`, for an entity whose own LEI is `start`: it comes back to the start, or
+-- it is too long, or it ends.
 abbrev pub walked : Next → Lei → Lei → Walked
 walked next start first =
     if is_met next start first then Walked.Meets else if is_long next first then Walked.Long else Walked.Ends
 
 -- ---- by what a view answers
 
--- What a view answers of the next one of an LEI.
+-- What a view answers for the next one of an LEI.
 abbrev pub SeenNext : Type 0
 SeenNext = Lei → Seen Lei
 
@@ -30,21 +30,21 @@ is_missing (Seen.Held lei) = false
 is_missing Seen.Empty = false
 is_missing Seen.Missing = true
 
--- What an LEI names next as far as the view knows.
+-- What an LEI names next, to the view's knowledge.
 abbrev pub known : SeenNext → Next
 known answers lei = held (answers lei)
 
--- The first of the 200 members of which the view doesn't know what it names. The walk as far as it is known ends there.
+-- The first of the 200 members whose next one the view doesn't know. The walk, to the view's knowledge, ends there.
 abbrev pub lacking : SeenNext → Lei → Option Lei
 lacking answers first = find (λ lei. is_missing (answers lei)) (members 200 (known answers) first)
 
--- Where the view lacks a cell, its key is told; where it lacks none, what the walk becomes.
+-- The key of the cell that the view lacks, or if it lacks none, the result of the walk.
 abbrev pub unless_lacking : (Lei → CellKey) → Option Lei → Walked → Walked
 unless_lacking key (Some lei) walked = Walked.Missing (key lei)
 unless_lacking key None walked = walked
 
--- What becomes of a walk over a view: it comes back to its start where the members that are known have it; else the key
--- of the first cell that the view lacks is told; and where it lacks none, the walk is too long or it ends.
+-- The result of a walk over a view. It comes back to its start if the known members have it. Otherwise the key of the
+-- first cell that the view lacks is reported. If it lacks none, the walk is too long or it ends.
 abbrev pub walk_over : SeenNext → (Lei → CellKey) → Lei → Lei → Walked
 walk_over answers key start first =
     if is_met (known answers) start first then Walked.Meets

@@ -42,8 +42,8 @@ fn successors_seen(seen: Seen<RecCell>) -> Seen<Successors>
 }
 
 /// The walk by levels of a record whose LEI is `own` and which names the successors `from`: it goes from each record to
-/// all successors that it names. `Long` if it reaches more than 200 different LEIs. Otherwise `Missing` with the key of
-/// the first record that the view lacks, or else `Meets` if it comes back to `own`.
+/// all successors that the record names. `Long` if it reaches more than 200 different LEIs. Otherwise `Missing` with
+/// the key of the first record that the view lacks, or else `Meets` if it comes back to `own`.
 pub fn spread<V: View>(view: &V, own: &Lei, from: &Successors) -> Walked
     ensures answers { result ≡ OverViews.spread (V.cells view.now) own.now from.now }
 

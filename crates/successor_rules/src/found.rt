@@ -8,7 +8,7 @@ ghost use Rattle.successor_rules.specs.Levels.{each_once};
 use lei_code::Lei;
 use std::marker::Model;
 
-// How many LEIs a walk finds at most.
+// The most LEIs that a walk finds.
 const MOST_FOUND: usize = 200;
 
 /// Up to 200 different LEIs, in the order in which a walk by levels found them. Contracts see the list of them.
@@ -30,7 +30,7 @@ impl Model for Found {
 }
 
 impl Found {
-    // None yet. Some LEI has to stand at the places that are free.
+    // No LEIs yet. The free places must contain some LEI.
     pub(crate) fn none(any: Lei) -> Self
         ensures { result ≡ [] }
     {
@@ -40,7 +40,7 @@ impl Found {
         }
     }
 
-    // How many they are.
+    // The number of LEIs.
     pub(crate) fn len(&self) -> usize
         ensures value { result ≡ length self.now }
         ensures few { result ≤ 200 }
@@ -63,7 +63,7 @@ impl Found {
         &self.leis[..usize::from(self.count)]
     }
 
-    // Adds those of the LEIs that are neither `own` nor there already, each once, and answers whether there was room
+    // Adds those of the LEIs that are neither `own` nor already there, each once, and returns whether there was room
     // for all of them.
     pub(crate) fn add_all(&mut self, own: &Lei, leis: &[Lei]) -> bool
         ensures added { OnTrue result (self.new ≡ self.old ++ each_once (own.now ∷ self.old) leis.now) }
@@ -96,7 +96,7 @@ impl Found {
         is_among(lei, self.as_slice())
     }
 
-    // Puts an LEI after the others, and answers whether there was room.
+    // Adds an LEI after the others, and returns whether there was room.
     fn push(&mut self, lei: &Lei) -> bool
         ensures added { OnTrue result (self.new ≡ self.old ++ lei.now ∷ []) }
         ensures full { OnFalse result (200 < length (self.old ++ lei.now ∷ [])) }

@@ -12,27 +12,27 @@ ghost use Rattle.successor_rules.specs.Chains.{AllEnd, EndsClear, IsTurned, Lead
 ghost use Rattle.successor_rules.specs.Levels.{Agree, SeenNexts, known_nexts, lacks_nexts, levels, others, reached, spread_out, spread_over};
 ghost use Rattle.successor_rules.specs.Walks.{walked};
 
-/// Where each way ends, none comes back to where it began.
+/// If each way ends, none comes back to where it started.
 pub fn ending_ways_never_return()
     ensures { (nexts : Nexts) (n : ℕ) (lei : Lei) → AllEnd nexts → Leads (suc n) nexts lei lei → ⊥ }
 {}
 
-/// Where each way ends, each way still ends after one code names other next ones, if each way from these ends without
-/// meeting that code.
+/// If each way ends and one code is changed to name other next ones, each way still ends. The condition is that each
+/// way from these ends without meeting that code.
 pub fn clear_ways_keep_ends()
     ensures { (before after : Nexts) (start : Lei) (targets : List Lei) (n : ℕ) → AllEnd before
         → IsTurned before after start targets
         → ((lei : Lei) → Contains targets lei → EndsClear n before start lei) → AllEnd after }
 {}
 
-/// The same where a code names one next one, from which the walk ends within 200 members and doesn't meet the code.
+/// The same if a code names one next one, from which the walk ends within 200 members and doesn't meet the code.
 pub fn ending_walks_keep_ends()
     ensures { (next : Next) (after : Nexts) (start first : Lei) → AllEnd (λ lei. option_to_list (next lei))
         → IsTurned (λ lei. option_to_list (next lei)) after start (first ∷ [])
         → walked next start first ≡ Walked.Ends → AllEnd after }
 {}
 
-/// The LEIs that are counted in levels are those that stand there, without the entity's own, and each is counted once.
+/// The LEIs that are counted in levels are those in the levels except the entity's own, and each is counted once.
 pub fn others_are_counted_once()
     ensures distinct { (n : ℕ) (nexts : Nexts) (own : Lei) (first : List Lei)
         → IsDistinct bytes_eq (others n nexts own first) }
@@ -41,16 +41,16 @@ pub fn others_are_counted_once()
         ≡ (is_member bytes_eq (levels n nexts own first) lei && not (bytes_eq lei own)) }
 {}
 
-/// Where each way ends, each way still ends after an entity names other next ones, if the walk by levels from these had
-/// come to its end: it reached at most 200 LEIs, and the entity was none of them.
+/// If each way ends and an entity is changed to name other next ones, each way still ends. The condition is that the
+/// walk by levels from these came to its end: it reached at most 200 LEIs, and the entity was none of them.
 pub fn clear_levels_keep_ends()
     ensures { (before after : Nexts) (own : Lei) (targets : List Lei) → AllEnd before
         → IsTurned before after own targets → spread_out before own targets ≡ Walked.Ends → AllEnd after }
 {}
 
-/// A view that agrees with what LEIs name reports what becomes of the walk by levels, or the key of a cell that it
-/// lacks, of an LEI in the levels that it knows. One that lacks nothing reports what becomes of the walk along its
-/// answers.
+/// A view that agrees with what LEIs name reports the result of the walk by levels, or the key of a cell that it lacks.
+/// The cell is that of an LEI in the levels that the view knows. A view that lacks nothing reports the result of the
+/// walk along its answers.
 pub fn agreeing_views_tell_the_levels()
     ensures agreeing { (answers : SeenNexts) (nexts : Nexts) (key : Lei → CellKey) (own : Lei) (first : List Lei)
         → Agree answers nexts
@@ -63,16 +63,17 @@ pub fn agreeing_views_tell_the_levels()
         → spread_over answers key own first ≡ spread_out (known_nexts answers) own first }
 {}
 
-/// If each LEI names at most one next one and each way ends, the walk by levels comes to what the walk of a chain comes
-/// to, except that it is also `Meets` if the 201st member is the entity itself, which is `Long` for a chain.
+/// If each LEI names at most one next one and each way ends, the walk by levels has the same result as the walk of a
+/// chain. The only difference is that it is also `Meets` if the 201st member is the entity itself, which is `Long` for
+/// a chain.
 pub fn single_levels_are_chains()
     ensures { (next : Next) (own first : Lei) → AllEnd (λ lei. option_to_list (next lei))
         → spread_out (λ lei. option_to_list (next lei)) own (first ∷ [])
         ≡ (if is_member bytes_eq (members 201 next first) own then Walked.Meets else walked next own first) }
 {}
 
-/// Of two views, of which the one answers as the other for the first 200 LEIs that the walk by levels reaches, unless
-/// it lacks the cell, the one reports what the other does, or the key of such a cell that it lacks.
+/// Let one view answer as another for the first 200 LEIs that the walk by levels reaches, unless it lacks the cell.
+/// Then it reports what the other reports, or the key of such a cell that it lacks.
 pub fn levels_go_by_what_is_reached()
     ensures { (answers more : SeenNexts) (key : Lei → CellKey) (own : Lei) (first : List Lei)
         → ((lei : Lei) → is_member bytes_eq (reached (known_nexts answers) own first) lei ≡ true

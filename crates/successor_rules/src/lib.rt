@@ -1,5 +1,5 @@
-//! Successors: which entity followed another one, and that no chain of them comes back. No call takes memory. This
-//! project's profile.
+//! Successors: which entity followed another one, and that no chain of successors comes back. No call takes memory.
+//! This project's profile.
 #![tactic(auto)]
 
 mod branches;

@@ -14,7 +14,7 @@ use lei_records::{CellKey, Seen, Successors};
 
 /// Something in which an LEI names several next ones.
 pub trait Branches {
-    /// What it answers of the next ones of each LEI.
+    /// What it answers for the next ones of each LEI.
     ghost answers: { Self → SeenNexts };
 
     /// The cell in which an LEI names the next ones.
@@ -31,8 +31,8 @@ pub trait Branches {
 
 /// Walks along branches by levels, for the entity whose LEI is `own`. The first level is what the entity itself names.
 ///
-/// Each LEI is asked once, in the order in which it was found, which is that of the levels. So at most 200 are asked,
-/// and the one at index i stands in level i + 1 or before.
+/// The walk looks up each LEI once, in the order in which it was found, which is that of the levels. So at most 200 are
+/// looked up, and the one at index i is in level i + 1 or before.
 pub fn spread_from<B: Branches>(branches: &B, own: &Lei, from: &Successors) -> Walked
     ensures { result ≡ spread_over (B.answers branches.now) (B.cell branches.now) own.now from.now }
 {
@@ -59,8 +59,8 @@ pub fn spread_from<B: Branches>(branches: &B, own: &Lei, from: &Successors) -> W
     }
 }
 
-/// The different LEIs other than `own` that a walk by levels reaches, in the order of the levels. Of more than 200 it
-/// has the first 200, so a list of 200 may not be all of them.
+/// The different LEIs other than `own` that a walk by levels reaches, in the order of the levels. If there are more
+/// than 200, these are the first 200, so a list of 200 may not be complete.
 pub fn reach<B: Branches>(branches: &B, own: &Lei, from: &Successors) -> Found
     ensures { result ≡ reached (known_nexts (B.answers branches.now)) own.now from.now }
 {
@@ -85,7 +85,7 @@ fn ended(is_met: bool) -> Walked
     if is_met { Walked::Meets } else { Walked::Ends }
 }
 
-// Adds the LEIs that are named there, and answers whether there was room for all of them.
+// Adds the LEIs that are named there, and returns whether there was room for all of them.
 fn add_named(found: &mut Found, own: &Lei, seen: &Seen<Successors>) -> bool
     ensures added { OnTrue result (found.new ≡ found.old ++ each_once (own.now ∷ found.old) (held_nexts seen.now)) }
     ensures full { OnFalse result

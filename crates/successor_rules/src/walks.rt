@@ -1,4 +1,4 @@
-//! Walks from code to code, with at most 200 members behind the start.
+//! Walks from code to code, with at most 200 members after the start.
 ghost use Rattle.std.specs.Prelude.{◌≡◌, List, ℕ};
 ghost use Rattle.lei_records.specs.declared.view.CellKey.{CellKey};
 ghost use Rattle.successor_rules.specs.Walks.{SeenNext, walk_over};
@@ -6,17 +6,17 @@ ghost use Rattle.successor_rules.specs.Walks.{SeenNext, walk_over};
 use lei_code::Lei;
 use lei_records::{CellKey, Seen};
 
-// The members of a walk that are looked at.
+// The most members of a walk that are looked up.
 const MOST_MEMBERS: u8 = 200;
 
-/// What becomes of a walk.
+/// The result of a walk.
 #[derive(Debug, PartialEq, Eq, Drop)]
 pub enum Walked {
     /// One of its first 200 members is the code that it has to avoid.
     Meets,
     /// None of them is, and there is a 201st member.
     Long,
-    /// It ends before.
+    /// The walk ends before that.
     Ends,
     /// The view lacks this cell, and the walk wasn't decided before.
     Missing(CellKey),
@@ -24,7 +24,7 @@ pub enum Walked {
 
 /// Something in which a code names at most one next code.
 pub trait Chain {
-    /// What it answers of the next one of each code.
+    /// What it answers for the next one of each code.
     ghost answers: { Self → SeenNext };
 
     /// The cell in which a code names the next one.
@@ -39,7 +39,7 @@ pub trait Chain {
         ensures { result ≡ cell self.now lei };
 }
 
-/// Walks along a chain from the member `from`, for a start that it has to avoid.
+/// Walks along a chain from the member `from`, for a start that the walk has to avoid.
 pub fn follow<C: Chain>(chain: &C, from: &Lei, avoid: &Lei) -> Walked
     ensures { result ≡ walk_over (C.answers chain.now) (C.cell chain.now) avoid.now from.now }
 {

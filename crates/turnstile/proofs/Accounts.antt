@@ -15,7 +15,7 @@ if_other k j x y n = ap (λ b. if b then x else y) (ne_eqb k j n)
 
 -- ---- makers
 
--- what was made is split at any place
+-- what was made can be split at any place
 pub made_append : (k at : ℕ) (xs ys : List ℕ) → made_by k at (xs ++ ys) ≡ made_by k at xs ++ made_by k (at + length xs) ys
 made_append k at [] ys = ap (λ (a : ℕ). made_by k a ys) (omega arith)
 made_append k at (x ∷ xs) ys =
@@ -30,7 +30,7 @@ made_append k at (x ∷ xs) ys =
 pub made_here : (k at : ℕ) (xs : List ℕ) → made_by k at (xs ++ k ∷ []) ≡ made_by k at xs ++ (at + length xs) ∷ []
 made_here k at xs = made_append k at xs (k ∷ []) ∙ ap (λ l. made_by k at xs ++ l) (if_same k k ((at + length xs) ∷ []) [] refl)
 
--- and any other
+-- and for any other pass
 pub made_else : (k j at : ℕ) (xs : List ℕ) → k ≢ j → made_by k at (xs ++ j ∷ []) ≡ made_by k at xs
 made_else k j at xs n = made_append k at xs (j ∷ []) ∙ ap (λ l. made_by k at xs ++ l) (if_other k j ((at + length xs) ∷ []) [] n) ∙ append-nil (made_by k at xs)
 
@@ -65,7 +65,7 @@ module _ {D : Type 0} where
   last_push f [] t = refl
   last_push f (s ∷ ts) t = last_push s.1.to ts t
 
-  -- a stretch lies between the count at the opening and the last one
+  -- a stretch is between the count at the opening and the last one
   pub record Between (f l : ℕ) (t : Member D) : Type 0 where
     pub from : f ≤ t.from
     pub up : t.from ≤ t.to
@@ -85,7 +85,7 @@ module _ {D : Type 0} where
       (λ e. subst (Each (Between f (last_count t.1.to ts))) (sym (if_other k t.0 (t.1 ∷ told_to k ts) (told_to k ts) e.1)) rest)
       (eqb_tells k t.0)
 
-  -- a fact of each member that was told holds of those of a pass
+  -- a fact that holds for each member that was told holds for those of a pass
   pub told_each : (P : Member D → Type 0) (k : ℕ) (ts : List (ℕ × Member D)) → Each (λ t. P t.1) ts → Each P (told_to k ts)
   told_each P k [] h = tt
   told_each P k (t ∷ ts) h =
@@ -102,7 +102,7 @@ module _ {D : Type 0} where
       let one : with_number k (a ∷ rest) ≡ 1 + with_number k rest = ap (λ (x : ℕ). x + with_number k rest) (if_same k a.number 1 0 same) in
       subst (λ l. 1 ≤ with_number k l) (sym e) (omega (arith, one))
 
-  -- a fact of each account that hasn't the number k
+  -- a fact of each account without the number k
   pub Each_without : (k : ℕ) (P Q : Account D → Type 0) → ((a : Account D) → a.number ≢ k → P a → Q a)
       → (accounts : List (Account D)) → with_number k accounts ≡ 0 → Each P accounts → Each Q accounts
   Each_without k P Q f [] none h = tt

@@ -70,7 +70,7 @@ module _ {E D : Type 0} where
   each_account P [] h = tt
   each_account P (p ∷ ps) h = (h.0, each_account P ps h.1)
 
-  -- ---- what the stretches weigh together
+  -- ---- the sum of the stretches' weights
 
   module _ (w : Member D → ℕ) where
     abbrev Light : List (ℕ × Member D) → PassView E D → Type 0
@@ -135,7 +135,7 @@ module _ {T E D : Type 0} (m : Meaning T E D) (opened : T) (n : ℕ) where
     pub once : (k : ℕ) → number_in k ps ≤ 1
     pub all : HaveAll n ps
 
-  -- no other seat than the one with the accounts of all passes has an account
+  -- no seat other than the one with the accounts of all passes has an account
   alone_by : (s : State T (View E D)) (kept : IsKept m opened n s) (id j : ℕ) (seen : List E) (ps : List (PassView E D)) (u : View E D)
       → get_elem? s.views id ≡ some (idle_view seen [] (map account_at ps)) → get_elem? s.views j ≡ some u → HaveAll n ps → in_turn u ≡ 1
       → (accounts : List (Account D)) → u.accounts ≡ accounts → ⊥

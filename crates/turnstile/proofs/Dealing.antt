@@ -1,4 +1,4 @@
--- Passes and their seats, and passes that are cut off one by one.
+-- Passes and their seats, and passes that are separated one by one.
 use Rattle.std.proofs.Common.{◌≡◌, ℕ, zero, suc, ◌+◌, ◌-◌, ◌≤◌, ◌<◌, List, [], ◌∷◌, ◌++◌, length, length-append, refl, sym, ap, ◌∙◌, subst, ⊎_elim, Some, slice_get, arith}
 use Rattle.atomic_table.specs.Seated.{TableId}
 use Rattle.atomic_table.specs.Table.{Me}
@@ -17,12 +17,12 @@ module _ {E D : Type 0} (table : TableId) (seen : List E) (stays : List ℕ) whe
   left_is : (k n n' : ℕ) → n ≡ suc n' → left_part (idle_view {E = E} {D = D} seen [] (accounts_from k n stays)) ≡ idle_view seen [] (accounts_from (k + 1) n' stays)
   left_is k n n' e = ap (λ (i : ℕ). left_part (idle_view {E = E} {D = D} seen [] (accounts_from k i stays))) e
 
-  -- new passes are of the table
+  -- new passes belong to the table
   new_of : (j : ℕ) (ps : List (PassView E D)) → AreNew table seen stays j ps → Each (λ p. p.table ≡ table) ps
   new_of j [] h = tt
   new_of j (p ∷ ps) h = (ap (λ (q : PassView E D). q.table) h.0, new_of (j + 1) ps h.1)
 
-  -- and each number is that of one
+  -- and each number belongs to one
   new_have : (j k : ℕ) (ps : List (PassView E D)) → AreNew table seen stays j ps → j ≤ k → k < j + length ps
       → (i : ℕ) × (p : PassView E D) × (slice_get ps i ≡ Some p) × (p.number ≡ k)
   new_have j k [] h low high = absurd (omega (arith, low, high))

@@ -1,4 +1,4 @@
--- Passes that a seat took in, from the last to the first.
+-- Passes that a seat absorbed, from the last to the first.
 use Rattle.std.proofs.Common.{◌≡◌, ℕ, List, [], ◌∷◌, ◌++◌, map, append_assoc, All, refl, sym, ap, ◌∙◌, subst}
 use Rattle.atomic_table.specs.Table.{Me, Final, Seen}
 use Rattle.atomic_table.specs.Seated.{TableId}
@@ -18,7 +18,7 @@ each_last P [] x ys h = h.0
 each_last P (y ∷ xs) x ys h = each_last P xs x ys h.1
 
 module _ {T E D : Type 0} where
-  -- Of all passes, those that are left stand before those that the seat took in.
+  -- Of all passes, those that are left precede those that the seat absorbed.
   pub record Gathered (all left : List (PassView E D)) (me : Me T (View E D)) : Type 0 where
     pub taken : List (PassView E D)
     pub are : all ≡ left ++ taken
@@ -47,7 +47,7 @@ module _ {T E D : Type 0} where
         );
       })
 
-  -- each pass that is left is of the table
+  -- each pass that is left belongs to the table
   pub gathered_table : (table : TableId) (all left left' : List (PassView E D)) (p : PassView E D) (me : Me T (View E D)) → All (λ q. q.table ≡ table) all
       → Gathered all left me → left ≡ left' ++ p ∷ [] → p.table ≡ table
   gathered_table table all left left' p me h g e =
@@ -55,7 +55,7 @@ module _ {T E D : Type 0} where
       (subst (Each (λ (q : PassView E D). q.table ≡ table)) (g.are ∙ ap (λ l. l ++ g.taken) e ∙ append_assoc left' (p ∷ []) g.taken) (each_of_all _ all h))
 
 module _ {T E D : Type 0} (m : Meaning T E D) where
-  -- the end, where none is left
+  -- the end, if none is left
   pub gathered_all : (opened opened' : T) (n n' id : ℕ) (all left : List (PassView E D)) (me : Me T (View E D)) (ws : List ℕ) (xs : List T) (x : T)
       → opened' ≡ opened → n' ≡ n → Gathered all left me → left ≡ [] → HaveAll n' all
       → Final (Seen (IsKept m opened n) id me.0) ws xs → get_elem? xs 0 ≡ some x → IsEnd m opened' n' all x

@@ -6,7 +6,7 @@ use Rattle.turnstile.specs.Rule.{made_by}
 use Rattle.turnstile.proofs.Views.{Each_map}
 use Rattle.turnstile.proofs.Accounts.{if_same, if_other}
 
--- the place stands in the list
+-- the place is in the list
 IsIn : ℕ → List ℕ → Type 0
 IsIn place [] = ⊥
 IsIn place (x ∷ xs) = (x ≡ place) ⊎ IsIn place xs
@@ -27,7 +27,7 @@ unfolding IsIn
 each_in P place [] h i = absurd i
 each_in P place (x ∷ xs) h i = ⊎_elim (λ e. subst P e h.0) (λ r. each_in P place xs h.1 r) i
 
--- what a pass made lies between the first place and the last
+-- what a pass made is between the first place and the last
 pub made_within : (k at : ℕ) (makers : List ℕ) → Each (λ place. (at ≤ place) × (place < at + length makers)) (made_by k at makers)
 made_within k at [] = tt
 made_within k at (x ∷ xs) =

@@ -8,7 +8,7 @@ use Rattle.turnstile.specs.Rule.{ViewsFit, IsHome, IsKept}
 use Rattle.turnstile.specs.Steps.{Notifies}
 use Rattle.turnstile.proofs.Parting.{any_step}
 
--- the first two words stay
+-- the first two words are unchanged
 words_notified : (a b word k : ℕ) (events : List ℕ) → 2 ≤ word → (counts : List ℕ) × (set (a ∷ b ∷ events) word k ≡ a ∷ b ∷ counts)
 words_notified a b zero k events h = absurd (omega (arith, h))
 words_notified a b (suc zero) k events h = absurd (omega (arith, h))

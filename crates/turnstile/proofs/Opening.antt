@@ -33,7 +33,7 @@ module _ (D : Type 0) (stays : List ℕ) where
       (λ t. let e = number_early k (j + 1) n (omega (arith, t.1)) in let o = if_same {A = ℕ} k j 1 0 (omega (arith, h, t.1)) in omega (arith, e, o))
       (leb_tells (suc j) k)
 
-  -- each of the n numbers once
+  -- each of the n numbers exactly once
   numbers_once : (k n : ℕ) → with_number k (accounts_from {D = D} 0 n stays) ≡ once_below k n
   numbers_once k n = ⊎_elim
       (λ t. number_there k 0 n (omega arith) (omega (arith, t.1)) ∙ sym (once_at_below k n t.1))

@@ -1,4 +1,4 @@
--- Idle seats are cut in two and made one, and learn what both had seen.
+-- Idle seats are split in two and joined, and learn what both had seen.
 use Rattle.std.proofs.Common.{◌≡◌, ℕ, ◌+◌, List, [], ◌∷◌, ◌++◌, length, length-append, set, get_or, refl, sym, ap, ◌∙◌, arith, if◌then◌else◌, ◌==◌}
 use mathlib.Core.Option.{some}
 use lib.ListN.{get_elem?}
@@ -31,11 +31,11 @@ each_only : {D : Type 0} (P : Account D → Type 0) (l : List (Account D)) → E
 each_only P [] h = tt
 each_only P (a ∷ rest) h = (h.0, tt)
 
--- a step of the table with an operand of no weight, since what steps tell reads none
+-- a step of the table with an arbitrary operand, since the statements about steps don't read it
 abbrev pub any_step : {T : Type 0} → Step T
 any_step = step 0 0 0 0 none
 
--- the words stay at a load
+-- the words are unchanged after a load
 pub words_stay : (a b : ℕ) (events ws : List ℕ) → ws ≡ a ∷ b ∷ events → set ws 1 (get_or ws 1 0) ≡ a ∷ b ∷ events
 words_stay a b events ws e = ap (λ (l : List ℕ). set l 1 (get_or l 1 0)) e
 

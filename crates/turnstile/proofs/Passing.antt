@@ -1,4 +1,4 @@
--- A seat in turn gives the value back, and serves the next ticket.
+-- A seat in turn returns the value, and serves the next ticket.
 use Rattle.std.proofs.Common.{◌≡◌, ◌≢◌, ℕ, ◌+◌, ◌≤◌, ◌<◌, ◌%◌, ◌^◌, ◌==◌, if◌then◌else◌, inl, ⊎_elim, List, [], ◌∷◌, ◌++◌, length, length-append, append-nil, append_assoc, set, get_or, refl, sym, ap, ◌∙◌, subst, Option, Some, None, arith}
 use Rattle.std.proofs.lemmas.Bool.Decides.{eqb_tells}
 use Rattle.std.proofs.Math.Nat.{mod-add-mod}
@@ -110,7 +110,7 @@ module _ {T E D : Type 0} (m : Meaning T E D) (opened : T) (n : ℕ) where
   back_home : (past : Past E D) (homes : List (core.Option T)) (views : List (View E D)) (y : T) → IsHome m opened past homes views → set homes 0 (some y) ≡ some y ∷ []
   back_home past homes views y h = ⊎_elim (λ t. ap (λ (l : List (core.Option T)). set l 0 (some y)) t.1) (λ t. ap (λ (l : List (core.Option T)). set l 0 (some y)) t.0) h
 
-  -- the past with one turn more, of the pass k
+  -- the past after one more turn, by the pass k
   past_after : ℕ → Option D → T → T → Past E D → Past E D
   past_after k said x y p =
       record {

@@ -1,4 +1,4 @@
--- What a seat's stage says, and that of two seats.
+-- What a seat's stage says, and the stages of two seats.
 use Rattle.std.proofs.Common.{◌≡◌, ◌≢◌, ℕ, zero, suc, ◌≤◌, ◌<◌, if◌then◌else◌, ◌⊎◌, inl, inr, ⊎_elim, List, [], ◌∷◌, length, refl, sym, ap, arith}
 use Rattle.std.proofs.lemmas.Bool.Decides.{leb_tells}
 use mathlib.Core.Option.{some, some-ne-none}
@@ -53,7 +53,7 @@ module _ {T E D : Type 0} (m : Meaning T E D) (opened : T) (n : ℕ) (past : Pas
       let count = fit.count in
       omega (arith, below, count)
 
-  -- the number of an account of one seat stands in no account of another
+  -- the number of an account of one seat is in no account of another
   pub no_other : (k i j : ℕ) (v w : View E D) → i ≢ j → get_elem? views i ≡ some v → get_elem? views j ≡ some w → 1 ≤ number_count k v → number_count k w ≡ 0
   no_other k i j v w apart p q one =
       let two = total_two (number_count k) views i j v w apart p q in

@@ -1,4 +1,4 @@
--- A seat with a ticket looks whether it is served.
+-- A seat with a ticket checks whether it is served.
 use Rattle.std.proofs.Common.{◌≡◌, ℕ, ◌≤◌, ◌%◌, ◌^◌, inr, ⊎_elim, List, [], ◌∷◌, set, get_or, refl, sym, ap, ◌∙◌, subst, le_trans, arith}
 use Rattle.std.proofs.lemmas.Bool.Decides.{eqb_tells}
 use mathlib.Core.Option.{Option, some, none, some-injective}
@@ -21,7 +21,7 @@ use Rattle.turnstile.proofs.Seats.{at_below, in_turn_busy, tickets_few}
 use Rattle.turnstile.proofs.Parting.{any_step, words_stay}
 
 module _ {T E D : Type 0} (m : Meaning T E D) (opened : T) (n : ℕ) where
-  -- a ticket that looks like the one served is that one
+  -- a ticket that seems to be the one served is the one served
   served_is : (s : State T (View E D)) (kept : IsKept m opened n s) (id : ℕ) (v : View E D) → get_elem? s.views id ≡ some v → busy v ≡ 1
       → get_or s.words 1 0 ≡ v.ticket % 2 ^ 64 → kept.past.serving ≡ v.ticket
   served_is s kept id v at waits found =
@@ -51,7 +51,7 @@ module _ {T E D : Type 0} (m : Meaning T E D) (opened : T) (n : ℕ) where
       absurd (omega (arith, out, z)))
       kept.home
 
-  -- the value goes on from all that the seat knows
+  -- the value continues all that the seat knows
   goes_on : (past : Past E D) (homes : List (Option T)) (v : View E D) (x : T) → PastFits m opened n past → ViewFits m opened past v → AtHome past homes x → GoesOnFrom m v x
   goes_on past homes v x so_far fits home =
       let members = past.members in

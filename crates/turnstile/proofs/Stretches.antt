@@ -28,11 +28,11 @@ each_at P (y ∷ xs) zero x h e = subst P (same_value y x e) h.0
 each_at P (y ∷ xs) (suc i) x h e = each_at P xs i x h.1 e
 
 module _ {D : Type 0} where
-  -- of two stretches one ends before the other begins, or where it begins
+  -- of two stretches one ends before the other starts, or at its start
   abbrev pub ApartAt : Member D → Member D → Type 0
   ApartAt s t = (s.to ≤ t.from) ⊎ (t.to ≤ s.from)
 
-  -- a stretch told of later begins after the earlier one
+  -- a stretch that was told later starts after the earlier one
   later : (k j b : ℕ) (u : ℕ × Member D) (us : List (ℕ × Member D)) (t : Member D) → InOrder u.1.to us → slice_get (told_to j us) b ≡ Some t → u.1.to ≤ t.from
   later k j b u us t h e = (each_at (Between u.1.to (last_count u.1.to us)) (told_to j us) b t (told_between j u.1.to us h) e).from
 

@@ -26,7 +26,7 @@ module _ {A : Type 0} (f : A → ℕ) where
   total_two (x ∷ xs) (suc i) zero a b n p q = let h : f x ≡ f b = ap f (some-injective x b q) in let t = total_at xs i a p in omega (arith, h, t)
   total_two (x ∷ xs) (suc i) (suc j) a b n p q = let t = total_two xs i j a b (λ e. n (ap suc e)) p q in omega (arith, t)
 
-  -- one element is cut in two, and the second goes to the end
+  -- one element is split in two, and the second goes to the end
   pub total_split : (l : List A) (i : ℕ) (a b c : A) → get_elem? l i ≡ some a → f b + f c ≡ f a → total f (set l i b ++ c ∷ []) ≡ total f l
   total_split l i a b c e h = let s = total_set l i a b e in let t = total_append (set l i b) (c ∷ []) in omega (arith, h, s, t)
 

@@ -19,7 +19,7 @@ unfolding held
 value_lent {S} {E} {D} me v x now e is = sym (ap (held now) is) ∙ ap (λ (q : Me S (View E D)). held now q.1) e
 
 module _ {T E D : Type 0} where
-  -- what holds of the value that was lent holds of the one that the seat has
+  -- what holds for the value that was lent holds for the one that the seat has
   pub at_turn : (P : T → Type 0) (me : Me T (View E D)) (v : View E D) (x now : T) → me ≡ (v, (0, x) ∷ []) → me.1 ≡ (0, now) ∷ rest me.1 → P now → P x
   at_turn P me v x now e is h = subst P (value_lent me v x now e is) h
 

@@ -1,10 +1,10 @@
--- What the value of a turnstile stands for, and what one turn does to it.
+-- What the value of a turnstile represents, and what one turn does to it.
 use Rattle.std.specs.Prelude.{◌≡◌, ℕ, ◌+◌, ◌≤◌, ◌==◌, List, [], ◌∷◌, ◌++◌, length, Option, Some, None, if◌then◌else◌}
 use Rattle.turnstile.specs.declared.view.Member.{Member}
 use Rattle.turnstile.specs.Lists.{Each, IsPrefix}
 
--- the list that a value stands for, its count of faults, the numbers that stay, the number of the first entry,
--- and what has to hold of each member that a pass is told
+-- the list that a value represents, its count of faults, the numbers that stay, the number of the first entry, and what
+-- has to hold for each member that a pass is told
 pub record Meaning (T E D : Type 0) : Type 1 where
   pub entries : T → List E
   pub faults : T → ℕ
@@ -19,8 +19,8 @@ meaning entries faults stays first tells =
     record { entries = entries; faults = faults; stays = stays; first = first; tells = tells }
 
 module _ {T E D : Type 0} (m : Meaning T E D) where
-  -- The value y goes on from x: its list has one entry more, at the end, or none, the count of faults has not fallen,
-  -- and the numbers that stay are as before.
+  -- The value y continues x: its list has one more entry, at the end, or none, its count of faults hasn't fallen, and
+  -- the numbers that stay are as before.
   pub record GoesOn (x y : T) : Type 0 where
     pub list : IsPrefix (m.entries x) (m.entries y)
     pub one : length (m.entries y) ≤ length (m.entries x) + 1
@@ -32,12 +32,12 @@ abbrev pub told_of : {D : Type 0} → Option D → ℕ → ℕ → ℕ → List 
 told_of (Some piece) at from to = record { piece = piece; at = at; from = from; to = to } ∷ []
 told_of None at from to = []
 
--- What has to hold of the member that an answer adds, if it adds one, holds of it at a turn in which the value x
--- became y.
+-- What has to hold for the member that an answer adds, if it adds one, holds for it in a turn that changed the value
+-- from x to y.
 abbrev pub IsToldSo : {T E D : Type 0} → Meaning T E D → Option D → T → T → Type 0
 IsToldSo m said x y = Each m.tells (told_of said (length (m.entries x)) (m.faults x) (m.faults y))
 
 -- the places of a pass's own entries after a turn, by the number of the first entry and the length of the list before
--- the turn and after it
+-- and after the turn
 abbrev pub mine_after : ℕ → ℕ → ℕ → List ℕ → List ℕ
 mine_after first before after mine = if after == before then mine else mine ++ (first + before) ∷ []

@@ -18,7 +18,7 @@ pub record PassView (E D : Type 0) : Type 0 where
   pub told : List (Member D)
   pub stays : List ℕ
 
--- A turnstile: which table it is, the value that it was opened with, and how many passes it has.
+-- A turnstile: which table it is, the value that it was opened with, and its number of passes.
 pub record TurnstileView (T : Type 0) : Type 0 where
   pub table : TableId
   pub value : T
@@ -28,7 +28,7 @@ pub record TurnstileView (T : Type 0) : Type 0 where
 abbrev pub AreFronts : {E : Type 0} → List E → List E → List E → Type 0
 AreFronts xs ys whole = IsPrefix xs whole × IsPrefix ys whole
 
--- The stretch of a member lies between two counts of faults.
+-- The stretch of a member is between two counts of faults.
 abbrev pub IsWithin : {D : Type 0} → ℕ → ℕ → Member D → Type 0
 IsWithin from to t = (from ≤ t.from) × (t.from ≤ t.to) × (t.to ≤ to)
 
@@ -72,17 +72,17 @@ module _ {E D : Type 0} where
 
   -- ---- what the calls say
 
-  -- a pass as it is at first
+  -- a pass in its initial state
   abbrev pub new_pass : TableId → ℕ → List E → List ℕ → PassView E D
   new_pass table number seen stays =
       record { table = table; number = number; seen = seen; mine = []; told = []; stays = stays }
 
-  -- The passes are as `open` makes them, with the numbers from k on, in order.
+  -- The passes are as `open` makes them, with consecutive numbers starting at k.
   abbrev pub AreNew : TableId → List E → List ℕ → ℕ → List (PassView E D) → Type 0
   AreNew table seen stays k [] = Unit {0}
   AreNew table seen stays k (p ∷ ps) = (p ≡ new_pass table k seen stays) × AreNew table seen stays (k + 1) ps
 
-  -- the same pass, which has seen another list
+  -- the same pass after it has seen another list
   abbrev pub with_seen : PassView E D → List E → PassView E D
   with_seen p seen =
       record {
@@ -103,13 +103,13 @@ module _ {E D : Type 0} where
   HaveAll n passes = (k : ℕ) → k < n
       → (i : ℕ) × (p : PassView E D) × (slice_get passes i ≡ Some p) × (p.number ≡ k)
 
-  -- the place stands in the `mine` of exactly one pass
+  -- the place is in the `mine` of exactly one pass
   abbrev pub IsMadeOnce : List (PassView E D) → ℕ → Type 0
   IsMadeOnce passes place =
       (i : ℕ) × (p : PassView E D) × (slice_get passes i ≡ Some p) × Contains p.mine place
       × ((j : ℕ) (q : PassView E D) → slice_get passes j ≡ Some q → Contains q.mine place → j ≡ i)
 
-  -- the stretches of any two members, of one pass or of two, share at most an end
+  -- the stretches of any two members, of one pass or of two, have at most an end in common
   abbrev pub AreApart : List (PassView E D) → Type 0
   AreApart passes =
       (i j a b : ℕ) (p q : PassView E D) (s t : Member D) → slice_get passes i ≡ Some p
@@ -117,27 +117,27 @@ module _ {E D : Type 0} where
       slice_get p.told a ≡ Some s → slice_get q.told b ≡ Some t → (i ≢ j) ⊎ (a ≢ b)
       → (s.to ≤ t.from) ⊎ (t.to ≤ s.from)
 
-  -- The stretch of each member lies between two counts of faults.
+  -- The stretch of each member is between two counts of faults.
   abbrev pub AreBetween : ℕ → ℕ → List (PassView E D) → Type 0
   AreBetween from to passes = All (λ p. All (IsWithin from to) p.told) passes
 
-  -- Give each member a weight of at most its own stretch: all weights together are at most the stretch from one count
-  -- of faults to another.
+  -- If each member gets a weight of at most its own stretch, all weights together are at most the stretch from one
+  -- count of faults to another.
   abbrev pub AreWithin : ℕ → ℕ → List (PassView E D) → Type 0
   AreWithin from to passes =
       (w : Member D → ℕ) → All (λ p. All (λ t. w t + t.from ≤ t.to) p.told) passes →
       total (λ p. total w p.told) passes + from ≤ to
 
--- The place is that of an entry which the list got while x became y.
+-- The place is that of an entry that the list got while x became y.
 abbrev pub IsAdded : {T E D : Type 0} → Meaning T E D → T → T → ℕ → Type 0
 IsAdded m x y place = (m.first + length (m.entries x) ≤ place) × (place < m.first + length (m.entries y))
 
 module _ {T E D : Type 0} (m : Meaning T E D) where
-  -- Each place that a pass made is that of an entry which the list got while x became y.
+  -- Each place that a pass made is that of an entry that the list got while x became y.
   abbrev pub AreAdded : T → T → List (PassView E D) → Type 0
   AreAdded x y passes = All (λ p. All (IsAdded m x y) p.mine) passes
 
-  -- a pass after a turn at which the value x became y
+  -- a pass after a turn that changed the value from x to y
   abbrev pub pass_after : PassView E D → Option D → T → T → PassView E D
   pass_after p said x y =
       record {
@@ -149,8 +149,8 @@ module _ {T E D : Type 0} (m : Meaning T E D) where
         stays = p.stays;
       }
 
-  -- A turn, at which the value x became y: x goes on from all that the pass has seen and was told, y goes on from x,
-  -- and the pass has seen y afterwards, with its own entry and what it was told.
+  -- A turn that changed the value from x to y: x continues all that the pass has seen and was told, y continues x, and
+  -- afterwards the pass has seen y, with its own entry and what it was told.
   pub record IsTurn (before : PassView E D) (said : Option D) (x y : T) (after : PassView E D) : Type 0 where
     pub seen : IsPrefix before.seen (m.entries x)
     pub stays : m.stays x ≡ before.stays

@@ -1,5 +1,5 @@
 -- The rule of a turnstile. Its first two words are the number of tickets that were drawn and the ticket that is served,
--- both modulo 2 ^ 64. The others are event counts, of which the rule says nothing. Its one slot has the value.
+-- both modulo 2 ^ 64. The others are event counts, and the rule says nothing of them. Its one slot has the value.
 use Rattle.std.specs.Prelude.{◌≡◌, ℕ, zero, suc, ◌+◌, ◌≤◌, ◌<◌, ◌%◌, ◌^◌, ◌==◌, ◌⊎◌, List, [], ◌∷◌, ◌++◌, length, nat_lt, if◌then◌else◌}
 use mathlib.Core.Option.{Option, some, none}
 use lib.ListN.{get_elem?}
@@ -13,19 +13,19 @@ use Rattle.turnstile.specs.Meaning.{Meaning}
 
 -- ---- what all turns have made and told, in their order
 
--- The places of the entries that the pass k made. Each entry has its maker, and the first of them stands at `at`.
+-- The places of the entries that the pass k made. Each entry has its maker, and the first entry is at `at`.
 abbrev pub made_by : ℕ → ℕ → List ℕ → List ℕ
 made_by k at [] = []
 made_by k at (maker ∷ makers) = if k == maker then at
     ∷ made_by k (at + 1) makers else made_by k (at + 1) makers
 
 module _ {D : Type 0} where
-  -- what the pass k was told, of all that was told, each with the number of its pass
+  -- what the pass k was told, from all that was told, each member with the number of its pass
   abbrev pub told_to : ℕ → List (ℕ × Member D) → List (Member D)
   told_to k [] = []
   told_to k (t ∷ ts) = if k == t.0 then t.1 ∷ told_to k ts else told_to k ts
 
-  -- each stretch from one count of faults to another begins where the one before it ended, or later
+  -- each stretch from one count of faults to another starts at the end of the previous one, or later
   abbrev pub InOrder : ℕ → List (ℕ × Member D) → Type 0
   InOrder count [] = Unit {0}
   InOrder count (t ∷ ts) = (count ≤ t.1.from) × (t.1.from ≤ t.1.to) × InOrder t.1.to ts
@@ -59,11 +59,11 @@ in_turn_at Stage.Waiting = 0
 in_turn_at Stage.InTurn = 1
 
 module _ {D : Type 0} where
-  -- the account of the pass k at its start
+  -- the initial account of the pass k
   abbrev pub new_account : ℕ → List ℕ → Account D
   new_account k stays = record { number = k; stays = stays; mine = []; told = [] }
 
-  -- those of n passes from k on
+  -- the initial accounts of n passes, starting with k
   abbrev pub accounts_from : ℕ → ℕ → List ℕ → List (Account D)
   accounts_from k zero stays = []
   accounts_from k (suc n) stays = new_account k stays ∷ accounts_from (k + 1) n stays
@@ -87,11 +87,11 @@ module _ {E D : Type 0} where
   abbrev pub in_turn : View E D → ℕ
   in_turn v = in_turn_at v.stage
 
-  -- how many passes the seat stands for
+  -- the number of passes that the seat represents
   abbrev pub passes : View E D → ℕ
   passes v = length v.accounts
 
-  -- how many of them have the number k
+  -- how many of these have the number k
   abbrev pub number_count : ℕ → View E D → ℕ
   number_count k v = with_number k v.accounts
 
@@ -99,7 +99,7 @@ module _ {E D : Type 0} where
   idle_view seen aside accounts =
       record { stage = Stage.Idle; ticket = 0; from = 0; seen = seen; aside = aside; accounts = accounts }
 
-  -- that of a seat which another one took in
+  -- the view of a seat that another one absorbed
   abbrev pub spent_view : View E D
   spent_view = idle_view [] [] []
 
@@ -125,14 +125,14 @@ module _ {E D : Type 0} where
         accounts = v.accounts;
       }
 
-  -- An idle view is cut in two: the new seat has the first account, and the old one keeps the others.
+  -- An idle view is split in two: the new seat has the first account, and the old one keeps the others.
   abbrev pub left_part : View E D → View E D
   left_part v = idle_view v.seen [] (after_first v.accounts)
 
   abbrev pub right_part : View E D → View E D
   right_part v = idle_view v.seen [] (only_first v.accounts)
 
-  -- Two idle views are made one: the accounts that come in stand before the others.
+  -- Two idle views are joined: the accounts of the absorbed one precede the others.
   abbrev pub both_parts : View E D → View E D → View E D
   both_parts v w = idle_view v.seen w.seen (w.accounts ++ v.accounts)
 
@@ -147,15 +147,15 @@ abbrev pub first_place : {T E D : Type 0} → Meaning T E D → T → ℕ
 first_place m opened = m.first + length (m.entries opened)
 
 module _ {T E D : Type 0} (m : Meaning T E D) (opened : T) where
-  -- The account says of its pass what happened, and has the numbers that stay.
+  -- The account says what happened to its pass, and has the numbers that stay.
   pub record AccountFits (makers : List ℕ) (members : List (ℕ × Member D)) (a : Account D) : Type 0 where
     pub mine : a.mine ≡ made_by a.number (first_place m opened) makers
     pub told : a.told ≡ told_to a.number members
     pub stays : a.stays ≡ m.stays opened
 
-  -- What a seat knows is so: what it has seen are fronts of the one list, and its accounts fit. If it has a ticket,
-  -- this ticket is out. If it is in turn, its ticket is served, it has seen the whole list, and its turn began with no
-  -- fewer faults than were told of.
+  -- What a seat knows is true: the lists that it has seen are fronts of the one list, and its accounts fit. If it has a
+  -- ticket, this ticket is out. If it is in turn, its ticket is served, it has seen the whole list, and at the start of
+  -- its turn the count of faults was at least every told count.
   pub record ViewFits (past : Past E D) (v : View E D) : Type 0 where
     pub seen : IsPrefix v.seen past.history
     pub aside : IsPrefix v.aside past.history
@@ -175,8 +175,8 @@ module _ {T E D : Type 0} (m : Meaning T E D) (opened : T) where
     pub count : total passes views ≡ n
     pub numbers : (k : ℕ) → total (number_count k) views ≡ once_below k n
 
-  -- What happened since the opening: each entry that was added has a maker, a number below n, the stretches of
-  -- faults are in order, and of each member holds what has to.
+  -- What happened since the opening: each entry that was added has a maker, a number below n; the stretches of faults
+  -- are in order; and what has to hold for each member holds.
   pub record PastFits (n : ℕ) (past : Past E D) : Type 0 where
     pub list : (added : List E) × (past.history ≡ m.entries opened ++ added)
         × (length added ≡ length past.makers)
@@ -184,7 +184,7 @@ module _ {T E D : Type 0} (m : Meaning T E D) (opened : T) where
     pub faults : InOrder (m.faults opened) past.members
     pub told : Each (λ t. m.tells t.1) past.members
 
-  -- The value is at home and stands for the list, or it is out with a seat in turn.
+  -- The value is at home and represents the list, or it is out with a seat in turn.
   abbrev pub IsHome : Past E D → List (Option T) → List (View E D) → Type 0
   IsHome past homes views =
       ((x : T) × (homes ≡ some x ∷ []) × (m.entries x ≡ past.history) × (m.stays x ≡ m.stays opened)

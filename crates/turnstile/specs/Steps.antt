@@ -1,4 +1,4 @@
--- What the steps of a turnstile tell the seat that makes them.
+-- What the steps of a turnstile show to the seat that makes them.
 use Rattle.std.specs.Prelude.{◌≡◌, ℕ, ◌≤◌, ◌%◌, ◌^◌, List, [], ◌∷◌, ◌++◌, length, Option}
 use Rattle.atomic_table.specs.Table.{Step, Me}
 use Rattle.turnstile.specs.declared.view.Member.{Member}
@@ -28,36 +28,36 @@ after_turn first before after told (a ∷ rest) =
     } ∷ rest
 
 module _ {T E D : Type 0} (m : Meaning T E D) where
-  -- The value x goes on from all that the seat knows: its list begins with what was seen, its numbers that stay are
-  -- those of each account, and its count of faults is at least every count that was told.
+  -- The value x continues all that the seat knows: its list starts with what was seen, its numbers that stay are those
+  -- of each account, and its count of faults is at least every count that was told.
   pub record GoesOnFrom (v : View E D) (x : T) : Type 0 where
     pub seen : IsPrefix v.seen (m.entries x)
     pub stays : Each (λ a. m.stays x ≡ a.stays) v.accounts
     pub told : Each (λ a. Each (λ t. t.to ≤ m.faults x) a.told) v.accounts
 
-  -- A seat whose ticket is served has the value from now on. Any other is as before.
+  -- A seat whose ticket is served has the value from now on. Any other seat is unchanged.
   abbrev pub Sees : Step T → Me T (View E D) → ℕ → Me T (View E D) → Type 0
   Sees st v found w =
       (found ≡ v.0.ticket % 2 ^ 64 →
       (x : T) × (w ≡ (turn_view v.0 (m.entries x) (m.faults x), (0, x) ∷ [])) × GoesOnFrom v.0 x)
       × ((found ≡ v.0.ticket % 2 ^ 64 → ⊥) → w ≡ v)
 
-  -- the view of a seat that has given the value y back
+  -- the view of a seat that has returned the value y
   abbrev pub view_after : Option D → View E D → T → View E D
   view_after said v y =
       idle_view (m.entries y) []
       (after_turn m.first (length v.seen) (length (m.entries y))
       (told_of said (length v.seen) v.from (m.faults y)) v.accounts)
 
-  -- A seat in turn has given its value back.
+  -- A seat in turn has returned its value.
   abbrev pub PassesOn : Option D → Step T → Me T (View E D) → ℕ → Me T (View E D) → Type 0
   PassesOn said st v found w = (y : T) → v.1 ≡ (0, y) ∷ [] → w ≡ (view_after said v.0 y, [])
 
--- A seat that raises an event count is as before.
+-- A seat that raises an event count is unchanged.
 abbrev pub Notifies : {T E D : Type 0} → Step T → Me T (View E D) → ℕ → Me T (View E D) → Type 0
 Notifies st v found w = w ≡ v
 
--- A seat that took another one in has seen the longer of the two lists, of which both are fronts.
+-- A seat that absorbed another one has seen the longer of the two lists, and both are fronts of it.
 abbrev pub Learns : {T E D : Type 0} → Step T → Me T (View E D) → ℕ → Me T (View E D) → Type 0
 Learns st v found w =
     (w ≡ (idle_view (longer v.0.seen v.0.aside) [] v.0.accounts, v.1))

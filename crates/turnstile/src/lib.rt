@@ -1,5 +1,4 @@
-//! One value for many callers, who use it in turns. Each caller has a pass, and all passes together know who did
-//! what.
+//! One value for many callers, who use it in turns. Each caller has a pass, and all passes together know who did what.
 #![tactic(auto)]
 
 mod pass;

@@ -10,7 +10,7 @@ use atomic_table::{Join, Play, Split, TableRule};
 use std::marker::{Brand, PhantomData};
 use std::snapshot::Snapshot;
 
-// The value that a turnstile was opened with, and how many passes it has.
+// The value that a turnstile was opened with, and its number of passes.
 #[derive(Drop)]
 pub struct Key<T> {
     pub opened: Snapshot<T>,
@@ -39,7 +39,7 @@ impl<T: Tally> Play<T, View<T::Entry, T::Told>> for Draw<T> {
     ghost then = { Draws };
 }
 
-// A seat with a ticket sees whether it is served.
+// A seat with a ticket checks whether it is served.
 pub struct See<T> {
     of: PhantomData<T>,
 }
@@ -48,7 +48,7 @@ impl<T: Tally> Play<T, View<T::Entry, T::Told>> for See<T> {
     ghost then = { Sees (meaning T.entries T.faults T.stays T.first T.tells) };
 }
 
-// The piece that an answer stands for. Each call picks its own.
+// The piece of data that an answer means. Each call chooses its own.
 pub trait Piece<D> {
     ghost piece: { Option D };
 }
@@ -57,7 +57,7 @@ impl<D> Piece<D> for Brand {
     ghost piece = { None };
 }
 
-// A seat in turn gives the value back, and serves the next ticket.
+// A seat in turn returns the value, and serves the next ticket.
 pub struct PassOn<T, P> {
     of: PhantomData<(T, P)>,
 }
@@ -73,14 +73,14 @@ impl<T, E, D> Play<T, View<E, D>> for Notify {
     ghost then = { Notifies };
 }
 
-// A seat that took another one in sees what both had seen.
+// A seat that absorbed another one has seen what both had seen.
 pub struct Learn;
 
 impl<T, E, D> Play<T, View<E, D>> for Learn {
     ghost then = { Learns };
 }
 
-// How an idle seat is cut in two, and how two are made one.
+// How an idle seat is split in two, and how two are joined.
 pub struct Parts;
 
 impl<E, D> Split<View<E, D>> for Parts {

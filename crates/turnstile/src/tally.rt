@@ -1,8 +1,8 @@
-// What the value of a turnstile stands for, and what an answer stands for.
+// What the value of a turnstile represents, and what an answer represents.
 ghost use Rattle.std.specs.Prelude.{ℕ, List, Option};
 ghost use Rattle.turnstile.specs.declared.view.Member.{Member};
 
-/// A value that stands for a list of numbered entries.
+/// A value that represents a list of numbered entries.
 pub trait Tally {
     /// One entry of the list.
     type Entry;
@@ -13,7 +13,7 @@ pub trait Tally {
     /// The list.
     ghost entries: { Self → List Self.Entry };
 
-    /// A count of faults. No turn lets it fall.
+    /// A count of faults. No turn decreases it.
     ghost faults: { Self → ℕ };
 
     /// Numbers that stay: no turn changes them.
@@ -22,15 +22,15 @@ pub trait Tally {
     /// The number of the first entry. The others follow it in order.
     ghost first: { ℕ };
 
-    /// What has to hold of each member that a pass is told. Each turn sees to it, and the end relies on it.
+    /// What has to hold for each member that a pass is told. Each turn ensures it, and the end relies on it.
     ghost tells: { Member Self.Told → Type 0 };
 }
 
-/// An answer that stands for one piece of data, which the pass is told, or for nothing.
+/// An answer that represents one piece of data, which the pass is told, or nothing.
 pub trait Said {
     /// The piece of data.
     type Told;
 
-    /// The piece that the answer stands for, if there is one.
+    /// The piece that the answer represents, if there is one.
     ghost said: { Self → Option Self.Told };
 }

@@ -19,19 +19,19 @@ use std::marker::{Brand, Model};
 use std::snapshot::Snapshot;
 use std::sync::Wait;
 
-// The word that counts the tickets drawn, and the word that says which one is served.
+// The word that counts the tickets drawn, and the word with the ticket that is served.
 const DRAWN: usize = 0;
 
 const SERVED: usize = 1;
 
-// The other words are event counts, as many as there are passes at most. A seat that waits sleeps on the event count of
-// its ticket, so that a turn wakes the next ticket's seat alone.
+// The other words are event counts, at most as many as there are passes. A waiting seat sleeps on the event count of
+// its ticket, so that a turn wakes only the next ticket's seat.
 const EVENTS: u64 = 64;
 
 const WORDS: usize = 66;
 
 /// One value, which its callers use in turns. Contracts see which table it is, the value that it was opened with, and
-/// how many passes it has.
+/// its number of passes.
 #[derive(Drop)]
 pub struct Turnstile<T: Tally> {
     table: Table<T, View<T::Entry, T::Told>, Key<T>, TurnRule<T>, Global>,
@@ -54,8 +54,8 @@ impl<T: Tally> Model for Turnstile<T> {
 }
 
 impl<T: Tally> Turnstile<T> {
-    /// A turnstile over this value, with so many passes. An `Err` is want of memory, and hands the value back. No other
-    /// call takes memory.
+    /// A turnstile over this value, with this many passes. An `Err` means lack of memory, and returns the value. No
+    /// other call takes memory.
     pub fn open(
         alloc: Global,
         value: T,
@@ -125,7 +125,8 @@ impl<T: Tally> Turnstile<T> {
         list
     }
 
-    /// One turn: waits for it, and lends the value as it then is to `act`, once. Nobody else has the value meanwhile.
+    /// One turn: waits for it, and lends the value in its current state to `act`, once. Nobody else has the value
+    /// meanwhile.
     pub fn enter<A: Said<Told = T::Told>, F: FnOnce(&mut T) -> A, R: Wait>(
         &self,
         rt: &R,
@@ -177,7 +178,7 @@ impl<T: Tally> Turnstile<T> {
         unreachable!()
     }
 
-    // Gives the value back, serves the next ticket, and wakes its seat if it was drawn.
+    // Returns the value, serves the next ticket, and wakes its seat if it was drawn.
     fn pass_on<A: Said<Told = T::Told>, P: Piece<T::Told>>(
         &self,
         seat: &mut Seat<T, View<T::Entry, T::Told>>,
@@ -218,8 +219,7 @@ impl<T: Tally> Turnstile<T> {
         self.table.shared.wake_all(event);
     }
 
-    /// Two passes meet: what each had seen is a front of the longer of the two lists, which both have seen
-    /// afterwards.
+    /// Two passes meet: what each had seen is a front of the longer of the two lists, which both have seen afterwards.
     pub fn meet<R: Wait>(
         &self,
         rt: &R,
@@ -256,7 +256,7 @@ impl<T: Tally> Turnstile<T> {
         self.table.shared.load::<Learn>(seat, SERVED);
     }
 
-    /// The value, after the last turn. These are all passes of the turnstile.
+    /// The value, after the last turn. The argument has all passes of the turnstile.
     pub fn close(self, mut passes: Vec<Pass<T::Entry, T::Told>>) -> T
         requires passes { AreOf self.table passes.items }
         requires all { HaveAll self.passes passes.items }
@@ -290,7 +290,7 @@ impl<T: Tally> Turnstile<T> {
     }
 }
 
-// The word with the event count of a ticket. Seats that wait at once have event counts of their own.
+// The word with the event count of a ticket. Seats that wait at the same time have different event counts.
 fn event_of(ticket: u64) -> usize
     ensures place { result ≡ 2 + ticket % 64 }
     ensures word { (2 ≤ result) × (result < 66) }

@@ -1,4 +1,4 @@
-// What a seat at the table knows. Contracts alone see it: no value of these types is made.
+// What a seat at the table knows. Only contracts see it: no value of these types is created.
 use std::collections::LinkedList;
 
 // Whether a seat has a ticket, and whether it is in turn.
@@ -25,8 +25,8 @@ pub struct Account<D> {
     pub told: LinkedList<Member<D>>,
 }
 
-// A seat's stage, its ticket, the count of faults at the start of its turn, the list that it has seen, the list that
-// a seat which it took in had seen, and the accounts that it has.
+// A seat's stage, its ticket, the count of faults at the start of its turn, the list that it has seen, the list that a
+// seat absorbed by it had seen, and its accounts.
 pub struct View<E, D> {
     pub stage: Stage,
     pub ticket: u64,

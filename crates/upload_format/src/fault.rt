@@ -1,3 +1,4 @@
+//! Why a body isn't read.
 ghost use Rattle.std.specs.Prelude.{◌≡◌, Some};
 ghost use Rattle.upload_format.specs.declared.fault.UploadFault.TheVariants as faults;
 

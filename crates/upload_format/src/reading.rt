@@ -1,3 +1,4 @@
+//! The bodies of uploads, read as lists of items.
 ghost use Rattle.std.specs.Prelude.{◌≡◌, ℕ, List, false, Some, option_map};
 ghost use Rattle.std.specs.Str.{bytes_eq};
 ghost use Rattle.std.specs.List.{list_all};

@@ -22,7 +22,7 @@ Writes old new issuer now = (q : List ℕ) → places_of new q ≡ cond (bytes_e
 same-text : (xs ys : List ℕ) → bytes_eq xs ys ≡ true → xs ≡ ys
 same-text xs ys is = (bytes_eq-Decides xs ys).0 is
 
--- ---- nothing changed that contracts see
+-- ---- nothing that contracts see changed
 
 pub same-entries : (old new : Index) → new.entries ≡ old.entries → IsSame old new
 same-entries old new is = record {
@@ -92,7 +92,7 @@ pushed history e q old new are accreditation uploads = record {
       subst P (sym uploads) (places-push (is_upload_of q) history e (uploads_in old) are.uploads));
 }
 
--- an issuer of which another entry is noted, or none
+-- an issuer for which another entry is noted, or none
 unmatched : {A : Type 0} (kind b : Bool) (x y : A) → b ≡ false → y ≡ cond (kind && b) x y
 unmatched true true x y is = cc
 unmatched true false x y is = refl
@@ -103,7 +103,7 @@ matched true true x y is = refl
 matched true false x y is = cc
 matched false b x y is = refl
 
--- the entry is of no issuer
+-- the entry belongs to no issuer
 pub index-other : (history : History) (index : Index) (e : KeptEntry) → (IsValid e.office → ⊥) → IsIndex history index → IsIndex (history ++ e ∷ []) index
 index-other history index e never is q valid =
     let other = differs (bytes_eq e.office q) refl in

@@ -1,4 +1,4 @@
--- What is kept beside the entries, after room was made and after an entry was added.
+-- What is kept alongside the entries, after room was made and after an entry was added.
 use Rattle.std.proofs.Common.{◌≡◌, ℕ, ◌+◌, ◌≤◌, List, [], ◌∷◌, ◌++◌, length, filter, Bool, true, false, cond, Option, Some, None, option_map, refl, sym, ap, ◌∙◌, subst, arith, length-append}
 use Rattle.std.specs.Vec.{vec_len, vec_capacity}
 use Rattle.std.proofs.lemmas.List.Elements.{filter-append}
@@ -17,13 +17,13 @@ use Rattle.upload_ledger.proofs.PlaceLemmas.{places-length, places-push}
 pub filter-few : (test : KeptEntry → Bool) (history : History) → length (filter test history) ≤ length history
 filter-few test history = omega (arith, length-filter test history, count_by-le-length test history)
 
--- at most so many places as entries
+-- at most as many places as entries
 pub places-few : (test : KeptEntry → Bool) (history : History) (places : List ℕ) → ArePlaces test history places → AreFew history → length places ≤ 10000000
 places-few test history places are few = omega (arith, places-length test history places are, filter-few test history, few.entries)
 
 -- ---- room
 
--- what had room has it still
+-- what had room still has it
 pub room-stays : (old new : Inside) (room : Option (List ℕ)) → vec_len new.entries ≡ vec_len old.entries → vec_capacity old.entries ≤ vec_capacity new.entries
     → vec_len new.publications ≡ vec_len old.publications → vec_capacity old.publications ≤ vec_capacity new.publications → IsSame old.index new.index
     → IsRoomFor old room → IsRoomFor new room
@@ -83,7 +83,7 @@ kept-push old new e kept entries index publications accreditations bytes few roo
 pub old-entries : (ledger : Inside) (state : LedgerState) (e : KeptEntry) → view_of ledger ≡ state → AreFew (state.entries ++ e ∷ []) → AreFew (ledger.entries.items ++ e ∷ [])
 old-entries ledger state e is few = (let P : LedgerState → Type 0 = λ s. AreFew (s.entries ++ e ∷ []) in subst P (sym is) few)
 
--- one more accreditation is no more than the entries
+-- one more accreditation, and still at most as many as entries
 pub few-accreditations : (ledger : Inside) (e : KeptEntry) → IsKept ledger → AreFew (ledger.entries.items ++ e ∷ []) → ledger.accreditations + cond (is_accreditation e) 1 0 ≤ 10000000
 few-accreditations ledger e kept few =
     omega (arith, kept.accreditations, counted is_accreditation ledger.entries.items e, filter-few is_accreditation (ledger.entries.items ++ e ∷ []), few.entries)

@@ -37,7 +37,7 @@ place-at test history places i are =
 pub places-length : (test : KeptEntry → Bool) (history : History) (places : List ℕ) → ArePlaces test history places → length places ≡ length (filter test history)
 places-length test history places are = sym (length-map places (slice_get history)) ∙ (ap length are ∙ length-map (filter test history) Some)
 
--- the entry of a number, where the number's place is found
+-- the entry with a number, if the number's place is found
 pub entry_of_number : (test : KeptEntry → Bool) (history : History) (places : List ℕ) (number place : ℕ) (found : Option KeptEntry) → ArePlaces test history places
     → 0 < number → slice_get places (number - 1) ≡ Some place → found ≡ slice_get history place → found ≡ numbered (filter test history) number
 entry_of_number test history places number place found are some at is =
@@ -48,7 +48,7 @@ entry_of_number test history places number place found are some at is =
 
 -- ---- one more entry
 
--- an entry that is found is found still
+-- an entry that is found is still found
 stays-at : (history : History) (e : KeptEntry) (place : ℕ) (item : KeptEntry) → slice_get history place ≡ Some item → slice_get (history ++ e ∷ []) place ≡ Some item
 stays-at history e place item at =
     let within = slice_get_within history place item at in
@@ -77,7 +77,7 @@ one_stays history e None (Some item) is = cc
 one_stays history e (Some place) None is = cc
 one_stays history e (Some place) (Some item) is = let at : slice_get history place ≡ Some item = cc in ap Some (stays-at history e place item at)
 
--- the places with one more, where the entry passes the test
+-- the places and one more, if the entry passes the test
 pub places-push : (test : KeptEntry → Bool) (history : History) (e : KeptEntry) (places : List ℕ) → ArePlaces test history places
     → ArePlaces test (history ++ e ∷ []) (cond (test e) (places ++ length history ∷ []) places)
 places-push test history e places are =

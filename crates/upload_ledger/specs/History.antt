@@ -1,5 +1,5 @@
--- A history is the list of what was taken, in order. Who is accredited, which upload is which, what was published and
--- what was answered are filters of that list. This project's profile.
+-- A history is the list of what was taken, in order. Which issuers are accredited, which upload is which, what was
+-- published and what was answered are filters of that list. This project's profile.
 use Rattle.std.specs.Prelude.{ℕ, ◌-◌, ◌+◌, ℤ, List, length, sum_by, Bool, ◌&&◌, ◌==◌, nat_lt, nat_le, if◌then◌else◌, filter, find, slice_get, Option, Some, None, option_map, is_some}
 use Rattle.std.specs.Int.{int_max}
 use Rattle.std.specs.Str.{bytes_eq}
@@ -15,7 +15,7 @@ History = List KeptEntry
 abbrev pub last_entry : History → Option KeptEntry
 last_entry history = slice_get history (length history - 1)
 
--- the later of the moment and the entry's, where there is an entry
+-- the later of the moment and the entry's moment, if there is an entry
 abbrev pub later : Option KeptEntry → ℤ → ℤ
 later None moment = moment
 later (Some e) moment = int_max e.moment moment
@@ -46,13 +46,13 @@ is_accreditation_of issuer e = is_accreditation e && bytes_eq e.office issuer
 abbrev pub is_upload_of : Lei → KeptEntry → Bool
 is_upload_of issuer e = is_upload e && bytes_eq e.office issuer
 
--- the entry of this number in a list, counted from 1
+-- the entry with this number in a list, counted from 1
 abbrev pub numbered : History → ℕ → Option KeptEntry
 numbered entries number = if number == 0 then None else slice_get entries (number - 1)
 
 -- ---- what a history has of an issuer
 
--- what was answered when the issuer was accredited
+-- the answer to the issuer's accreditation
 abbrev pub accredited : History → Lei → Option Text
 accredited history issuer = option_map (λ e. e.answer) (find (is_accreditation_of issuer) history)
 
@@ -60,7 +60,7 @@ accredited history issuer = option_map (λ e. e.answer) (find (is_accreditation_
 abbrev pub uploads : History → Lei → History
 uploads history issuer = filter (is_upload_of issuer) history
 
--- the number of the issuer's last upload, 0 for none
+-- the number of the issuer's last upload, or 0 if there is none
 abbrev pub last : History → Lei → ℕ
 last history issuer = length (uploads history issuer)
 
@@ -68,11 +68,11 @@ last history issuer = length (uploads history issuer)
 abbrev pub next_number : History → Lei → ℕ
 next_number history issuer = last history issuer + 1
 
--- the issuer's upload of this number, counted from 1
+-- the issuer's upload with this number, counted from 1
 abbrev pub upload_at : History → Lei → ℕ → Option KeptEntry
 upload_at history issuer number = numbered (uploads history issuer) number
 
--- what was answered to the issuer's upload of this number
+-- the answer to the issuer's upload with this number
 abbrev pub kept : History → Lei → ℕ → Option Text
 kept history issuer number = option_map (λ e. e.answer) (upload_at history issuer number)
 
@@ -82,17 +82,17 @@ kept history issuer number = option_map (λ e. e.answer) (upload_at history issu
 abbrev pub publications : History → History
 publications history = filter is_publication history
 
--- what was answered when the publication of this number was made
+-- the answer to the publication with this number
 abbrev pub published : History → ℕ → Option Text
 published history number = option_map (λ e. e.answer) (numbered (publications history) number)
 
--- ---- how much there is
+-- ---- the totals
 
--- the bytes of the bodies, together
+-- the number of bytes of all bodies
 abbrev pub kept_bytes : History → ℕ
 kept_bytes history = sum_by (λ e. length e.body) history
 
--- the numbers of entries, of accreditations, of the bytes of bodies, and of publications
+-- the numbers of entries, of accreditations, of bytes of bodies, and of publications
 abbrev pub totals : History → Totals
 totals history = record {
   entries = length history;
@@ -111,13 +111,13 @@ pub data Place : Type 0 where
   ahead : ℕ → Place
   fresh : Place
 
--- the number belongs to an upload that was taken: a repeat of it where it had this body
+-- the number belongs to an upload that was taken: a repeat of it if it had this body
 abbrev pub place_of_taken : Body → Option KeptEntry → Place
 place_of_taken body None = number_taken
 place_of_taken body (Some e) = if bytes_eq e.body body then repeat_of e.answer else number_taken
 
--- The first of these: the issuer isn't accredited; the number was taken, with this body or another; it isn't the
--- next one; it is.
+-- The first of these that applies: the issuer isn't accredited; the number was taken, with this body or another; it
+-- isn't the next one; it is the next one.
 abbrev pub place : History → Lei → ℕ → Body → Place
 place history issuer number body =
     if is_some (accredited history issuer) then

@@ -1,4 +1,4 @@
--- What the places that are kept beside the entries say of them.
+-- The places that are kept alongside the entries, and what they say of the entries.
 use Rattle.std.specs.Prelude.{◌≡◌, ℕ, ◌<◌, List, [], map, filter, find, slice_get, Bool, Option, Some, None, option_map}
 use Rattle.std.specs.Vec.{vec_len, vec_capacity}
 use Rattle.std.specs.BTreeMap.{BTreeMap, get}
@@ -14,7 +14,7 @@ use Rattle.upload_ledger.specs.History.{History, is_accreditation_of, is_upload_
 abbrev pub ArePlaces : (KeptEntry → Bool) → History → List ℕ → Type 0
 ArePlaces test history places = map (slice_get history) places ≡ map Some (filter test history)
 
--- this is the place of the first entry that passes the test, where there is one
+-- this is the place of the first entry that passes the test, if there is one
 abbrev pub IsFirstPlace : (KeptEntry → Bool) → History → Option ℕ → Type 0
 IsFirstPlace test history place = option_map (slice_get history) place ≡ option_map Some (find test history)
 
@@ -36,22 +36,22 @@ abbrev pub uploads_in : Option IssuerPlaces → List ℕ
 uploads_in None = []
 uploads_in (Some places) = places.uploads.items
 
--- what is kept of an issuer says where its entries are
+-- what is kept of an issuer gives the places of its entries
 pub record AreOf (history : History) (issuer : Lei) (places : Option IssuerPlaces) : Type 0 where
   pub accreditation : IsFirstPlace (is_accreditation_of issuer) history (accreditation_in places)
   pub uploads : ArePlaces (is_upload_of issuer) history (uploads_in places)
 
--- so for each issuer
+-- the same for each issuer
 abbrev pub IsIndex : History → Index → Type 0
 IsIndex history index = (issuer : Lei) → IsValid issuer → AreOf history issuer (places_of index issuer)
 
--- an entry of the issuer finds room
+-- there is room for an entry of the issuer
 pub record HasRoom (index : Index) (issuer : Lei) : Type 0 where
   pub places : IssuerPlaces
   pub found : places_of index issuer ≡ Some places
   pub spare : vec_len places.uploads < vec_capacity places.uploads
 
--- nothing that is kept of an issuer was changed, and each that had room has it still
+-- nothing that is kept of an issuer was changed, and each issuer with room still has it
 pub record IsSame (old new : Index) : Type 0 where
   pub accreditation : (issuer : Lei)
       → accreditation_in (places_of new issuer) ≡ accreditation_in (places_of old issuer)

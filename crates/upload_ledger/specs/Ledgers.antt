@@ -1,4 +1,4 @@
--- What is kept beside the entries of a ledger.
+-- What is kept alongside the entries of a ledger.
 use Rattle.std.specs.Prelude.{◌≡◌, ◌<◌, Option, Some, None, length, filter, option_map}
 use Rattle.std.specs.Vec.{vec_len, vec_capacity}
 use Rattle.lei_code.specs.Code.{IsValid}
@@ -14,12 +14,12 @@ pub record HasRoomFor (ledger : Inside) (issuer : Text) : Type 0 where
   pub publication : vec_len ledger.publications < vec_capacity ledger.publications
   pub place : IsValid issuer → HasRoom ledger.index issuer
 
--- so where it was made for an issuer
+-- the same if room was made for an issuer
 abbrev pub IsRoomFor : Inside → Option Text → Type 0
 IsRoomFor ledger None = Unit {0}
 IsRoomFor ledger (Some issuer) = HasRoomFor ledger issuer
 
--- The places and the numbers are those of the entries, and neither these nor their bytes are too many.
+-- The places and the numbers are those of the entries. Neither the entries nor their bytes are too many.
 pub record IsKept (ledger : Inside) : Type 0 where
   pub index : IsIndex ledger.entries.items ledger.index
   pub publications : ArePlaces is_publication ledger.entries.items ledger.publications.items

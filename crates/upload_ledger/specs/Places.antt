@@ -1,4 +1,4 @@
--- What the code's `Place` stands for.
+-- The meaning of the code's `Place`.
 use Rattle.std.specs.Prelude.{◌≡◌}
 use Rattle.upload_ledger.specs.declared.place.Place.{Place}
 use Rattle.upload_ledger.specs.declared.place.Place.TheVariants as code

@@ -1,4 +1,4 @@
-// Where the entries of each issuer stand.
+// The places of each issuer's entries.
 ghost use Rattle.std.specs.Prelude.{◌≡◌, ◌<◌, ◌++◌, ◌∷◌, [], Bool, Some, None, OnOk, if◌then◌else◌, ◌==◌, option_map, option_and_then, find, filter, slice_get, vec_len, vec_capacity};
 ghost use Rattle.std.specs.Option.{option_or};
 ghost use Rattle.lei_code.specs.Code.{IsValid};
@@ -46,7 +46,7 @@ pub fn accreditation<'a>(
     requires { IsIndex entries.now index.now }
     ensures { option_map (λ e. e.now) result ≡ find (is_accreditation_of issuer.now) entries.now }
 {
-    // What is asked for is an LEI.
+    // The argument is an LEI.
     let _ = issuer.as_bytes();
     let place = accreditation_place(index, issuer)?;
     entries.get(place)
@@ -66,7 +66,7 @@ pub fn uploads<'a>(index: &'a Index, issuer: &Lei) -> &'a [usize]
     ensures places { result.now ≡ uploads_in (places_of index.now issuer.now) }
     ensures lei { IsValid issuer.now }
 {
-    // What is asked for is an LEI.
+    // The argument is an LEI.
     let _ = issuer.as_bytes();
     match index.get(issuer) {
         Some(places) => places.uploads.as_slice(),
@@ -74,7 +74,7 @@ pub fn uploads<'a>(index: &'a Index, issuer: &Lei) -> &'a [usize]
     }
 }
 
-// The entry of this number among those at these places, counted from 1.
+// The entry with this number among those at these places, counted from 1.
 pub fn entry_at<'a>(
     entries: &'a [KeptEntry],
     places: &[usize],
@@ -87,7 +87,7 @@ pub fn entry_at<'a>(
     entries.get(*place)
 }
 
-// Makes room for one more entry of an office, where it is an issuer.
+// Makes room for one more entry of an office, if it is an issuer.
 pub fn make_room(alloc: Global, index: &mut Index, office: &[u8]) -> Result<(), NoMemory>
     ensures same { IsSame index.old index.new }
     ensures room { OnOk result (IsValid office.now → HasRoom index.new office.now) }
@@ -109,7 +109,7 @@ fn make_issuer_room(alloc: Global, index: &mut Index, issuer: Lei) -> Result<(),
     Ok(())
 }
 
-// An issuer that nothing was kept of.
+// Adds an issuer without any kept entry.
 fn add_issuer(alloc: Global, index: &mut Index, issuer: Lei) -> Result<(), NoMemory>
     requires { places_of index.old issuer ≡ None }
     ensures same { IsSame index.old index.new }
@@ -124,7 +124,7 @@ fn add_issuer(alloc: Global, index: &mut Index, issuer: Lei) -> Result<(), NoMem
     Ok(())
 }
 
-// Notes where the entry stands behind the others.
+// Notes the place of the entry, which is after the others.
 pub fn note(index: &mut Index, entries: &[KeptEntry], entry: &KeptEntry)
     requires room { IsValid entry.now.office → HasRoom index.old entry.now.office }
     requires index { IsIndex entries.now index.old }

@@ -1,3 +1,4 @@
+//! The ledger: the entries of a history, with an index by issuer.
 ghost use Rattle.std.specs.Prelude.{◌≡◌, ◌≤◌, ◌<◌, if◌then◌else◌, vec_len, vec_capacity, ◌++◌, ◌∷◌, [], Ok, Some, None, OnOk, OnErr, option_map};
 ghost use Rattle.upload_ledger.specs.History.{accredited, is_accreditation, is_publication, kept, last, next_number, numbered, place, publications, published, totals, upload_at};
 ghost use Rattle.upload_ledger.specs.Limits.{AreFew};
@@ -16,7 +17,7 @@ use std::marker::Model;
 use std::snapshot::Snapshot;
 
 /// The entries of a history. Contracts see it as the list of them, with the issuer for whose next entry there is room.
-/// A look-up goes by the logarithm of the number of issuers, and through no entries.
+/// The time of a lookup depends on the logarithm of the number of issuers, and a lookup doesn't go through the entries.
 #[derive(Drop)]
 pub struct Ledger {
     alloc: Global,
@@ -65,7 +66,7 @@ impl Ledger {
         self.entries.as_slice()
     }
 
-    /// Where the upload falls: the first that is so.
+    /// Where the upload falls: the first case that applies.
     pub fn place(&self, office: &Lei, number: u32, body: &[u8]) -> Place<'_>
         ensures { IsPlace result (place self.now.entries office.now number body.now) }
     {
@@ -87,7 +88,7 @@ impl Ledger {
         Place::Fresh
     }
 
-    /// What was answered when the issuer was accredited.
+    /// The answer to the issuer's accreditation.
     pub fn accredited(&self, office: &Lei) -> Option<&[u8]>
         ensures { option_map (λ text. text.now) result ≡ accredited self.now.entries office.now }
     {
@@ -95,7 +96,7 @@ impl Ledger {
         Some(entry.answer.as_slice())
     }
 
-    /// What was answered to the issuer's upload of this number.
+    /// The answer to the issuer's upload with this number.
     pub fn kept(&self, office: &Lei, number: u32) -> Option<&[u8]>
         ensures { option_map (λ text. text.now) result ≡ kept self.now.entries office.now number }
     {
@@ -103,7 +104,7 @@ impl Ledger {
         Some(entry.answer.as_slice())
     }
 
-    /// What was answered when the publication of this number was made.
+    /// The answer to the publication with this number.
     pub fn publication(&self, number: u32) -> Option<&[u8]>
         ensures { option_map (λ text. text.now) result ≡ published self.now.entries number }
     {
@@ -118,7 +119,7 @@ impl Ledger {
         self.last(office) + 1
     }
 
-    // The number of the issuer's last upload, 0 for none.
+    // The number of the issuer's last upload, or 0 if there is none.
     fn last(&self, office: &Lei) -> u32
         ensures last { result ≡ last self.now.entries office.now }
         ensures few { result ≤ 10000000 }
@@ -143,7 +144,7 @@ impl Ledger {
         )
     }
 
-    /// How much there is.
+    /// The totals of the entries.
     pub fn totals(&self) -> Totals
         ensures value { result ≡ totals self.now.entries }
         ensures few { AreFew self.now.entries }
@@ -169,7 +170,7 @@ impl Ledger {
         Ok(())
     }
 
-    /// Adds an entry for which room was made. It takes no memory.
+    /// Adds an entry that room was made for. It takes no memory.
     pub fn push_reserved(&mut self, entry: KeptEntry)
         requires room { self.old.room ≡ Some entry.office }
         requires few { AreFew (self.old.entries ++ entry ∷ []) }
@@ -185,7 +186,7 @@ impl Ledger {
     }
 }
 
-// Notes where the entry stands, where it is a publication.
+// Notes the place of the entry, if it is a publication.
 fn note_publication(publications: &mut Vec<usize>, entry: &KeptEntry, place: usize)
     requires spare { vec_len publications.old < vec_capacity publications.old }
     ensures { publications.new.items

@@ -1,4 +1,4 @@
-//! The ledger: the entries of a history, and what is found among them.
+//! The ledger: the entries of a history, and the lookups among them.
 #![tactic(auto)]
 
 mod index;

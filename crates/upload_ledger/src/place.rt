@@ -5,9 +5,9 @@ pub enum Place<'a> {
     UnknownOffice,
     /// It was taken before, with this answer.
     Repeat(&'a [u8]),
-    /// Another body has its number.
+    /// An earlier upload with another body has its number.
     Taken,
-    /// The next upload has this number, and not a later one.
+    /// The next upload has this number, and the upload has a later one.
     Ahead(u32),
     Fresh,
 }

@@ -4,7 +4,7 @@ use Rattle.group_reports.specs.Arcs.{IsWithin, link_at}
 use Rattle.group_reports.specs.Links.{link_of}
 use Rattle.group_reports.proofs.arcs.arcs_of.Given as goal
 
--- those of the rows so far were made
+-- the arcs of the rows so far were made
 abbrev pub invariant-loop-row : goal.invariant-loop-row
 invariant-loop-row l = record {
   links : map (link_at l.places) l.made.items ≡ map link_of (take l.row-index l.rows);

@@ -4,7 +4,7 @@ use Rattle.group_reports.specs.Places.{step}
 use Rattle.group_reports.proofs.ArcLemmas.{or_place}
 use Rattle.group_reports.proofs.arcs.first_ends.Given as goal
 
--- what isn't found yet is found from this arc on
+-- what hasn't been found yet is found at this arc or after it
 abbrev pub invariant-loop-arc : goal.invariant-loop-arc
 invariant-loop-arc l = record {
   counted : length l.ends.items ≡ l.count;

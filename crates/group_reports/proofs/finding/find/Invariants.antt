@@ -2,7 +2,7 @@ use Rattle.std.proofs.Common.{◌-◌, ◌≤◌, length}
 use Rattle.group_reports.proofs.PlaceLemmas.{AreLess, AreMore}
 use Rattle.group_reports.proofs.finding.find.Given as goal
 
--- the LEIs before one place are lesser, and those from another place on are greater
+-- the LEIs before one place are less, and those at another place and after it are greater
 abbrev pub invariant-loop-low : goal.invariant-loop-low
 invariant-loop-low l = record {
   within : l.high ≤ length l.leis;

@@ -5,7 +5,7 @@ use Rattle.group_reports.proofs.DownLemmas.{Down}
 use Rattle.group_reports.proofs.ListLemmas.{has}
 use Rattle.group_reports.proofs.listing.members.Given as goal
 
--- the walk came down to a level, and with those below it they are all
+-- the walk reached a level, and together with those below it the members are all
 abbrev pub invariant-loop-steps : goal.invariant-loop-steps
 invariant-loop-steps l = record {
   down : Down l.links.links (at l.links.leis l.root) (map (member_at l.links.leis) l.made.items) (has (map (at l.links.leis) l.level.items)) l.steps;

@@ -5,7 +5,7 @@ use Rattle.group_reports.specs.Places.{at}
 use Rattle.group_reports.specs.Reports.{disagreement_line}
 use Rattle.group_reports.proofs.reports.put_disagreeing.Given as goal
 
--- with those of the entities from this one on they are all there
+-- together with those of this entity and the entities after it they are all there
 abbrev pub invariant-loop-place : goal.invariant-loop-place
 invariant-loop-place l =
     let leis = map (at l.links.leis) l.places in

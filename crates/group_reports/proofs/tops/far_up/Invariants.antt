@@ -2,7 +2,7 @@ use Rattle.std.proofs.Common.{◌-◌, ◌≤◌}
 use Rattle.group_reports.specs.Places.{LeadsFar}
 use Rattle.group_reports.proofs.tops.far_up.Given as goal
 
--- it is known where so many steps lead
+-- it is known where this many steps lead
 abbrev pub invariant-loop-steps : goal.invariant-loop-steps
 invariant-loop-steps l = record {
   some : 1 ≤ l.steps;

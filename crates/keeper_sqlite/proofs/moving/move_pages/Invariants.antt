@@ -4,7 +4,7 @@ use Rattle.sqlite.specs.State.{HasCleanDisk, Survives}
 use Rattle.store_tables.specs.Calls.{Carries}
 use Rattle.keeper_sqlite.proofs.moving.move_pages.Given as goal
 
--- the pages so far were carried over
+-- the pages so far were moved
 abbrev pub invariant-loop : goal.invariant-loop
 invariant-loop g l =
     let old = state g.S.Store l.fn.tx.conn.now in

@@ -4,7 +4,7 @@ use Rattle.std.specs.Str.{bytes_eq}
 use Rattle.lei_shapes.specs.Shape.{texts_behind}
 use Rattle.lei_shapes.proofs.codes.stands_in.Given as goal
 
--- the text stands among those that are left if and only if it stands among all
+-- the text is among those that are left if and only if it is among all
 abbrev pub invariant-loop-left : goal.invariant-loop-left
 invariant-loop-left l = list_any (bytes_eq l.text) (texts_behind l.left) ≡ list_any (bytes_eq l.text) (texts_behind l.several)
 

@@ -44,7 +44,7 @@ loop-asked-preserved g c =
       within = joined-longer c.args.own.now found (held_nexts (answers c.at.result)) c.add_named.new.found c.loop-asked.asked added less;
     }
 
--- all were asked
+-- all were looked up
 pub returns : goal.returns
 returns g c =
     let few : length c.loop-asked.found ≤ 200 = search rules in

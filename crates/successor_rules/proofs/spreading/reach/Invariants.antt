@@ -9,6 +9,6 @@ invariant-loop-asked g l = record {
   within : l.asked ≤ length l.found;
 }
 
--- at most 200 are asked
+-- at most 200 are looked up
 abbrev pub decreases-loop-asked : goal.decreases-loop-asked
 decreases-loop-asked g l = 200 - l.asked

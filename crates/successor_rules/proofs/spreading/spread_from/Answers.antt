@@ -43,7 +43,7 @@ loop-asked-preserved g c =
     asked_one answers c.args.own.now c.args.from.now c.loop-asked.asked c.loop-asked.found c.loop-asked.is_met c.loop-asked.lacking
     c.at-lei.result c.loop-asked.invariant less is c.add_named.new.found c.if-is_met.is_met c.or-lacking.result added met lack
 
--- all were asked
+-- all were looked up
 pub returns-in-Some : goal.returns-in-Some
 returns-in-Some g c =
     let cell = g.B.Branches.cell c.args.branches.now in

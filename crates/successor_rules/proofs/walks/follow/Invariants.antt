@@ -3,7 +3,7 @@ use Rattle.successor_rules.specs.Walks.{walk_over}
 use Rattle.successor_rules.proofs.WalkLemmas.{walk_in}
 use Rattle.successor_rules.proofs.walks.follow.Given as goal
 
--- the walk from this member, with the members left, becomes what the whole walk becomes
+-- the walk from this member, with the members left, has the same result as the whole walk
 abbrev pub invariant-loop : goal.invariant-loop
 invariant-loop g l =
     let answers = g.C.Chain.answers l.chain in

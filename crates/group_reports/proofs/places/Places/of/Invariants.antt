@@ -7,7 +7,7 @@ use Rattle.group_reports.specs.Links.{link_of}
 use Rattle.group_reports.specs.Places.{ends_of, leis_of}
 use Rattle.group_reports.proofs.places.Places.of.Given as goal
 
--- with those of the rows from this one on they are all
+-- together with those of this row and the rows after it they are all
 abbrev pub invariant-loop-row : goal.invariant-loop-row
 invariant-loop-row l =
     fold (insert_key (slice_cmp nat_cmp)) l.entities.keys (flat_map ends_of (map link_of (drop l.row-index l.rows)))

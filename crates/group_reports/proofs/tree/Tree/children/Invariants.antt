@@ -2,7 +2,7 @@ use Rattle.std.proofs.Common.{◌≡◌, ◌==◌, ◌&&◌, ◌||◌, ℕ, drop
 use Rattle.group_reports.specs.Places.{AreBelow, has_place, has_some, step}
 use Rattle.group_reports.proofs.tree.Tree.children.Given as goal
 
--- with the children of the places from this one on they are all
+-- together with the children of this place and those after it they are all
 abbrev pub invariant-loop-parent : goal.invariant-loop-parent
 invariant-loop-parent l = record {
   has : (place : ℕ) → (has_place l.children.keys place || not (place == l.root) && has_some (drop l.parent-index l.places) (step l.self place))
