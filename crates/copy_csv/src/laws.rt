@@ -16,5 +16,6 @@ pub fn csv_readers_see_each_row()
     ensures copies { (sheet : Sheet) (wide : Bool) (rows : Items SheetRow) → All (IsRowOf sheet) rows
         → records_read (csv_copy sheet wide rows) ≡ names_shown wide sheet ∷ map (shown wide) rows }
     ensures deltas { (sheet : Sheet) (wide : Bool) (changes : Items Change)
-        → records_read (csv_delta sheet wide changes) ≡ delta_names wide sheet ∷ map (change_fields wide) changes }
+        → records_read (csv_delta sheet wide changes)
+        ≡ delta_names wide sheet ∷ map (change_fields wide) changes }
 {}

@@ -11,6 +11,9 @@ pub mod JsonSteps
 pub mod JsonWriting
 pub mod JsonJoined
 pub mod TrailLemmas
+pub mod BetweenLemmas
+pub mod Merged
+pub mod Passing
 pub mod CopyLemmas
 pub mod CsvJoined
 pub mod NameOrder

@@ -140,3 +140,13 @@ DeltasLeadOn trail =
     → (sheet : Sheet) (form : Form)
     → IsPatched (copy_of p base sheet form) (delta_between trail p q latest sheet form)
     (copy_of q latest sheet form) sheet form
+
+-- In the trail the copy of each publication, patched by a delta that goes from there or from an earlier one and leads
+-- to a later one or to itself, is the copy of the one that the delta leads to, byte for byte.
+abbrev pub DeltasLeadOnFromBetween : Trail → Type 0
+DeltasLeadOnFromBetween trail =
+    (p q r : ℕ) (copied latest : Publication) → 1 ≤ p → p ≤ q → q ≤ r
+    → publication_at trail q ≡ Some copied → publication_at trail r ≡ Some latest
+    → (sheet : Sheet) (form : Form)
+    → IsPatched (copy_of q copied sheet form) (delta_between trail p r latest sheet form)
+    (copy_of r latest sheet form) sheet form

@@ -12,13 +12,20 @@ ghost use Rattle.copy_forms.specs.Json.{json_names};
 ghost use Rattle.copy_csv.specs.Csv.{IsCsvCopy, IsCsvDelta};
 ghost use Rattle.copy_forms.specs.Files.{IsCopy, IsDelta};
 ghost use Rattle.copy_csv.specs.Sheets.{SheetRow};
-ghost use Rattle.copy_forms.specs.Trails.{DeltasLeadOn, IsSound, Trail};
+ghost use Rattle.copy_forms.specs.Trails.{DeltasLeadOn, DeltasLeadOnFromBetween, IsSound, Trail};
 
 /// In every sound trail of at most 1,000,000 publications, a copy that is patched by the delta to a later one is the
 /// copy of that one, byte for byte, in both forms and of each sheet. So it is for an empty delta, for a row that
 /// changed back, where a key is dropped that the copy lacks, and from a narrow publication to a wide one.
 pub fn deltas_lead_from_copy_to_copy()
     ensures { (trail : Trail) → IsSound trail → length trail ≤ 1_000_000 → DeltasLeadOn trail }
+{}
+
+/// In every sound trail of at most 1,000,000 publications, the copy of a publication that is patched by a delta from
+/// the same or an earlier one is the copy of the publication that the delta leads to, byte for byte, in both forms and
+/// of each sheet.
+pub fn deltas_lead_on_from_between()
+    ensures { (trail : Trail) → IsSound trail → length trail ≤ 1_000_000 → DeltasLeadOnFromBetween trail }
 {}
 
 /// In CSV no two widths and no two lists of rows have one text, and no two widths and lists of changes.

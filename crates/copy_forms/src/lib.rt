@@ -10,6 +10,7 @@ mod json_strings;
 mod json_text;
 mod json_write;
 mod laws;
+mod merging;
 mod rendering;
 
 pub use copies::{copy_text, delta_text, read_copy, read_delta};
@@ -19,7 +20,8 @@ pub use copy_csv::{
 pub use items::item_text;
 pub use json_write::json_rows_text;
 pub use laws::{
-    csv_tells_its_rows, deltas_lead_from_copy_to_copy, json_names_rise,
-    json_tells_its_heads_and_rows,
+    csv_tells_its_rows, deltas_lead_from_copy_to_copy, deltas_lead_on_from_between,
+    json_names_rise, json_tells_its_heads_and_rows,
 };
+pub use merging::{HeldChange, place_row};
 pub use rendering::row_texts;

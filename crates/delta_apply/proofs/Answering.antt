@@ -16,8 +16,8 @@ use Rattle.copy_csv.proofs.FileLemmas.{one_copy, one_delta}
 use Rattle.copy_forms.specs.Files.{IsCopyRead, IsDelta, IsDeltaRead, copy, may_be_wide}
 use Rattle.copy_forms.specs.Patching.{IsPatched, patched, patched_head}
 use Rattle.copy_forms.specs.Trails.{copy_of, delta_between}
+use Rattle.copy_forms.proofs.BetweenLemmas.{leads_with_heads}
 use Rattle.copy_forms.proofs.CopyLemmas.{copy-same, csv-copy, csv-copy-with, csv-delta, delta-same}
-use Rattle.copy_forms.proofs.TrailLemmas.{leads_with_heads}
 use Rattle.delta_apply.specs.declared.fault.ApplyFault.{ApplyFault}
 use Rattle.delta_apply.specs.declared.fault.ApplyFault.TheVariants as faults
 use Rattle.delta_apply.specs.Applying.{GoesFrom, IsAnswer, IsApplied, IsOfOtherBase, IsOlder, IsSomeCopy, LeadsOn, UnlessNoMemory}
@@ -174,7 +174,7 @@ module _ (copied delta : Text) (sheet : Sheet) (form : Form) (short : length cop
 
   pub answer_leads_on : (r : Result Text ApplyFault) → UnlessNoMemory r (IsAnswer copied delta sheet form r) → LeadsOn copied delta sheet form r
   answer_leads_on r is trail sound few p q base latest one order e_p e_q copy_is delta_is =
-      let led = leads_with_heads trail sound few p q base latest one order e_p e_q sheet form in
+      let led = leads_with_heads trail sound few p p q base latest one (omega arith) order e_p e_q sheet form in
       let F : Text → Text → Type 0 = λ c d. IsApplied c d (copy_of q latest sheet form) sheet form in
       let applied : F (copy_of p base sheet form) (delta_between trail p q latest sheet form) =
       record {

@@ -3,22 +3,21 @@ use Rattle.std.proofs.Common.{◌≡◌, ℕ, zero, suc, ◌+◌, ◌-◌, ◌<�
 use Rattle.std.specs.Prelude.{flat_map, if◌then◌else◌, unwrap_or}
 use Rattle.std.specs.List.{All, slice_get}
 use Rattle.std.specs.Str.{IsUtf8}
-use Rattle.std.proofs.lemmas.List.{append-nil, drop_all, drop_at, length-drop, length_push, nil_from_length, take_all, take_at}
+use Rattle.std.proofs.lemmas.List.{append-nil, drop_at, length_push, nil_from_length, take_at}
 use Rattle.std.proofs.lemmas.List.Elements.{All-head, All-nil, All-push, All-tail}
 use Rattle.copy_csv.specs.declared.rows.Change.{Change}
 use Rattle.register_words.specs.declared.sheets.Sheet.{Sheet}
 use Rattle.copy_csv.specs.Csv.{IsCsvCopy, line, row_line}
-use Rattle.copy_csv.specs.Rows.{AreChanges, AreRising, IsRowIn, changed_key}
+use Rattle.copy_csv.specs.Rows.{AreChanges, AreRising, IsRowIn}
 use Rattle.copy_csv.specs.Sheets.{SheetRow, key, names_shown}
 use Rattle.copy_csv.specs.Taking.{AreRead, HasLines, Reads, comes_after, is_behind}
 use Rattle.copy_csv.proofs.FileLemmas.{copy-found, copy-is, copy_names, one_width}
 use Rattle.copy_csv.proofs.LineLemmas.{row-one_way, row-some}
 use Rattle.copy_csv.proofs.RowLemmas.{none_next, not_behind, printed-push, rising-nil, rising-push}
 use Rattle.copy_forms.specs.Patching.{patched}
-use Rattle.delta_apply.specs.Merging.{merged, put_by}
-use Rattle.delta_apply.specs.Walks.{AreLinesPatched, IsCopyPatched, PassesRow, PutsLines}
-use Rattle.delta_apply.proofs.Merged.{merged_is}
-use Rattle.delta_apply.proofs.Passing.{all-alone, alone}
+use Rattle.copy_forms.specs.Merging.{PassesRow, merged, put_by}
+use Rattle.delta_apply.specs.Walks.{AreLinesPatched, IsCopyPatched, PutsLines}
+use Rattle.copy_forms.proofs.Merged.{merged_is}
 
 -- so far these rows were read, and with whatever rows follow them, what was put goes on as the whole does
 pub record Walked (sheet : Sheet) (base_wide wide : Bool) (bytes : List ℕ) (changes : List Change) (first reader : List ℕ) (last : Option SheetRow) (next : ℕ) (out : List ℕ) : Type 0 where
@@ -182,18 +181,3 @@ csv-older sheet wide copied lines rows has is =
     let same : wide ≡ true = one_width names_shown copy_names sheet wide true (flat_map (row_line wide) rows) lines is.wide_is has.wide_is
     (sym (is.text ∙ copy-is sheet wide rows) ∙ has.whole) in
     subst (λ w. IsCsvCopy sheet copied w rows) same is
-
--- a part of a list up to its end
-pub rest-is : {X : Type 0} (n : ℕ) (xs : List X) → take (length xs - n) (drop n xs) ≡ drop n xs
-rest-is n xs = take_all (length xs - n) (drop n xs) (let left : length (drop n xs) ≡ length xs - n = length-drop n xs in omega arith)
-
--- the rows after a walk over all of them
-pub rows-end : (rows : List SheetRow) (changes : List Change) (held new : List SheetRow) (index next : ℕ) → AreRising (map key rows)
-    → AreRising (map changed_key changes)
-    → held ++ flat_map alone (merged (drop index rows) (drop next changes)) ≡ flat_map alone (merged rows changes) → length rows ≤ index
-    → new ≡ held ++ flat_map put_by (take (length changes - next) (drop next changes)) → new ≡ patched rows changes
-rows-end rows changes held new index next up are walk past put =
-    put ∙ ap (λ l. held ++ flat_map put_by l) (rest-is next changes)
-    ∙ ap (λ l. held ++ l) (sym (all-alone (flat_map put_by (drop next changes))))
-    ∙ ap (λ l. held ++ flat_map alone (merged l (drop next changes))) (sym (drop_all index rows past))
-    ∙ walk ∙ all-alone (merged rows changes) ∙ merged_is rows changes up are

@@ -1,5 +1,5 @@
 -- What a walk over rows and changes puts.
-use Rattle.std.specs.Prelude.{◌≡◌, ◌≢◌, ◌-◌, ℕ, Bool, List, ◌∷◌, ◌++◌, codes, drop, take, length, flat_map, false, true, Result, Ok, Err, ⊤}
+use Rattle.std.specs.Prelude.{◌≡◌, ◌≢◌, ◌-◌, Bool, List, ◌++◌, codes, take, length, flat_map, false, true, Result, Ok, Err, ⊤}
 use Rattle.lei_code.specs.Texts.{Text}
 use Rattle.copy_csv.specs.declared.heads.Head.{Head}
 use Rattle.copy_csv.specs.declared.rows.Change.{Change}
@@ -12,16 +12,7 @@ use Rattle.copy_forms.specs.Json.{json_copy}
 use Rattle.copy_forms.specs.Patching.{patched, patched_head}
 use Rattle.delta_apply.specs.declared.fault.ApplyFault.{ApplyFault}
 use Rattle.delta_apply.specs.declared.fault.ApplyFault.TheVariants as faults
-use Rattle.delta_apply.specs.Merging.{merged}
-
--- A row was passed: whatever rows follow it, what was put by now, with what they and the changes from `next` on make,
--- is what was put before, with what the row, they and the changes from `at` on make.
-abbrev pub PassesRow : {X : Type 0} → (SheetRow → List X) → List Change → SheetRow → ℕ → List X → ℕ
-    → List X → Type 0
-PassesRow print changes row at old next new =
-    (more : List SheetRow)
-    → new ++ flat_map print (merged more (drop next changes))
-    ≡ old ++ flat_map print (merged (row ∷ more) (drop at changes))
+use Rattle.copy_forms.specs.Merging.{merged}
 
 -- ---- in CSV
 

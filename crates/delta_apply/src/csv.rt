@@ -9,15 +9,14 @@ ghost use Rattle.copy_csv.specs.Csv.{row_line};
 ghost use Rattle.copy_csv.specs.Rows.{AreChanges, IsChangeOf, IsRowIn, changed_row};
 ghost use Rattle.copy_csv.specs.Sheets.{SheetRow, has_widths, key, names_shown};
 ghost use Rattle.copy_csv.specs.Taking.{AreRead, HasLines, comes_after};
-ghost use Rattle.delta_apply.specs.Merging.{put_by};
-ghost use Rattle.delta_apply.specs.Walks.{AreLinesPatched, IsPatchedCsv, PassesRow, PutsLines, kept_line};
+ghost use Rattle.copy_forms.specs.Merging.{PassesRow, put_by};
+ghost use Rattle.delta_apply.specs.Walks.{AreLinesPatched, IsPatchedCsv, PutsLines, kept_line};
 
 use crate::fault::ApplyFault;
 use copy_csv::{Reader, copy_head, copy_lines, put_row, read_csv_copy, read_row};
-use copy_forms::{Change, DeltaRead, FormFault, Row, Sheet};
+use copy_forms::{Change, DeltaRead, FormFault, Row, Sheet, place_row};
 use lei_outside::{Bytes, NoMemory};
 use std::alloc::Global;
-use std::cmp::Ordering;
 
 /// The copy after this delta, with room for so many bytes. `CopyNotRead` says that the bytes are no copy, and
 /// `OlderDelta` that they are a wide one and the delta is narrow.
@@ -168,18 +167,9 @@ fn put_next(
         (out.new.items ++ (if left.1 then row_line wide row.now else []))) }
     ensures place { IfOk result (λ left. left.0 ≤ length changes.now) }
 {
-    for index in at..changes.len() {
-        let change = &changes[index];
-        match change.row().order(row) {
-            Ordering::Less => put_change(out, wide, change)?,
-            Ordering::Equal => {
-                put_change(out, wide, change)?;
-                return Ok((index + 1, false));
-            }
-            Ordering::Greater => return Ok((index, true)),
-        }
-    }
-    Ok((changes.len(), true))
+    let (left, stays) = place_row(changes, at, row);
+    put_all(out, wide, &changes[at..left])?;
+    Ok((left, stays))
 }
 
 // Puts the line of a row that stays behind the others. In a copy that becomes wide it gets the columns that it lacks,

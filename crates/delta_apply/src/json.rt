@@ -4,13 +4,11 @@ ghost use Rattle.std.specs.List.{All};
 ghost use Rattle.copy_csv.specs.Rows.{AreChanges, AreRows, changed_row};
 ghost use Rattle.copy_forms.specs.Json.{json_copy};
 ghost use Rattle.copy_forms.specs.Patching.{patched};
-ghost use Rattle.delta_apply.specs.Merging.{put_by};
-ghost use Rattle.delta_apply.specs.Walks.{PassesRow};
+ghost use Rattle.copy_forms.specs.Merging.{PassesRow, put_by};
 
-use copy_forms::{Change, Head, Row, Sheet, json_rows_text};
+use copy_forms::{Change, Head, Row, Sheet, json_rows_text, place_row};
 use lei_outside::{Bytes, NoMemory};
 use std::alloc::Global;
-use std::cmp::Ordering;
 
 /// The copy of these rows after the changes, with this head, and with room for so many bytes.
 pub fn patch_json(
@@ -63,22 +61,12 @@ fn push_next<'a>(
         (map (λ row. row.now) held.old.items) next (map (λ row. row.now) held.new.items)) }
     ensures place { IfOk result (λ next. next ≤ length changes.now) }
 {
-    for index in at..changes.len() {
-        let change = &changes[index];
-        match change.row().order(row) {
-            Ordering::Less => push_change(held, change)?,
-            Ordering::Equal => {
-                push_change(held, change)?;
-                return Ok(index + 1);
-            }
-            Ordering::Greater => {
-                held.push(row)?;
-                return Ok(index);
-            }
-        }
+    let (left, stays) = place_row(changes, at, row);
+    push_all(held, &changes[at..left])?;
+    if stays {
+        held.push(row)?;
     }
-    held.push(row)?;
-    Ok(changes.len())
+    Ok(left)
 }
 
 // Puts what all of these changes put behind the others.

@@ -13,6 +13,7 @@ use Rattle.copy_csv.specs.Sheets.{SheetRow}
 use Rattle.copy_forms.specs.Files.{IsCopy, IsDelta}
 use Rattle.copy_forms.specs.Patching.{patched, patched_head}
 use Rattle.copy_forms.specs.Trails.{IsSound, Publication, Trail, changes_between, copy_head, delta_head, is_wide_in, publication_at}
+use Rattle.copy_forms.proofs.BetweenLemmas.{copy_stands, delta_stands, rows_lead}
 use Rattle.copy_forms.proofs.CopyLemmas.{copy-same, delta-same}
 use Rattle.lei_mirror.specs.declared.packet.PacketBody.{PacketBody}
 use Rattle.lei_mirror.specs.declared.packet.Packet.{Packet}
@@ -22,7 +23,6 @@ use Rattle.lei_mirror.specs.declared.tables.Tables.{Tables}
 use Rattle.lei_mirror.specs.Following.{FollowsTrail, HasOfTrail, ShowsCopyOf, IsCopyOfTrail, IsDeltaOfTrail, IsKeptOfTrail, IsOfTrail}
 use Rattle.lei_mirror.specs.Mirrors.{IsReadyToShow, MirrorState, SettlesIn, TakesBytes, packet_for, copy_after, copy_with, sheet_copy, is_ahead, is_past, mirror_at, tables_at}
 use Rattle.lei_mirror.specs.Packets.{IsBody, IsPacket, is_kind, body_kind}
-use Rattle.lei_mirror.proofs.BetweenLemmas.{copy_stands, delta_stands, rows_lead}
 use Rattle.lei_mirror.proofs.PacketLemmas.{IsPacketFor, packet_for_is}
 use Rattle.lei_mirror.proofs.TakingLemmas.{left_good}
 

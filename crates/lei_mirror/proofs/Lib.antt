@@ -1,5 +1,3 @@
-pub mod BetweenLemmas
-pub mod PatchedRows
 pub mod PacketLemmas
 pub mod ReadyLemmas
 pub mod SettlingLemmas

@@ -7,6 +7,7 @@ use Rattle.std.proofs.lemmas.Bool.Decides.{nat_tests}
 use Rattle.register_words.specs.declared.sheets.Sheet.{Sheet}
 use Rattle.copy_csv.specs.declared.heads.Head.{Head}
 use Rattle.copy_csv.specs.Rows.{IsDeltaHead}
+use Rattle.copy_forms.proofs.Merged.{rows_stay}
 use Rattle.lei_mirror.specs.declared.packet.PacketBody.{PacketBody}
 use Rattle.lei_mirror.specs.declared.packet.Packet.{Packet}
 use Rattle.lei_mirror.specs.declared.tables.SheetCopy.{SheetCopy}
@@ -15,7 +16,6 @@ use Rattle.lei_mirror.specs.Mirrors.{IsGreatestReady, IsReadyToShow, MirrorState
 use Rattle.lei_mirror.specs.Settling.{SettlesTo, mirror_of}
 use Rattle.lei_mirror.specs.States.{AreTables, IsHeadAt, IsCopyOf, IsSoundBody, IsSoundPacket}
 use Rattle.lei_mirror.proofs.PacketLemmas.{IsPacketFor, packet_for_filtered, packet_for_is, filtered_twice}
-use Rattle.lei_mirror.proofs.PatchedRows.{rows_stay}
 
 -- ---- tables stay tables
 

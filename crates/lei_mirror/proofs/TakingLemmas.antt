@@ -9,13 +9,13 @@ use Rattle.std.proofs.lemmas.List.Sums.{sum_by-cons, sum_by_push}
 use Rattle.std.proofs.lemmas.List.Elements.{All-cons, All-head, All-nil, All-push, All-tail}
 use Rattle.register_words.specs.declared.sheets.Sheet.{Sheet}
 use Rattle.copy_csv.specs.Rows.{IsRowOf}
+use Rattle.copy_csv.proofs.RowLemmas.{rising-nil}
 use Rattle.lei_mirror.specs.declared.packet.Packet.{Packet}
 use Rattle.lei_mirror.specs.declared.tables.Tables.{Tables}
 use Rattle.lei_mirror.specs.Mirrors.{IsGreatestReady, IsReadyToShow, MirrorState, Settles, SettlesIn, TakesPacket, bytes_in, empty_mirror, sheet_copy, is_ahead, is_mirror_full, is_past, mirror_at, with_packet}
 use Rattle.lei_mirror.specs.Packets.{is_like}
 use Rattle.lei_mirror.specs.Settling.{SettlesTo, mirror_of}
 use Rattle.lei_mirror.specs.States.{AreKeptPackets, AreTables, IsCopyOf, IsMirror, IsSoundPacket}
-use Rattle.lei_mirror.proofs.PatchedRows.{rising-none}
 
 -- ---- a mirror settles in one way
 
@@ -179,6 +179,6 @@ empty_is tables kept tables_are kept_are =
     }))
   where
     held : (sheet : Sheet) → IsCopyOf 0 sheet (sheet_copy empty_mirror.tables sheet)
-    held Sheet.Lei = record { head_is = refl; rows_are = record { each = All-nil (IsRowOf Sheet.Lei); rising = rising-none } }
-    held Sheet.Rr = record { head_is = refl; rows_are = record { each = All-nil (IsRowOf Sheet.Rr); rising = rising-none } }
-    held Sheet.Repex = record { head_is = refl; rows_are = record { each = All-nil (IsRowOf Sheet.Repex); rising = rising-none } }
+    held Sheet.Lei = record { head_is = refl; rows_are = record { each = All-nil (IsRowOf Sheet.Lei); rising = rising-nil } }
+    held Sheet.Rr = record { head_is = refl; rows_are = record { each = All-nil (IsRowOf Sheet.Rr); rising = rising-nil } }
+    held Sheet.Repex = record { head_is = refl; rows_are = record { each = All-nil (IsRowOf Sheet.Repex); rising = rising-nil } }

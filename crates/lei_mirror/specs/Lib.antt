@@ -1,4 +1,3 @@
-pub mod Between
 pub mod Packets
 pub mod Mirrors
 pub mod Following

@@ -1,20 +1,11 @@
 //! Laws of the definitions, each as the contract of a function that does nothing.
-ghost use Rattle.std.specs.Prelude.{◌≡◌, ◌<◌, ◌≤◌, ◌^◌, length};
+ghost use Rattle.std.specs.Prelude.{◌≡◌, ◌<◌, ◌^◌, length};
 ghost use Rattle.lei_code.specs.Texts.{Text};
 ghost use Rattle.register_words.specs.declared.sheets.Sheet.{Sheet};
-ghost use Rattle.copy_forms.specs.Trails.{IsSound, Trail};
-ghost use Rattle.lei_mirror.specs.Between.{DeltasLeadOnFromBetween};
 ghost use Rattle.lei_mirror.specs.declared.packet.Packet.{Packet};
 ghost use Rattle.lei_mirror.specs.declared.packet.PacketKind.{PacketKind};
 ghost use Rattle.lei_mirror.specs.Mirrors.{MirrorState, TakesPacket};
 ghost use Rattle.lei_mirror.specs.Packets.{IsPacket};
-
-/// In every sound trail of at most 1,000,000 publications, the copy of a publication that is patched by a
-/// delta from the same or an earlier one is the copy of the publication that the delta leads to, byte for
-/// byte, in both forms and of each sheet.
-pub fn deltas_lead_on_from_between()
-    ensures { (trail : Trail) → IsSound trail → length trail ≤ 1_000_000 → DeltasLeadOnFromBetween trail }
-{}
 
 /// Bytes are at most one packet of a kind and a sheet. It is said of fewer than 2^64 bytes, as all in memory
 /// are.

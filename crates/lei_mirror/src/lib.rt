@@ -16,6 +16,6 @@ mod showing;
 mod tables;
 
 pub use faults::{MirrorFault, ShowFault};
-pub use laws::{bytes_spell_one_packet, deltas_lead_on_from_between, packets_are_taken_in_one_way};
+pub use laws::{bytes_spell_one_packet, packets_are_taken_in_one_way};
 pub use mirror::{Mirror, Standing};
 pub use packet::PacketKind;

@@ -3,15 +3,22 @@ ghost use Rattle.std.specs.Prelude.{◌≡◌, ◌≤◌, ◌++◌, ◌∷◌, [
 ghost use Rattle.std.specs.List.{All};
 ghost use Rattle.copy_csv.specs.Rows.{AreChanges, AreRows, changed_row};
 ghost use Rattle.copy_forms.specs.Patching.{patched};
-ghost use Rattle.delta_apply.specs.Merging.{put_by};
-ghost use Rattle.delta_apply.specs.Walks.{PassesRow};
+ghost use Rattle.copy_forms.specs.Merging.{PassesRow, put_by};
 
 use crate::changes::SharedChange;
 use crate::shared::{SharedRow, SharedRows};
-use copy_csv::Sheet;
+use copy_csv::{Row, Sheet};
+use copy_forms::{HeldChange, place_row};
 use lei_outside::NoMemory;
 use std::alloc::Global;
-use std::cmp::Ordering;
+
+impl HeldChange for SharedChange {
+    ghost change = { λ change. change };
+
+    fn row(&self) -> &Row {
+        SharedChange::row(self).row()
+    }
+}
 
 /// The rows after the changes. Each row is passed once, and none is copied.
 pub fn merge(
@@ -48,22 +55,12 @@ fn push_next(
         made.old.items next made.new.items) }
     ensures place { IfOk result (λ next. next ≤ length changes.now) }
 {
-    for index in at..changes.len() {
-        let change = &changes[index];
-        match change.row().row().order(row.row()) {
-            Ordering::Less => push_change(made, change)?,
-            Ordering::Equal => {
-                push_change(made, change)?;
-                return Ok(index + 1);
-            }
-            Ordering::Greater => {
-                made.push(row.share()?)?;
-                return Ok(index);
-            }
-        }
+    let (left, stays) = place_row(changes, at, row.row());
+    push_all(made, &changes[at..left])?;
+    if stays {
+        made.push(row.share()?)?;
     }
-    made.push(row.share()?)?;
-    Ok(changes.len())
+    Ok(left)
 }
 
 // Puts what all of these changes put after the others.

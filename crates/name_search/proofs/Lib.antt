@@ -3,7 +3,6 @@ pub mod Cutting
 pub mod Paging
 pub mod KeyLemmas
 pub mod Walked
-pub mod RowsStay
 pub mod WalkLemmas
 pub mod PlaceLemmas
 pub mod NotedLemmas

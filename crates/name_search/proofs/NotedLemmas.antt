@@ -27,8 +27,8 @@ use Rattle.copy_csv.specs.declared.rows.Change.{Change}
 use Rattle.copy_csv.specs.Rows.{AreChanges, AreRows, IsRowOf, changed_key}
 use Rattle.copy_csv.specs.Sheets.{SheetRow, key}
 use Rattle.copy_forms.specs.Patching.{patched}
-use Rattle.delta_apply.specs.Merging.{merged, placed, put_by}
-use Rattle.delta_apply.proofs.Merged.{merged_is}
+use Rattle.copy_forms.specs.Merging.{merged, placed, put_by}
+use Rattle.copy_forms.proofs.Merged.{merged_is, rows_stay}
 use Rattle.name_search.specs.declared.postings.Postings.{Postings}
 use Rattle.name_search.specs.NameTables.{Name, named}
 use Rattle.name_search.specs.Puts.{put_name, put_names}
@@ -36,7 +36,6 @@ use Rattle.name_search.specs.Searching.{has_each, is_among, is_match}
 use Rattle.name_search.specs.Walks.{Covers, IsIndexed, Stays, StaysFor, TakesOne, has_word, is_key, is_noted, keys_in, keys_under, text_cmp}
 use Rattle.name_search.specs.Words.{words}
 use Rattle.name_search.proofs.KeyLemmas.{key_is, then_nothing}
-use Rattle.name_search.proofs.RowsStay.{rows_stay}
 use Rattle.name_search.proofs.PlaceLemmas.{turned}
 use Rattle.name_search.proofs.WalkLemmas.{first_true, less, second_true, tied}
 

@@ -13,13 +13,11 @@ use Rattle.copy_csv.specs.declared.rows.Change.{Change}
 use Rattle.copy_csv.specs.Rows.{AreChanges, AreRows, IsRowOf, changed_key}
 use Rattle.copy_csv.specs.Sheets.{SheetRow, key}
 use Rattle.copy_forms.specs.Patching.{patched}
-use Rattle.delta_apply.specs.Merging.{merged, put_by}
-use Rattle.delta_apply.specs.Walks.{PassesRow}
-use Rattle.delta_apply.proofs.Merged.{merged_is}
-use Rattle.delta_apply.proofs.Passing.{StandsBefore, passes-end, passes-equal, passes-greater, passes-lesser}
+use Rattle.copy_forms.specs.Merging.{PassesRow, merged, put_by}
+use Rattle.copy_forms.proofs.Merged.{merged_is, rows_stay}
+use Rattle.copy_forms.proofs.Passing.{StandsBefore, passes-end, passes-equal, passes-greater, passes-lesser}
 use Rattle.name_search.specs.NameTables.{IsTableOf, Name, NameTable, named}
 use Rattle.name_search.specs.Puts.{named_alone, put_name, put_names}
-use Rattle.name_search.proofs.RowsStay.{rows_stay}
 
 -- the names of what changes put are those of what each puts
 puts_names : (changes : List Change) → flat_map named_alone (flat_map put_by changes) ≡ put_names changes

@@ -2,7 +2,7 @@
 use Rattle.std.specs.Prelude.{List, [], ◌∷◌, flat_map}
 use Rattle.copy_csv.specs.declared.rows.Change.{Change}
 use Rattle.copy_csv.specs.Sheets.{SheetRow}
-use Rattle.delta_apply.specs.Merging.{put_by}
+use Rattle.copy_forms.specs.Merging.{put_by}
 use Rattle.name_search.specs.NameTables.{Name, named}
 
 -- The name of a row, as a list.

@@ -7,8 +7,7 @@ ghost use Rattle.copy_csv.specs.Rows.{AreChanges, AreRows, IsChangeOf, IsRowOf};
 ghost use Rattle.lei_records.specs.Tables.{key_cmp};
 ghost use Rattle.copy_csv.specs.Sheets.{SheetRow, key};
 ghost use Rattle.copy_forms.specs.Patching.{patched};
-ghost use Rattle.delta_apply.specs.Merging.{put_by};
-ghost use Rattle.delta_apply.specs.Walks.{PassesRow};
+ghost use Rattle.copy_forms.specs.Merging.{PassesRow, put_by};
 ghost use Rattle.name_search.specs.NameTables.{Name, named, number_in};
 ghost use Rattle.name_search.specs.Puts.{named_alone, put_name, put_names};
 

@@ -1,4 +1,4 @@
-use Rattle.copy_forms.proofs.TrailLemmas.{deltas_lead}
+use Rattle.copy_forms.proofs.BetweenLemmas.{deltas_lead}
 use Rattle.copy_forms.proofs.laws.deltas_lead_from_copy_to_copy.Goals as goal
 
 pub returns : goal.returns

@@ -1,7 +1,7 @@
 use Rattle.std.proofs.Common.{◌≡◌, ◌++◌, take}
 use Rattle.std.specs.Prelude.{flat_map}
 use Rattle.copy_csv.specs.Csv.{row_line}
-use Rattle.delta_apply.specs.Merging.{put_by}
+use Rattle.copy_forms.specs.Merging.{put_by}
 use Rattle.delta_apply.proofs.csv.put_all.Given as goal
 
 -- what the changes so far put stands behind the others

@@ -2,6 +2,7 @@ use Rattle.std.proofs.Common.{◌≡◌, ◌==◌, ◌≤◌, ◌-◌, ℕ, not,
 use Rattle.std.proofs.Math.Bool.{beq}
 use Rattle.std.specs.Prelude.{IsSome, flat_map, if◌then◌else◌}
 use Rattle.std.specs.Str.{IsUtf8}
+use Rattle.std.proofs.lemmas.List.{take_rest}
 use Rattle.copy_csv.specs.declared.rows.Change.{Change}
 use Rattle.copy_csv.specs.Csv.{row_line}
 use Rattle.copy_csv.specs.Rows.{IsRowIn}
@@ -9,10 +10,10 @@ use Rattle.copy_csv.specs.Sheets.{SheetRow, key}
 use Rattle.copy_csv.specs.Taking.{Reads}
 use Rattle.copy_csv.proofs.LineLemmas.{row-one_way, row-some}
 use Rattle.copy_csv.proofs.RowLemmas.{shorter}
-use Rattle.delta_apply.specs.Merging.{put_by}
-use Rattle.delta_apply.specs.Walks.{PassesRow, kept_line}
+use Rattle.copy_forms.specs.Merging.{PassesRow, put_by}
+use Rattle.delta_apply.specs.Walks.{kept_line}
 use Rattle.delta_apply.proofs.Widening.{kept-is}
-use Rattle.delta_apply.proofs.Putting.{rest-is, walk-begins, walk-ends, walk-falls, walk-keeps, walk-last, walk-line, walk-replaces, walk-unread}
+use Rattle.delta_apply.proofs.Putting.{walk-begins, walk-ends, walk-falls, walk-keeps, walk-last, walk-line, walk-replaces, walk-unread}
 use Rattle.delta_apply.proofs.csv.put_patched.Goals as goal
 use Rattle.delta_apply.proofs.csv.put_patched.Goals.{then-stays+in_ok-put_kept, else-stays}
 
@@ -90,4 +91,4 @@ returns-clause-found c =
     (c.in_ok-put_all.ensures
     ∙ ap (λ (l : List Change). c.loop-reader.out.items ++ flat_map (row_line c.args.delta.now.wide) (flat_map put_by l))
     (ap (λ (l : List Change). take (length l - c.loop-reader.next) (drop c.loop-reader.next l)) c.as_slice-changes.ensures
-    ∙ rest-is c.loop-reader.next c.args.delta.now.changes))
+    ∙ take_rest c.args.delta.now.changes c.loop-reader.next))

@@ -1,5 +1,5 @@
 use Rattle.std.proofs.Common.{map}
-use Rattle.delta_apply.proofs.Putting.{rows-end}
+use Rattle.copy_forms.proofs.Passing.{rows-end}
 use Rattle.delta_apply.proofs.json.merge.Goals as goal
 
 pub returns : goal.returns

@@ -1,6 +1,6 @@
 use Rattle.std.proofs.Common.{◌≡◌, ◌++◌, map, take}
 use Rattle.std.specs.Prelude.{flat_map}
-use Rattle.delta_apply.specs.Merging.{put_by}
+use Rattle.copy_forms.specs.Merging.{put_by}
 use Rattle.delta_apply.proofs.json.push_all.Given as goal
 
 -- what the changes so far put stands behind the others

@@ -1,33 +1,25 @@
-use Rattle.std.proofs.Common.{◌++◌, ap, map, arith, length, refl, sym, ◌∙◌}
-use Rattle.lei_records.specs.Tables.{key_cmp}
-use Rattle.copy_csv.specs.Sheets.{key}
-use Rattle.delta_apply.proofs.Passing.{alone, all-alone, held-push, passes-end, passes-equal, passes-greater, passes-lesser}
+use Rattle.std.proofs.Common.{[], ◌∷◌, ◌++◌, List, ap, map, sym, ◌∙◌}
+use Rattle.std.specs.Prelude.{if◌then◌else◌}
+use Rattle.std.proofs.lemmas.List.{append-nil}
+use Rattle.copy_csv.specs.Sheets.{SheetRow}
+use Rattle.copy_forms.specs.Merging.{put_between}
+use Rattle.copy_forms.proofs.Passing.{held-push, passes-alone, stands-so}
 use Rattle.delta_apply.proofs.json.push_next.Goals as goal
 
-pub loop-index-init : goal.loop-index-init
-loop-index-init c = λ more. refl
+pub returns-in_ok-push-clause-put : goal.returns-in_ok-push-clause-put
+returns-in_ok-push-clause-put c =
+    passes-alone c.args.changes.now c.args.row.now c.args.at c.place_row-left.result.0 c.place_row-left.result.1
+    (map (λ row. row.now) c.args.held.now.items) (map (λ row. row.now) c.push.new.self.items)
+    (stands-so c.args.changes.now c.args.row.now c.args.at c.place_row-left.result.0 c.place_row-left.result.1 c.place_row-left.ensures.stands)
+    (held-push c.push_all.new.held.items c.push.new.self.items c.args.row c.in_ok-push.ensures.items
+    ∙ ap (λ l. l ++ c.args.row.now ∷ []) c.in_ok-push_all.ensures
+    ∙ ap (λ b. (map (λ row. row.now) c.args.held.now.items ++ put_between c.args.changes.now c.args.at c.place_row-left.result.0) ++ (if b then c.args.row.now ∷ [] else [])) (sym c.if-stays.true))
 
-pub loop-index-preserved : goal.loop-index-preserved
-loop-index-preserved c =
-    passes-lesser alone c.args.changes.now c.args.row.now c.args.at (map (λ row. row.now) c.args.held.now.items) (map (λ row. row.now) c.loop-index.held.items) (map (λ row. row.now) c.push_change.new.held.items) c.loop-index.index
-    c.index-changes-index.result c.loop-index.invariant c.loop-index-test.true c.index-changes-index.is
-    (ap (λ r. key_cmp (key r) (key c.args.row.now)) (sym c.row.ensures) ∙ sym c.order.ensures ∙ c.in-Less.is) (c.in_ok-push_change-in-Less.ensures ∙ ap (λ l. map (λ row. row.now) c.loop-index.held.items ++ l) (sym (all-alone _)))
-
-pub returns-in-Equal-clause-put : goal.returns-in-Equal-clause-put
-returns-in-Equal-clause-put c =
-    passes-equal alone c.args.changes.now c.args.row.now c.args.at (map (λ row. row.now) c.args.held.now.items) (map (λ row. row.now) c.loop-index.held.items) (map (λ row. row.now) c.push_change-in-Equal.new.held.items) c.loop-index.index
-    c.index-changes-index.result c.loop-index.invariant c.loop-index-test.true c.index-changes-index.is
-    (ap (λ r. key_cmp (key r) (key c.args.row.now)) (sym c.row.ensures) ∙ sym c.order.ensures ∙ c.in-Equal.is) (c.in_ok-push_change-in-Equal.ensures ∙ ap (λ l. map (λ row. row.now) c.loop-index.held.items ++ l) (sym (all-alone _)))
-
-pub returns-in-Greater-clause-put : goal.returns-in-Greater-clause-put
-returns-in-Greater-clause-put c =
-    passes-greater alone c.args.changes.now c.args.row.now c.args.at (map (λ row. row.now) c.args.held.now.items) (map (λ row. row.now) c.loop-index.held.items) (map (λ row. row.now) c.push.new.self.items) c.loop-index.index
-    c.index-changes-index.result c.loop-index.invariant c.loop-index-test.true c.index-changes-index.is
-    (ap (λ r. key_cmp (key r) (key c.args.row.now)) (sym c.row.ensures) ∙ sym c.order.ensures ∙ c.in-Greater.is)
-    (held-push c.loop-index.held.items c.push.new.self.items c.args.row c.in_ok-push-in-Greater.ensures.items)
-
-pub returns-clause-put : goal.returns-clause-put
-returns-clause-put c =
-    passes-end alone c.args.changes.now c.args.row.now c.args.at (map (λ row. row.now) c.args.held.now.items) (map (λ row. row.now) c.loop-index.held.items) (map (λ row. row.now) c.push-2.new.self.items)
-    c.loop-index.index (length c.args.changes.now) c.loop-index.invariant c.loop-index-test.false (omega arith)
-    (held-push c.loop-index.held.items c.push-2.new.self.items c.args.row c.in_ok-push.ensures.items)
+pub returns-else-stays-clause-put : goal.returns-else-stays-clause-put
+returns-else-stays-clause-put c =
+    let put : List SheetRow = map (λ row. row.now) c.args.held.now.items ++ put_between c.args.changes.now c.args.at c.place_row-left.result.0 in
+    passes-alone c.args.changes.now c.args.row.now c.args.at c.place_row-left.result.0 c.place_row-left.result.1
+    (map (λ row. row.now) c.args.held.now.items) (map (λ row. row.now) c.push_all.new.held.items)
+    (stands-so c.args.changes.now c.args.row.now c.args.at c.place_row-left.result.0 c.place_row-left.result.1 c.place_row-left.ensures.stands)
+    (c.in_ok-push_all.ensures ∙ sym (append-nil put)
+    ∙ ap (λ b. (map (λ row. row.now) c.args.held.now.items ++ put_between c.args.changes.now c.args.at c.place_row-left.result.0) ++ (if b then c.args.row.now ∷ [] else [])) (sym c.if-stays.false))

@@ -1,5 +1,5 @@
 use Rattle.std.proofs.Common.{◌∙◌}
-use Rattle.delta_apply.proofs.Putting.{rows-end}
+use Rattle.copy_forms.proofs.Passing.{rows-end}
 use Rattle.lei_mirror.proofs.merging.merge.Goals as goal
 
 pub returns : goal.returns

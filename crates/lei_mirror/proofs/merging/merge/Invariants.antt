@@ -1,7 +1,7 @@
 use Rattle.std.proofs.Common.{◌≡◌, ◌≤◌, ◌++◌, drop, length}
 use Rattle.std.specs.Prelude.{flat_map}
-use Rattle.delta_apply.specs.Merging.{merged}
-use Rattle.delta_apply.proofs.Passing.{alone}
+use Rattle.copy_forms.specs.Merging.{merged}
+use Rattle.copy_forms.proofs.Passing.{alone}
 use Rattle.lei_mirror.proofs.merging.merge.Given as goal
 
 -- what was put, with what the rows and the changes that are left make, is what all make

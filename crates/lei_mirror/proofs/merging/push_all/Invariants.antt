@@ -1,6 +1,6 @@
 use Rattle.std.proofs.Common.{◌≡◌, ◌++◌, take}
 use Rattle.std.specs.Prelude.{flat_map}
-use Rattle.delta_apply.specs.Merging.{put_by}
+use Rattle.copy_forms.specs.Merging.{put_by}
 use Rattle.lei_mirror.proofs.merging.push_all.Given as goal
 
 -- what the changes so far put stands after the others

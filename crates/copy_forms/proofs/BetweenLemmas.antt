@@ -1,11 +1,11 @@
--- A delta over more publications than lie between two of a sound trail still leads from the one to the other.
-use Rattle.std.proofs.Common.{◌≡◌, ℕ, zero, suc, ◌+◌, ◌-◌, ◌<◌, ◌≤◌, Bool, true, false, ◌&&◌, None, Some, List, [], ◌∷◌, ◌++◌, length, map, take, drop, refl, sym, ap, subst, ◌∙◌, arith}
+-- A delta of a sound trail leads from each publication that it goes over to the one that it leads to.
+use Rattle.std.proofs.Common.{◌≡◌, ℕ, zero, suc, ◌+◌, ◌-◌, ◌<◌, ◌≤◌, Bool, true, false, ◌&&◌, None, Some, List, [], ◌∷◌, ◌++◌, length, take, drop, refl, sym, ap, subst, ◌∙◌, arith}
 use Rattle.std.specs.Prelude.{flat_map, unwrap_or}
 use Rattle.std.specs.List.{All, slice_get}
 use Rattle.std.specs.Ordering.{eq_by_cmp}
 use Rattle.std.proofs.lemmas.Bool.{and_from, and_parts, or_parts}
 use Rattle.std.proofs.lemmas.Grind.{flat_map-append}
-use Rattle.std.proofs.lemmas.List.{append-nil, drop-drop, drop-take, take-append-drop}
+use Rattle.std.proofs.lemmas.List.{drop-drop, drop-take, take-append-drop}
 use Rattle.std.proofs.lemmas.List.Elements.{All-append, All-cons, All-head, All-nil, All-tail}
 use Rattle.std.proofs.lemmas.List.Folds.{list_any-append}
 use Rattle.std.proofs.lemmas.Option.{slice_get_within}
@@ -16,11 +16,10 @@ use Rattle.copy_csv.specs.Rows.{AreRows, IsRowOf}
 use Rattle.copy_csv.specs.Sheets.{SheetRow, columns, width}
 use Rattle.copy_csv.proofs.WidthLemmas.{fits-all}
 use Rattle.copy_forms.specs.Files.{FitsIn, IsCopy, IsDelta, copy, may_be_wide}
-use Rattle.copy_forms.specs.Patching.{patched}
-use Rattle.copy_forms.specs.Trails.{FollowOn, IsKeyOf, IsNext, IsSound, Publication, Trail, between, change_of, changes_between, copy_head, copy_of, delta_between, delta_head, in_order, is_among, is_wide_in, nothing_published, publication_at, row_under, touched_in}
+use Rattle.copy_forms.specs.Patching.{IsPatched, patched}
+use Rattle.copy_forms.specs.Trails.{DeltasLeadOn, DeltasLeadOnFromBetween, FollowOn, IsKeyOf, IsNext, IsSound, Publication, Trail, between, changes_between, copy_head, copy_of, delta_between, delta_head, is_among, is_wide_in, nothing_published, publication_at, row_under, touched_in}
 use Rattle.copy_forms.proofs.CopyLemmas.{always}
-use Rattle.copy_forms.proofs.TrailLemmas.{are_changes, follow_on, leads_on, ordered-fit}
-use Rattle.lei_mirror.specs.Between.{DeltasLeadOnFromBetween}
+use Rattle.copy_forms.proofs.TrailLemmas.{are_changes, leads_over, ordered-fit}
 
 -- ---- what holds up to a place of a trail
 
@@ -55,7 +54,7 @@ keys_part before [] on (suc m) zero sheet = All-nil (IsKeyOf sheet)
 keys_part before [] on (suc m) (suc n) sheet = All-nil (IsKeyOf sheet)
 keys_part before (next ∷ later) on (suc m) n sheet = keys_part next later on.1 m n sheet
 
--- behind a wide one all are wide
+-- after a wide one all are wide
 widens_to : (before : Publication) (later : List Publication) → FollowOn before later → (n : ℕ) (latest : Publication)
     → slice_get (before ∷ later) n ≡ Some latest → before.wide ≡ true → latest.wide ≡ true
 widens_to before later on zero latest e wide = ap (λ (p : Publication). p.wide) (sym (ap (λ r. unwrap_or r before) e)) ∙ wide
@@ -63,28 +62,37 @@ widens_to before [] on (suc n) latest e wide = cc
 widens_to before (next ∷ later) on (suc n) latest e wide = widens_to next later on.1 n latest e (on.0.widens wide)
 
 -- a publication that follows some other one
-pub record Follows (publication : Publication) : Type 0 where
-  pub before : Publication
-  pub is_next : IsNext before publication
+record Follows (publication : Publication) : Type 0 where
+  before : Publication
+  is_next : IsNext before publication
 
 -- each publication of a trail does
-pub follows_at : (before : Publication) (trail : Trail) (n : ℕ) (publication : Publication) → FollowOn before trail
+follows_at : (before : Publication) (trail : Trail) (n : ℕ) (publication : Publication) → FollowOn before trail
     → slice_get trail n ≡ Some publication → Follows publication
 follows_at before [] n publication on e = cc
 follows_at before (next ∷ later) zero publication on e =
     subst Follows (ap (λ r. unwrap_or r next) e) (record { before = before; is_next = on.0 })
 follows_at before (next ∷ later) (suc n) publication on e = follows_at next later n publication on.1 e
 
+-- after a publication of a trail the others follow on
+follow_on : (before : Publication) (trail : Trail) (n : ℕ) (base : Publication) → FollowOn before trail
+    → slice_get trail n ≡ Some base → FollowOn base (drop (suc n) trail)
+follow_on before [] n base on e = cc
+follow_on before (next ∷ later) zero base on e =
+    let is : next ≡ base = ap (λ r. unwrap_or r next) e in
+    subst (λ (b : Publication). FollowOn b later) is on.1
+follow_on before (next ∷ later) (suc n) base on e = follow_on next later n base on.1 e
+
 -- ---- places of a trail
 
--- a publication with those behind it
+-- a publication with those after it
 from_here : (trail : Trail) (n : ℕ) (publication : Publication) → slice_get trail n ≡ Some publication
     → publication ∷ drop (suc n) trail ≡ drop n trail
 from_here [] n publication e = cc
 from_here (x ∷ trail) zero publication e = ap (λ (p : Publication). p ∷ trail) (sym (ap (λ r. unwrap_or r x) e))
 from_here (x ∷ trail) (suc n) publication e = from_here trail n publication e
 
--- a place behind a place
+-- a place after a place
 at_behind : (trail : Trail) (n m : ℕ) → slice_get (drop n trail) m ≡ slice_get trail (n + m)
 at_behind [] n m = ap (λ (l : Trail). slice_get l m) (drop-none n) ∙ none m ∙ sym (none (n + m))
   where
@@ -133,7 +141,7 @@ all-fit sheet wide full (row ∷ rows) are =
     (all-fit sheet wide full rows (All-tail (IsRowOf sheet) row rows are))
 
 -- a file of a publication shows all that its rows have
-pub rows-show : (publication : Publication) → Follows publication → (sheet : Sheet) (form : Form)
+rows-show : (publication : Publication) → Follows publication → (sheet : Sheet) (form : Form)
     → All (FitsIn form (is_wide_in publication sheet form)) (publication.rows sheet)
 rows-show publication is sheet Form.Json = always (publication.rows sheet)
 rows-show publication is Sheet.Lei Form.Csv = by publication.wide refl
@@ -202,37 +210,48 @@ module _ (trail : Trail) (on : IsSound trail) (few : length trail ≤ 1_000_000)
     rows_lead sheet =
         let is : Follows latest = follows_at nothing_published trail (r - 1) latest on e_r in
         let rows : AreRows sheet (latest.rows sheet) = is.is_next.rows_are sheet in
-        let touched : Sheet → List KeyTexts = λ sheet. touched_in sheet (between trail p r) in
-        let joint : Publication = record { moment = latest.moment; wide = latest.wide; rows = latest.rows; touched = touched } in
-        let next : IsNext copied joint = record {
-          moment_is = is.is_next.moment_is;
-          rows_are = is.is_next.rows_are;
-          keys_are = λ other. keys_part nothing_published trail on p (r - p) other;
-          kept = λ other k un. kept_to copied (drop q trail) behind_copied (r - q) latest there other k (later_unseen trail p q r first second other k un);
-          widens = widens_to copied (drop q trail) behind_copied (r - q) latest there;
-          plain = is.is_next.plain;
-        } in
-        ap (λ (l : List KeyTexts). patched (copied.rows sheet) (map (change_of sheet (latest.rows sheet)) (in_order l)))
-        (sym (append-nil (touched_in sheet (between trail p r))))
-        ∙ leads_on copied (joint ∷ []) (next, tt) sheet rows.rising
+        leads_over sheet (copied.rows sheet) (latest.rows sheet) (touched_in sheet (between trail p r)) rows.rising
+        (keys_part nothing_published trail on p (r - p) sheet)
+        (λ k un. kept_to copied (drop q trail) behind_copied (r - q) latest there sheet k (later_unseen trail p q r first second sheet k un))
 
-    pub widths_lead : copied.wide ≡ true → latest.wide ≡ true
+    widths_lead : copied.wide ≡ true → latest.wide ≡ true
     widths_lead = widens_to copied (drop q trail) behind_copied (r - q) latest there
+
+-- the law, with the heads and the widths of the copy and of the delta
+pub leads_with_heads : (trail : Trail) → IsSound trail → length trail ≤ 1_000_000
+    → (p q r : ℕ) (copied latest : Publication) → 1 ≤ p → p ≤ q → q ≤ r
+    → publication_at trail q ≡ Some copied → publication_at trail r ≡ Some latest → (sheet : Sheet) (form : Form)
+    → (is : IsPatched (copy_of q copied sheet form) (delta_between trail p r latest sheet form) (copy_of r latest sheet form) sheet form)
+    × (is.base_head ≡ copy_head q copied) × (is.head ≡ delta_head p r latest)
+    × (is.base_wide ≡ is_wide_in copied sheet form) × (is.wide ≡ is_wide_in latest sheet form)
+leads_with_heads trail on few p q r copied latest from_one first second e_q e_r sheet form = (
+  record {
+    base_head = copy_head q copied;
+    base_wide = is_wide_in copied sheet form;
+    rows = copied.rows sheet;
+    base_is = copy_stands trail on few q copied (omega arith) e_q sheet form;
+    head = delta_head p r latest;
+    wide = is_wide_in latest sheet form;
+    changes = changes_between trail p r latest sheet;
+    delta_is = delta_stands trail on few p r latest from_one (omega arith) e_r sheet form;
+    newer = λ wide. let parts = and_parts copied.wide (may_be_wide sheet form) wide in
+        and_from latest.wide (may_be_wide sheet form)
+        (widths_lead trail on few p q r copied latest from_one first second e_q e_r parts.0) parts.1;
+    bytes_are = ap (copy sheet form (is_wide_in latest sheet form) (copy_head r latest))
+        (sym (rows_lead trail on few p q r copied latest from_one first second e_q e_r sheet));
+  },
+  refl,
+  refl,
+  refl,
+  refl,
+)
 
 -- the law
 pub deltas_lead_between : (trail : Trail) → IsSound trail → length trail ≤ 1_000_000 → DeltasLeadOnFromBetween trail
-deltas_lead_between trail on few p q r copied latest from_one first second e_q e_r sheet form = record {
-  base_head = copy_head q copied;
-  base_wide = is_wide_in copied sheet form;
-  rows = copied.rows sheet;
-  base_is = copy_stands trail on few q copied (omega arith) e_q sheet form;
-  head = delta_head p r latest;
-  wide = is_wide_in latest sheet form;
-  changes = changes_between trail p r latest sheet;
-  delta_is = delta_stands trail on few p r latest from_one (omega arith) e_r sheet form;
-  newer = λ wide. let parts = and_parts copied.wide (may_be_wide sheet form) wide in
-      and_from latest.wide (may_be_wide sheet form)
-      (widths_lead trail on few p q r copied latest from_one first second e_q e_r parts.0) parts.1;
-  bytes_are = ap (copy sheet form (is_wide_in latest sheet form) (copy_head r latest))
-      (sym (rows_lead trail on few p q r copied latest from_one first second e_q e_r sheet));
-}
+deltas_lead_between trail on few p q r copied latest from_one first second e_q e_r sheet form =
+    let is = leads_with_heads trail on few p q r copied latest from_one first second e_q e_r sheet form in is.0
+
+-- and its case of a delta that goes from the publication of the copy
+pub deltas_lead : (trail : Trail) → IsSound trail → length trail ≤ 1_000_000 → DeltasLeadOn trail
+deltas_lead trail on few p q base latest from_one ordered e_p e_q =
+    deltas_lead_between trail on few p p q base latest from_one (omega arith) ordered e_p e_q

@@ -1,20 +1,22 @@
--- Rows and changes that are walked side by side are the patched rows.
+-- Rows and changes that are walked side by side are the patched rows, and these are rows of the sheet.
 use Rattle.std.proofs.Common.{◌≡◌, Bool, true, false, cond, Option, None, Some, List, [], ◌∷◌, ◌++◌, map, refl, sym, ap, subst, ◌∙◌}
 use Rattle.std.specs.Prelude.{flat_map, ⊤}
 use Rattle.std.specs.FinMap.{get, get-insert, get-remove, same_map, values}
 use Rattle.std.specs.FinMap.Entries.{by_order, find}
-use Rattle.std.specs.List.{AllByRecursion}
+use Rattle.std.specs.List.{All, AllByRecursion}
 use Rattle.std.specs.List.Sorted.{IsStrictlySortedBy}
 use Rattle.std.specs.Ordering.{eq_by_cmp, is_eq, ordering_reverse}
 use Rattle.std.specs.declared.cmp.Ordering.{Ordering}
+use Rattle.std.proofs.lemmas.List.Elements.{All-cons, All-head, All-nil, All-tail}
 use Rattle.lei_records.specs.Tables.{KeyTexts, key_cmp}
+use Rattle.register_words.specs.declared.sheets.Sheet.{Sheet}
 use Rattle.copy_csv.specs.declared.rows.Change.{Change}
-use Rattle.copy_csv.specs.Rows.{AreRising, changed_key}
+use Rattle.copy_csv.specs.Rows.{AreChanges, AreRising, AreRows, IsChangeOf, IsRowOf, changed_key}
 use Rattle.copy_csv.specs.Sheets.{SheetRow, key}
 use Rattle.copy_csv.proofs.RowLemmas.{key_total}
 use Rattle.copy_forms.specs.Patching.{Keyed, all_changed, changed, keyed, patched}
 use Rattle.copy_forms.proofs.TrailLemmas.{key_same, tied, under, values_keyed}
-use Rattle.delta_apply.specs.Merging.{merged, placed, put_by}
+use Rattle.copy_forms.specs.Merging.{merged, placed, put_by}
 
 -- ---- keys that rise
 
@@ -30,10 +32,10 @@ unfolding IsStrictlySortedBy
 rises [] rising = tt
 rises (k ∷ keys) rising = (rising.0, rises keys rising.1)
 
-rising : (keys : List KeyTexts) → Rises keys → AreRising keys
+rising-from : (keys : List KeyTexts) → Rises keys → AreRising keys
 unfolding IsStrictlySortedBy
-rising [] are = tt
-rising (k ∷ keys) are = (are.0, rising keys are.1)
+rising-from [] are = tt
+rising-from (k ∷ keys) are = (are.0, rising-from keys are.1)
 
 turned : (j k : KeyTexts) → key_cmp j k ≡ Ordering.Greater → key_cmp k j ≡ Ordering.Less
 turned j k e = key_total.antisymm k j ∙ ap ordering_reverse e
@@ -239,5 +241,52 @@ merged_is rows changes up are =
     same_map key_total key_same (keyed (merged rows changes)) (all_changed (keyed rows) changes)
     (λ k. under (merged rows changes) k ∙ merged_found k rows up_rises changes are_rises
     ∙ sym (get_all (keyed rows) changes k ∙ ap (after k changes) (under rows k))) in
-    sym (values_keyed (merged rows changes) (rising (map key (merged rows changes)) (merged_rises rows up_rises changes are_rises)))
+    sym (values_keyed (merged rows changes) (rising-from (map key (merged rows changes)) (merged_rises rows up_rises changes are_rises)))
     ∙ ap (λ m. values m) same
+
+-- ---- and of a sheet's rows and changes they are rows of the sheet
+
+module _ (sheet : Sheet) where
+  each_put : (change : Change) (rows : List SheetRow) → IsChangeOf sheet change → All (IsRowOf sheet) rows → All (IsRowOf sheet) (put_by change ++ rows)
+  each_put (Change.Put row) rows is all = All-cons (IsRowOf sheet) row rows is.0 all
+  each_put (Change.Drop row) rows is all = all
+
+  each_puts : (changes : List Change) → All (IsChangeOf sheet) changes → All (IsRowOf sheet) (flat_map put_by changes)
+  each_puts [] each = All-nil (IsRowOf sheet)
+  each_puts (change ∷ changes) each =
+      each_put change (flat_map put_by changes) (All-head (IsChangeOf sheet) change changes each)
+      (each_puts changes (All-tail (IsChangeOf sheet) change changes each))
+
+  each_placed : (row : SheetRow) (others : List Change → List SheetRow) → IsRowOf sheet row
+      → ((changes : List Change) → All (IsChangeOf sheet) changes → All (IsRowOf sheet) (others changes))
+      → (changes : List Change) → All (IsChangeOf sheet) changes → All (IsRowOf sheet) (placed row others changes)
+  each_placed row others is later [] each = All-cons (IsRowOf sheet) row (others []) is (later [] each)
+  each_placed row others is later (change ∷ changes) each =
+      by (each_placed row others is later changes rest) (key_cmp (changed_key change) (key row))
+    where
+      rest : All (IsChangeOf sheet) changes
+      rest = All-tail (IsChangeOf sheet) change changes each
+
+      first : IsChangeOf sheet change
+      first = All-head (IsChangeOf sheet) change changes each
+
+      by : All (IsRowOf sheet) (placed row others changes) → (o : Ordering)
+          → All (IsRowOf sheet) (by_order o (put_by change ++ placed row others changes) (put_by change ++ others changes) (row ∷ others (change ∷ changes)))
+      by inner Ordering.Less = each_put change (placed row others changes) first inner
+      by inner Ordering.Equal = each_put change (others changes) first (later changes rest)
+      by inner Ordering.Greater = All-cons (IsRowOf sheet) row (others (change ∷ changes)) is (later (change ∷ changes) each)
+
+  each_merged : (rows : List SheetRow) → All (IsRowOf sheet) rows → (changes : List Change) → All (IsChangeOf sheet) changes
+      → All (IsRowOf sheet) (merged rows changes)
+  each_merged [] all changes each = each_puts changes each
+  each_merged (row ∷ rows) all changes each =
+      each_placed row (merged rows) (All-head (IsRowOf sheet) row rows all) (each_merged rows (All-tail (IsRowOf sheet) row rows all)) changes each
+
+  pub rows_stay : (rows : List SheetRow) (changes : List Change) → AreRows sheet rows → AreChanges sheet changes → AreRows sheet (patched rows changes)
+  rows_stay rows changes are change =
+      let up : Rises (map key (merged rows changes)) =
+      merged_rises rows (rises (map key rows) are.rising) changes (rises (map changed_key changes) change.rising) in
+      subst (AreRows sheet) (merged_is rows changes are.rising change.rising) (record {
+        each = each_merged rows are.each changes change.each;
+        rising = rising-from (map key (merged rows changes)) up;
+      })

@@ -1,5 +1,0 @@
-use Rattle.lei_mirror.proofs.BetweenLemmas.{deltas_lead_between}
-use Rattle.lei_mirror.proofs.laws.deltas_lead_on_from_between.Goals as goal
-
-pub returns : goal.returns
-returns c = deltas_lead_between
