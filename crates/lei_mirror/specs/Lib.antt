@@ -1,4 +1,5 @@
 pub mod Packets
+pub mod KeptPackets
 pub mod Mirrors
 pub mod Following
 pub mod States

@@ -4,6 +4,7 @@
 mod changes;
 mod faults;
 mod keeping;
+mod kept_packet;
 mod laws;
 mod merging;
 mod mirror;

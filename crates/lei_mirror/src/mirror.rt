@@ -4,6 +4,7 @@ ghost use Rattle.copy_forms.specs.Trails.{IsSound, Trail};
 ghost use Rattle.lei_mirror.specs.declared.faults.MirrorFault.{MirrorFault as Taking};
 ghost use Rattle.lei_mirror.specs.declared.faults.ShowFault.{ShowFault as Showing};
 ghost use Rattle.lei_mirror.specs.Following.{FollowsTrail, IsCopyAt, IsOfTrail};
+ghost use Rattle.lei_mirror.specs.KeptPackets.{IsSpelledBy};
 ghost use Rattle.lei_mirror.specs.Mirrors as spec;
 ghost use Rattle.lei_mirror.specs.Mirrors.{HasNoRoom, IsSheetShown, TakesPacket, TakesBytes, empty_mirror};
 ghost use Rattle.lei_mirror.specs.Packets.{IsNoPacket};
@@ -11,6 +12,7 @@ ghost use Rattle.lei_mirror.specs.States.{IsSoundPacket};
 
 use crate::faults::{MirrorFault, ShowFault};
 use crate::keeping::{is_full, is_past, keep};
+use crate::kept_packet::KeptPacket;
 use crate::packet::{Packet, PacketKind};
 use crate::reading::read_packet;
 use crate::showing::rows_text;
@@ -35,7 +37,7 @@ pub struct Standing {
 pub struct Mirror {
     alloc: Global,
     tables: Tables,
-    kept: Vec<Packet>,
+    kept: Vec<KeptPacket>,
 }
 
 impl Model for Mirror {
@@ -63,9 +65,9 @@ impl Mirror {
         })
     }
 
-    /// Takes a copy or a delta of a sheet in JSON. It is read here, and its rows are kept until they are
-    /// shown or dropped. The faults are reported in the order of `MirrorFault`, and after one the mirror is
-    /// as it was.
+    /// Takes a copy or a delta of a sheet in JSON. It is read here. If the mirror can't move to its publication
+    /// yet, it is kept as its bytes, and read once more when the mirror moves there. The faults are reported in
+    /// the order of `MirrorFault`, and after one the mirror is as it was.
     pub fn take(
         &mut self,
         kind: PacketKind,
@@ -84,7 +86,7 @@ impl Mirror {
             → FollowsTrail trail self.new }
     {
         let packet = read_packet(self.alloc, kind, sheet, bytes)?;
-        self.take_packet(packet)?;
+        self.take_packet(packet, bytes)?;
         Ok(self.standing())
     }
 
@@ -103,9 +105,10 @@ impl Mirror {
         Ok(rows_text(self.alloc, &head, copy.rows.as_slice())?)
     }
 
-    // Takes a packet that was read.
-    fn take_packet(&mut self, packet: Packet) -> Result<(), MirrorFault>
-        requires { IsSoundPacket packet }
+    // Takes a packet that was read of these bytes.
+    fn take_packet(&mut self, packet: Packet, bytes: &[u8]) -> Result<(), MirrorFault>
+        requires sound { IsSoundPacket packet }
+        requires bytes { IsSpelledBy bytes.now packet }
         ensures takes { OnOk result (TakesPacket self.old packet self.new) }
         ensures new { IsErrOf result Taking.Full → spec.is_past self.old packet ≡ false }
         ensures full { IsErrOf result Taking.Full → spec.is_mirror_full self.old packet ≡ true }
@@ -119,7 +122,7 @@ impl Mirror {
         if is_full(self.kept.as_slice(), &packet) {
             return Err(MirrorFault::Full);
         }
-        keep(self.alloc, &mut self.tables, &mut self.kept, packet)?;
+        keep(self.alloc, &mut self.tables, &mut self.kept, packet, bytes)?;
         Ok(())
     }
 

@@ -1,4 +1,4 @@
-//! Packets: copies and deltas, as a mirror keeps them.
+//! Packets: copies and deltas, as they are read.
 ghost use Rattle.std.specs.Prelude.{◌≡◌};
 ghost use Rattle.lei_mirror.specs.Packets as spec;
 
@@ -48,39 +48,10 @@ impl Packet {
             PacketBody::Delta(_) => PacketKind::Delta,
         }
     }
-
-    // Whether it is of this kind and sheet and of the publication with this number.
-    fn is_of(&self, kind: PacketKind, sheet: Sheet, number: u32) -> bool
-        ensures { result ≡ spec.is_packet_of kind sheet number self.now }
-    {
-        is_kind(self.kind(), kind) && is_sheet(self.sheet, sheet) && self.head.publication == number
-    }
-
-    /// Whether it is the copy of the publication with this number.
-    pub fn is_copy_of(&self, sheet: Sheet, number: u32) -> bool
-        ensures { result ≡ spec.is_copy_of sheet number self.now }
-    {
-        self.is_of(PacketKind::Copy, sheet, number)
-    }
-
-    /// Whether it is a delta to this publication, from one with a number from 1 to `shown`.
-    pub fn is_delta_to(&self, sheet: Sheet, number: u32, shown: u32) -> bool
-        ensures { result ≡ spec.is_delta_to sheet number shown self.now }
-    {
-        let from = self.head.from;
-        self.is_of(PacketKind::Delta, sheet, number) && 1 <= from && from <= shown
-    }
-
-    /// Whether another one has its kind, sheet, publication and base.
-    pub fn is_like(&self, other: &Packet) -> bool
-        ensures { result ≡ spec.is_like self.now other.now }
-    {
-        let number = self.head.publication;
-        other.is_of(self.kind(), self.sheet, number) && other.head.from == self.head.from
-    }
 }
 
-fn is_sheet(sheet: Sheet, other: Sheet) -> bool
+/// Whether two sheets are one.
+pub fn is_sheet(sheet: Sheet, other: Sheet) -> bool
     ensures { result ≡ spec.is_sheet sheet other }
 {
     match sheet {
@@ -90,7 +61,8 @@ fn is_sheet(sheet: Sheet, other: Sheet) -> bool
     }
 }
 
-fn is_kind(kind: PacketKind, other: PacketKind) -> bool
+/// Whether two kinds are one.
+pub fn is_kind(kind: PacketKind, other: PacketKind) -> bool
     ensures { result ≡ spec.is_kind kind other }
 {
     match kind {

@@ -1,6 +1,7 @@
 //! Packets, read.
-ghost use Rattle.std.specs.Prelude.{IfOk, IsErrOf};
+ghost use Rattle.std.specs.Prelude.{◌≡◌, IfOk, IsErrOf};
 ghost use Rattle.lei_mirror.specs.declared.faults.MirrorFault.{MirrorFault as Fault};
+ghost use Rattle.lei_mirror.specs.declared.packet.Packet.{Packet as Spelled};
 ghost use Rattle.lei_mirror.specs.declared.packet.PacketKind.{PacketKind as Kind};
 ghost use Rattle.lei_mirror.specs.Packets.{IsNoPacket, IsPacket};
 ghost use Rattle.lei_mirror.specs.States.{IsSoundPacket};
@@ -10,9 +11,10 @@ use crate::faults::MirrorFault;
 use crate::packet::{Packet, PacketBody, PacketKind};
 use crate::shared::SharedRows;
 use copy_forms::{CopyRead, DeltaRead, Form, FormFault, Sheet, read_copy, read_delta};
+use lei_outside::NoMemory;
 use std::alloc::Global;
 
-/// The packet that these bytes are. Its rows are made here, once.
+/// The packet that these bytes are. Its rows are made here.
 pub fn read_packet(
     alloc: Global,
     kind: PacketKind,
@@ -27,6 +29,25 @@ pub fn read_packet(
     match kind {
         PacketKind::Copy => read_copy_packet(alloc, sheet, bytes),
         PacketKind::Delta => read_delta_packet(alloc, sheet, bytes),
+    }
+}
+
+/// The rows or the changes of the packet that these bytes are, read once more. It fails only for want of memory.
+pub fn read_body(
+    alloc: Global,
+    kind: PacketKind,
+    sheet: Sheet,
+    bytes: &[u8],
+) -> Result<PacketBody, NoMemory>
+    requires { IsNoPacket kind sheet bytes.now → ⊥ }
+    ensures { IfOk result (λ body. (packet : Spelled) → IsPacket kind sheet bytes.now packet
+        → body ≡ packet.body) }
+{
+    match read_packet(alloc, kind, sheet, bytes) {
+        Ok(packet) => Ok(packet.body),
+        Err(MirrorFault::NotRead) => unreachable!(),
+        Err(MirrorFault::Full) => unreachable!(),
+        Err(MirrorFault::NoMemory) => Err(NoMemory),
     }
 }
 

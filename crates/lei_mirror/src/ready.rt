@@ -5,12 +5,12 @@ ghost use Rattle.lei_mirror.specs.Mirrors as spec;
 ghost use Rattle.lei_mirror.specs.Packets as packets;
 ghost use Rattle.lei_mirror.specs.Settling.{FindsGreatest, lent};
 
-use crate::packet::Packet;
+use crate::kept_packet::KeptPacket;
 use copy_csv::Sheet;
 
 /// What brings a sheet to a publication: its copy, or else the first delta to it from a publication that
 /// isn't after the one that is shown.
-pub fn packet_for(shown: u32, kept: &[Packet], number: u32, sheet: Sheet) -> Option<&Packet>
+pub fn packet_for(shown: u32, kept: &[KeptPacket], number: u32, sheet: Sheet) -> Option<&KeptPacket>
     ensures { lent result ≡ spec.packet_for shown kept.now number sheet }
 {
     if let Some(copy) = copy_among(kept, sheet, number) {
@@ -19,7 +19,7 @@ pub fn packet_for(shown: u32, kept: &[Packet], number: u32, sheet: Sheet) -> Opt
     delta_among(kept, sheet, number, shown)
 }
 
-fn copy_among(kept: &[Packet], sheet: Sheet, number: u32) -> Option<&Packet>
+fn copy_among(kept: &[KeptPacket], sheet: Sheet, number: u32) -> Option<&KeptPacket>
     ensures { lent result ≡ find (packets.is_copy_of sheet number) kept.now }
 {
     for packet in kept {
@@ -30,7 +30,7 @@ fn copy_among(kept: &[Packet], sheet: Sheet, number: u32) -> Option<&Packet>
     None
 }
 
-fn delta_among(kept: &[Packet], sheet: Sheet, number: u32, shown: u32) -> Option<&Packet>
+fn delta_among(kept: &[KeptPacket], sheet: Sheet, number: u32, shown: u32) -> Option<&KeptPacket>
     ensures { lent result ≡ find (packets.is_delta_to sheet number shown) kept.now }
 {
     for packet in kept {
@@ -42,7 +42,7 @@ fn delta_among(kept: &[Packet], sheet: Sheet, number: u32, shown: u32) -> Option
 }
 
 // Whether a publication is ready.
-fn is_ready(shown: u32, kept: &[Packet], number: u32) -> bool
+fn is_ready(shown: u32, kept: &[KeptPacket], number: u32) -> bool
     ensures { IsTrue result ↔ spec.IsReadyToShow shown kept.now number }
 {
     shown < number
@@ -52,12 +52,12 @@ fn is_ready(shown: u32, kept: &[Packet], number: u32) -> bool
 }
 
 /// The greatest publication that is ready.
-pub fn greatest_ready(shown: u32, kept: &[Packet]) -> Option<u32>
+pub fn greatest_ready(shown: u32, kept: &[KeptPacket]) -> Option<u32>
     ensures { FindsGreatest shown kept.now result }
 {
     let mut greatest = shown;
     for packet in kept {
-        let number = packet.head.publication;
+        let number = packet.publication();
         if greatest < number && is_ready(shown, kept, number) {
             greatest = number;
         }

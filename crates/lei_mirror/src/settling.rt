@@ -4,10 +4,11 @@ ghost use Rattle.std.specs.List.{All};
 ghost use Rattle.copy_csv.specs.Rows.{AreRows};
 ghost use Rattle.lei_mirror.specs.Mirrors as spec;
 ghost use Rattle.lei_mirror.specs.Settling.{IsSoundFor, SettlesTo, lent};
-ghost use Rattle.lei_mirror.specs.States.{AreTables, IsSoundPacket};
+ghost use Rattle.lei_mirror.specs.States.{AreTables, IsSoundBody, IsSoundPacket};
 
+use crate::kept_packet::KeptPacket;
 use crate::merging::merge;
-use crate::packet::{Packet, PacketBody};
+use crate::packet::PacketBody;
 use crate::ready::{greatest_ready, packet_for};
 use crate::tables::{SheetCopy, Tables};
 use copy_csv::{Head, Sheet};
@@ -16,7 +17,7 @@ use std::alloc::Global;
 
 /// The tables to which these packets bring a mirror with these tables. They are made beside the old ones,
 /// with the rows that stay in common, so that nothing is to be taken back if memory runs out.
-pub fn settle(alloc: Global, tables: &Tables, kept: &[Packet]) -> Result<Tables, NoMemory>
+pub fn settle(alloc: Global, tables: &Tables, kept: &[KeptPacket]) -> Result<Tables, NoMemory>
     requires tables { AreTables tables.now }
     requires packets { All IsSoundPacket kept.now }
     ensures settles { IfOk result (λ settled. SettlesTo tables.now kept.now settled) }
@@ -30,11 +31,12 @@ pub fn settle(alloc: Global, tables: &Tables, kept: &[Packet]) -> Result<Tables,
     Ok(now)
 }
 
-// The tables of another publication, each brought there by a packet.
+// The tables of another publication, each brought there by a packet. What is read again of one packet is dropped
+// before the next one is read.
 fn tables_at(
     alloc: Global,
     tables: &Tables,
-    kept: &[Packet],
+    kept: &[KeptPacket],
     number: u32,
 ) -> Result<Tables, NoMemory>
     requires tables { AreTables tables.now }
@@ -58,7 +60,7 @@ fn copy_after(
     alloc: Global,
     sheet: Sheet,
     old: &SheetCopy,
-    packet: Option<&Packet>,
+    packet: Option<&KeptPacket>,
 ) -> Result<SheetCopy, NoMemory>
     requires rows { AreRows sheet old.now.rows }
     requires packet { IsSoundFor sheet (lent packet) }
@@ -67,16 +69,29 @@ fn copy_after(
     let Some(packet) = packet else {
         return old.share();
     };
-    match &packet.body {
+    let body = packet.body(alloc)?;
+    copy_with(alloc, sheet, old, packet.head(), &body)
+}
+
+// What is shown of a sheet after a packet with this head and this body.
+fn copy_with(
+    alloc: Global,
+    sheet: Sheet,
+    old: &SheetCopy,
+    head: &Head,
+    body: &PacketBody,
+) -> Result<SheetCopy, NoMemory>
+    requires rows { AreRows sheet old.now.rows }
+    requires body { IsSoundBody sheet head.now body.now }
+    ensures { IfOk result (λ made. made ≡ spec.copy_with old.now head.now body.now) }
+{
+    match body {
         PacketBody::Copy(rows) => Ok(SheetCopy {
-            head: Some(packet.head),
+            head: Some(*head),
             rows: rows.share()?,
         }),
         PacketBody::Delta(changes) => Ok(SheetCopy {
-            head: Some(Head {
-                from: 0,
-                ..packet.head
-            }),
+            head: Some(Head { from: 0, ..*head }),
             rows: merge(alloc, sheet, old.rows.as_slice(), changes.as_slice())?,
         }),
     }

@@ -24,19 +24,19 @@ abbrev pub large_of : List ℕ → Option ℕ
 large_of word = number_within 536_870_913 9_999_999_999 word
 
 -- A packet of a size; or one that is too large, which is skipped.
-abbrev pub sized_by : PacketHead → Option ℕ → Option ℕ → MirrorMeaning
-sized_by head (Some size) large = LineMeaning.Packet head size
-sized_by head None (Some size) = LineMeaning.Skipped TooLong size
-sized_by head None None = LineMeaning.Refused Path
+abbrev pub packet_by_size : PacketHead → Option ℕ → Option ℕ → MirrorMeaning
+packet_by_size head (Some size) large = LineMeaning.Packet head size
+packet_by_size head None (Some size) = LineMeaning.Skipped TooLong size
+packet_by_size head None None = LineMeaning.Refused Path
 
 -- The same, of the word that is the number of bytes.
-unfoldable pub sized : PacketHead → List ℕ → MirrorMeaning
-sized head word = sized_by head (size_of word) (large_of word)
+unfoldable pub packet_of_size : PacketHead → List ℕ → MirrorMeaning
+packet_of_size head word = packet_by_size head (size_of word) (large_of word)
 
 -- A packet of a table, if it is one.
 abbrev pub packet_by : PacketKind → Option Sheet → List ℕ → MirrorMeaning
 packet_by kind None size = LineMeaning.Refused Path
-packet_by kind (Some sheet) size = sized (record { kind = kind; sheet = sheet }) size
+packet_by kind (Some sheet) size = packet_of_size (record { kind = kind; sheet = sheet }) size
 
 -- The same, of words that were cut at their first space if they have one.
 abbrev pub packet_in : PacketKind → Option (List ℕ × List ℕ) → MirrorMeaning

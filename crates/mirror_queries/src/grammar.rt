@@ -1,6 +1,6 @@
 //! What lines of a mirror say.
 ghost use Rattle.std.specs.Prelude.{◌≡◌};
-ghost use Rattle.mirror_queries.specs.Grammar.{packet_of, says_alone, says_with, show_of, sized};
+ghost use Rattle.mirror_queries.specs.Grammar.{packet_of, packet_of_size, says_alone, says_with, show_of};
 
 use crate::sizes::{read_large, read_size};
 use copy_csv::Sheet;
@@ -94,15 +94,15 @@ fn read_packet(kind: PacketKind, rest: &[u8]) -> MirrorMeaning
         return LineMeaning::Refused(QueryRefusal::Path);
     };
     match sheet_of(table) {
-        Some(sheet) => read_sized(PacketHead { kind, sheet }, size),
+        Some(sheet) => read_packet_of_size(PacketHead { kind, sheet }, size),
         None => LineMeaning::Refused(QueryRefusal::Path),
     }
 }
 
 // A packet of the size that is written so. One that is too large is skipped.
-#[tactic(auto, unfolding(crate::specs::Grammar::sized))]
-fn read_sized(head: PacketHead, size: &[u8]) -> MirrorMeaning
-    ensures { result ≡ sized head size.now }
+#[tactic(auto, unfolding(crate::specs::Grammar::packet_of_size))]
+fn read_packet_of_size(head: PacketHead, size: &[u8]) -> MirrorMeaning
+    ensures { result ≡ packet_of_size head size.now }
 {
     if let Some(bytes) = read_size(size) {
         return LineMeaning::Packet(head, bytes);

@@ -14,8 +14,8 @@ ghost use Rattle.mirror_queries.specs.Following.{ArePacketsOfTrail, IsAskedOfTra
 ghost use Rattle.mirror_queries.specs.Serving.{mirror_rules};
 ghost use Rattle.mirror_queries.specs.Sizes.{IsShort};
 
-/// At a mirror a query has one reply, and one mirror comes after it, unless memory runs out. Of packets of 2^64 bytes or
-/// more nothing is said.
+/// At a mirror a query has one reply, and one mirror comes after it, unless memory runs out. Of packets of 2^64 bytes
+/// or more nothing is said.
 pub fn queries_have_one_reply()
     ensures { (state new next : MirrorState) (asked : MirrorAsked) (moments later : List ℤ) (reply other : QueryReply)
         → IsShort asked → MirrorStep state asked moments reply new → MirrorStep state asked later other next

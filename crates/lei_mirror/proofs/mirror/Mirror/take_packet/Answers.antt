@@ -9,7 +9,7 @@ pub invariant_of-self-2 : goal.invariant_of-self-2
 invariant_of-self-2 c =
     let room : is_mirror_full (record { tables = c.self.inside.tables; kept = c.self.inside.kept.items }) c.args.packet ≡ false =
     ap (λ l. nat_le 64 (length l) || nat_lt 536_870_912 (bytes_in l + c.args.packet.size)) (sym c.as_slice-2.ensures.value) ∙ sym c.is_full.ensures ∙ c.if-is_full.false in
-    stays_mirror c.self.inside.tables c.self.inside.kept.items c.args.packet c.keep.new.tables c.keep.new.kept.items c.self.invariant c.requires room
+    stays_mirror c.self.inside.tables c.self.inside.kept.items c.args.packet c.keep.new.tables c.keep.new.kept.items c.self.invariant c.requires.sound room
     c.in_ok-keep.ensures.tables c.in_ok-keep.ensures.kept
 
 pub returns-clause-takes : goal.returns-clause-takes
