@@ -1,5 +1,5 @@
 -- What is noted of the words of names.
-use Rattle.std.proofs.Common.{◌≡◌, ℕ, ◌+◌, ◌<◌, T, Bool, true, false, ◌&&◌, ◌||◌, cond, Option, None, Some, List, [], ◌∷◌, ◌++◌, zero, suc, get_or, take, map, length, refl, sym, ap, subst, ◌∙◌, arith}
+use Rattle.std.proofs.Common.{◌≡◌, ℕ, ◌+◌, ◌<◌, T, Bool, true, false, ◌&&◌, ◌||◌, cond, Option, Some, List, [], ◌∷◌, ◌++◌, zero, suc, get_or, take, map, length, refl, sym, ap, subst, ◌∙◌, arith}
 use Rattle.std.specs.Prelude.{flat_map}
 use Rattle.std.specs.BTreeMap.{BTreeMap, UpdatesBy, get_by_text}
 use Rattle.std.specs.BTreeSet.{BTreeSet}
@@ -16,7 +16,7 @@ use Rattle.std.specs.Str.{bytes_eq}
 use Rattle.std.specs.declared.cmp.Ordering.{Ordering}
 use Rattle.std.proofs.lemmas.Bool.{false≢true}
 use Rattle.std.proofs.lemmas.Cmp.{nat_list_cmp_total}
-use Rattle.std.proofs.lemmas.List.{take_more}
+use Rattle.std.proofs.lemmas.List.{map-append, take_more}
 use Rattle.std.proofs.lemmas.List.Elements.{All-head, All-tail}
 use Rattle.std.proofs.lemmas.List.Folds.{list_all-append}
 use Rattle.std.proofs.lemmas.Map.Text.{btree_map_updates_text, is_eq-slice_cmp}
@@ -33,10 +33,12 @@ use Rattle.name_search.specs.declared.postings.Postings.{Postings}
 use Rattle.name_search.specs.NameTables.{Name, named}
 use Rattle.name_search.specs.Puts.{put_name, put_names}
 use Rattle.name_search.specs.Searching.{has_each, is_among, is_match}
-use Rattle.name_search.specs.Walks.{Covers, IsIndexed, Stays, StaysFor, TakesOne, has_word, is_key, is_noted, keys_in, keys_under, text_cmp}
+use Rattle.name_search.specs.Keys.{AreKeysOf, is_key, text_cmp}
+use Rattle.name_search.specs.Walks.{Covers, FirstStays, IsIndexed, LaterStays, Stays, StaysFor, TakesFrom, has_word, is_noted, keys_in, keys_under, rising_in}
 use Rattle.name_search.specs.Words.{words}
 use Rattle.name_search.proofs.KeyLemmas.{key_is, then_nothing}
 use Rattle.name_search.proofs.PlaceLemmas.{turned}
+use Rattle.name_search.proofs.RisingLemmas.{in_both, in_first, in_second}
 use Rattle.name_search.proofs.WalkLemmas.{first_true, less, second_true, tied}
 
 both : (a b : Bool) → (a && b) ≡ true → (a ≡ true) × (b ≡ true)
@@ -73,6 +75,21 @@ key_stays old new stays key these =
 
 pub noted_stays : (old new : Postings) → Stays old new → (names : List Name) → list_all (is_noted old) names ≡ true → list_all (is_noted new) names ≡ true
 noted_stays old new stays = all_weaker (is_noted old) (is_noted new) (λ (name : Name). key_stays old new stays name.0 (words name.1))
+
+-- one more row was named after the others
+pub named_more : (rows : List SheetRow) (i : ℕ) (row : SheetRow) (made : List Name) (name : Name) → i < length rows → row ≡ get_or rows i row
+    → made ≡ map named (take i rows) → name ≡ named row → made ++ name ∷ [] ≡ map named (take (i + 1) rows)
+named_more rows i row made name within here before value =
+    ap (λ l. l ++ name ∷ []) before ∙ ap (λ y. map named (take i rows) ++ y ∷ []) value
+    ∙ sym (ap (map named) (take_more rows i row within ∙ ap (λ y. take i rows ++ y ∷ []) (sym here)) ∙ map-append named (take i rows) (row ∷ []))
+
+-- one more name is noted after the others
+pub noted_more : (old new : Postings) → Stays old new → (names : List Name) (name : Name) → list_all (is_noted old) names ≡ true → is_noted new name ≡ true
+    → list_all (is_noted new) (names ++ name ∷ []) ≡ true
+noted_more old new stays names name before here =
+    list_all-append (is_noted new) names (name ∷ [])
+    ∙ joined (list_all (is_noted new) names) (list_all (is_noted new) (name ∷ [])) (noted_stays old new stays names before)
+    (joined (is_noted new name) true here refl)
 
 -- ---- a name that has a word is noted under it
 
@@ -217,20 +234,36 @@ indexed-after names out puts changes changes' old new is stays noted puts_are sa
 
 -- ---- one word of an index
 
-module _ {Y : Type 0} (old new : BTreeMap (String Y) (BTreeSet Text)) (word : Text) (keys : Option (BTreeSet Text)) where
-  pub stays_updated : UpdatesBy string_cmp (λ k. slice_cmp nat_cmp word (string_bytes k)) old new keys
-      → ((key : Text) → is_key key (keys_in (get_by_text old word)) ≡ true → is_key key (keys_in keys) ≡ true)
-      → (other key : Text) → is_key key (keys_in (get_by_text old other)) ≡ true → is_key key (keys_in (get_by_text new other)) ≡ true
+module _ {Y V : Type 0} (read : Option V → List Text) (old new : BTreeMap (String Y) V) (word : Text) (value : Option V) where
+  pub stays_updated : UpdatesBy string_cmp (λ k. slice_cmp nat_cmp word (string_bytes k)) old new value
+      → AreKeysOf (read (get_by_text old word)) (read value)
+      → (other : Text) → AreKeysOf (read (get_by_text old other)) (read (get_by_text new other))
   stays_updated updates stay other key had =
-      ap (λ o. is_key key (keys_in o)) (btree_map_updates_text word old new keys updates other) ∙ by (bytes_eq word other) refl
+      ap (λ o. is_key key (read o)) (btree_map_updates_text word old new value updates other) ∙ by (bytes_eq word other) refl
     where
-      by : (b : Bool) → bytes_eq word other ≡ b → is_key key (keys_in (cond b keys (get_by_text old other))) ≡ true
-      by true same = stay key (ap (λ w. is_key key (keys_in (get_by_text old w))) ((bytes_decides word other).0 same) ∙ had)
+      by : (b : Bool) → bytes_eq word other ≡ b → is_key key (read (cond b value (get_by_text old other))) ≡ true
+      by true same = stay key (ap (λ w. is_key key (read (get_by_text old w))) ((bytes_decides word other).0 same) ∙ had)
       by false differs = had
 
 -- no key stands under a word that has none
-pub no_key : {P : Type 0} (key : Text) (keys : Option (BTreeSet Text)) → keys ≡ None → is_key key (keys_in keys) ≡ true → P
-no_key key keys none had = absurd (false≢true (sym (ap (λ o. is_key key (keys_in o)) none) ∙ had))
+pub no_key : {P : Type 0} (key : Text) (keys : List Text) → keys ≡ [] → is_key key keys ≡ true → P
+no_key key keys none had = absurd (false≢true (sym (ap (is_key key) none) ∙ had))
+
+-- what stays in both maps stays noted
+pub stays_both : (old new : Postings) → FirstStays old.first new.first → LaterStays old.later new.later → Stays old new
+stays_both old new first later word key =
+    in_both key (rising_in (get_by_text old.first word)) (keys_in (get_by_text old.later word))
+    (rising_in (get_by_text new.first word)) (keys_in (get_by_text new.later word)) (first word key) (later word key)
+
+pub noted_first : (postings : Postings) (word key : Text) → is_key key (rising_in (get_by_text postings.first word)) ≡ true
+    → is_key key (keys_under postings word) ≡ true
+noted_first postings word key =
+    in_first key (rising_in (get_by_text postings.first word)) (keys_in (get_by_text postings.later word))
+
+pub noted_later : (postings : Postings) (word key : Text) → is_key key (keys_in (get_by_text postings.later word)) ≡ true
+    → is_key key (keys_under postings word) ≡ true
+noted_later postings word key =
+    in_second key (rising_in (get_by_text postings.first word)) (keys_in (get_by_text postings.later word))
 
 -- ---- one more word of a row
 
@@ -278,6 +311,12 @@ each_found (e ∷ es) sorted = (
   later_found e es es (first_true (below_all text_cmp e.0 es) (is_sorted text_cmp es) sorted) (each_found es (second_true (below_all text_cmp e.0 es) (is_sorted text_cmp es) sorted)),
 )
 
+-- a key was taken from under a word, and no other key from under any
+abbrev TakesOne : Text → Text → Postings → Postings → Type 0
+TakesOne word key old new =
+    (other k : Text) → (bytes_eq word other && bytes_eq key k) ≡ false → is_key k (keys_under old other) ≡ true
+    → is_key k (keys_under new other) ≡ true
+
 -- a name keeps its key under a word that it has
 keeps_word : (old new : Postings) (rows : List Name) (word key : Text) (n : Name) → TakesOne word key old new
     → has_word (option_map (λ name. (key, name)) (find text_cmp key rows)) word ≡ false → find text_cmp n.0 rows ≡ Some n.1
@@ -305,10 +344,16 @@ keeps_each old new rows word key takes lacks (n ∷ names) found all =
 
 -- so nothing that the rows need is taken
 pub forgets_one : (first old new : Postings) (rows : List Name) (word key : Text) (row : Option Name) → is_sorted text_cmp rows ≡ true
-    → row ≡ option_map (λ name. (key, name)) (find text_cmp key rows) → has_word row word ≡ false → TakesOne word key old new
-    → StaysFor rows first old → StaysFor rows first new
-forgets_one first old new rows word key row sorted is lacks takes before all =
-    keeps_each old new rows word key takes (ap (λ o. has_word o word) (sym is) ∙ lacks) rows (each_found rows (subst T (sym sorted) tt)) (before all)
+    → row ≡ option_map (λ name. (key, name)) (find text_cmp key rows) → has_word row word ≡ false → TakesFrom word key old.later new.later
+    → new.first ≡ old.first → StaysFor rows first old → StaysFor rows first new
+forgets_one first old new rows word key row sorted is lacks takes same before all =
+    keeps_each old new rows word key takes_one (ap (λ o. has_word o word) (sym is) ∙ lacks) rows (each_found rows (subst T (sym sorted) tt)) (before all)
+  where
+    takes_one : TakesOne word key old new
+    takes_one other k apart =
+        in_both k (rising_in (get_by_text old.first other)) (keys_in (get_by_text old.later other))
+        (rising_in (get_by_text new.first other)) (keys_in (get_by_text new.later other))
+        (λ had. ap (λ m. is_key k (rising_in (get_by_text m other))) same ∙ had) (takes other k apart)
 
 pub indexed-forgot : (names : List Name) (old new : Postings) → IsIndexed names old → StaysFor names old new → IsIndexed names new
 indexed-forgot names old new is stays = record {

@@ -9,7 +9,7 @@ use Rattle.std.proofs.lemmas.Cmp.{nat_list_cmp_total}
 use Rattle.std.proofs.lemmas.List.{get_or_default}
 use Rattle.lei_code.specs.Texts.{Text}
 use Rattle.name_search.specs.NameTables.{Name}
-use Rattle.name_search.specs.Walks.{text_cmp}
+use Rattle.name_search.specs.Keys.{text_cmp}
 use Rattle.name_search.proofs.WalkLemmas.{first_true, less, second_true, text_same}
 
 -- the key stands after those before a place

@@ -9,7 +9,8 @@ use Rattle.std.specs.declared.cmp.Ordering.{Ordering}
 use Rattle.std.proofs.lemmas.Cmp.{nat_list_cmp_total}
 use Rattle.lei_code.specs.Texts.{Text}
 use Rattle.name_search.specs.NameTables.{Name}
-use Rattle.name_search.specs.Walks.{Covers, hits, is_key, text_cmp, walk}
+use Rattle.name_search.specs.Keys.{is_key, text_cmp}
+use Rattle.name_search.specs.Walks.{Covers, hits, walk}
 
 pub text_same : IsAntisymmetric text_cmp
 text_same = slice_cmp-IsAntisymmetric nat_cmp-IsAntisymmetric

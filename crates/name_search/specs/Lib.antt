@@ -1,4 +1,5 @@
 pub mod Words
+pub mod Keys
 pub mod NameTables
 pub mod Searching
 pub mod Gathering

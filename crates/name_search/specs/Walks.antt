@@ -1,40 +1,44 @@
 -- By word, the keys of the rows whose names have it, and a walk over the keys of one word instead of all names.
-use Rattle.std.specs.Prelude.{◌≡◌, ◌&&◌, Bool, true, false, Option, None, Some, List, [], ◌∷◌, flat_map, map, if◌then◌else◌}
-use Rattle.std.specs.BTreeMap.{get_by_text}
+use Rattle.std.specs.Prelude.{◌≡◌, ◌++◌, ◌&&◌, Bool, true, false, Option, None, Some, List, String, [], ◌∷◌, flat_map, map, if◌then◌else◌}
+use Rattle.std.specs.BTreeMap.{BTreeMap, get_by_text}
 use Rattle.std.specs.BTreeSet.{BTreeSet}
-use Rattle.std.specs.Cmp.Lexicographic.{slice_cmp}
 use Rattle.std.specs.FinMap.Entries.{find}
-use Rattle.std.specs.List.{list_all, list_any}
-use Rattle.std.specs.Ordering.{eq_by_cmp, nat_cmp}
+use Rattle.std.specs.List.{list_all}
 use Rattle.std.specs.Str.{bytes_eq}
-use Rattle.std.specs.declared.cmp.Ordering.{Ordering}
 use Rattle.lei_code.specs.Texts.{Text}
 use Rattle.register_words.specs.declared.sheets.Sheet.{Sheet}
 use Rattle.copy_csv.specs.Rows.{AreRows}
 use Rattle.copy_csv.specs.Sheets.{SheetRow}
 use Rattle.name_search.specs.declared.postings.Postings.{Postings}
+use Rattle.name_search.specs.Keys.{AreKeysOf, is_key, text_cmp}
 use Rattle.name_search.specs.NameTables.{Name, named}
 use Rattle.name_search.specs.Searching.{is_among}
 use Rattle.name_search.specs.Words.{words}
 
--- Texts in byte order.
-abbrev pub text_cmp : Text → Text → Ordering
-text_cmp = slice_cmp nat_cmp
-
 -- ---- what is noted
+
+-- The keys of a list, if there is one.
+abbrev pub rising_in : Option (List Text) → List Text
+rising_in None = []
+rising_in (Some keys) = keys
 
 -- The keys of a set, if there is one.
 abbrev pub keys_in : Option (BTreeSet Text) → List Text
 keys_in None = []
 keys_in (Some keys) = keys.keys
 
--- The keys that are noted under a word.
+-- The keys that are noted under a word: those of its list, and those of its set.
 abbrev pub keys_under : Postings → Text → List Text
-keys_under postings word = keys_in (get_by_text postings.map word)
+keys_under postings word = rising_in (get_by_text postings.first word) ++ keys_in (get_by_text postings.later word)
 
--- A key is one of these.
-abbrev pub is_key : Text → List Text → Bool
-is_key key keys = list_any (eq_by_cmp text_cmp key) keys
+-- The keys that a map of lists has under a word stay there.
+abbrev pub FirstStays : {Y : Type 0} → BTreeMap (String Y) (List Text) → BTreeMap (String Y) (List Text) → Type 0
+FirstStays old new = (word : Text) → AreKeysOf (rising_in (get_by_text old word)) (rising_in (get_by_text new word))
+
+-- Those that a map of sets has under a word stay there.
+abbrev pub LaterStays : {Y : Type 0} → BTreeMap (String Y) (BTreeSet Text) → BTreeMap (String Y) (BTreeSet Text)
+    → Type 0
+LaterStays old new = (word : Text) → AreKeysOf (keys_in (get_by_text old word)) (keys_in (get_by_text new word))
 
 -- The key of a name is noted under each of its words.
 abbrev pub is_noted : Postings → Name → Bool
@@ -53,11 +57,12 @@ Stays old new = (word key : Text) → is_key key (keys_under old word) ≡ true 
 abbrev pub StaysFor : List Name → Postings → Postings → Type 0
 StaysFor names old new = list_all (is_noted old) names ≡ true → list_all (is_noted new) names ≡ true
 
--- A key was taken from under a word, and no other key from under any.
-abbrev pub TakesOne : Text → Text → Postings → Postings → Type 0
-TakesOne word key old new =
-    (other k : Text) → (bytes_eq word other && bytes_eq key k) ≡ false → is_key k (keys_under old other) ≡ true
-    → is_key k (keys_under new other) ≡ true
+-- A key was taken from a word's set, and no other key from any.
+abbrev pub TakesFrom : {Y : Type 0} → Text → Text → BTreeMap (String Y) (BTreeSet Text)
+    → BTreeMap (String Y) (BTreeSet Text) → Type 0
+TakesFrom word key old new =
+    (other k : Text) → (bytes_eq word other && bytes_eq key k) ≡ false
+    → is_key k (keys_in (get_by_text old other)) ≡ true → is_key k (keys_in (get_by_text new other)) ≡ true
 
 -- The names are those of some rows of a copy, and each is noted.
 pub record IsIndexed (names : List Name) (postings : Postings) : Type 0 where

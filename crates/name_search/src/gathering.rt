@@ -1,16 +1,20 @@
 //! Matches, counted, and those on a page put down.
 ghost use Rattle.std.specs.Prelude.{◌<◌, ◌++◌, ◌∷◌, [], List, filter, true, option_map, option_to_list, IfOk, OnOk, ◌≡◌};
 ghost use Rattle.name_search.specs.Searching as spec;
-ghost use Rattle.name_search.specs.Walks.{Covers, hits, keys_in, text_cmp};
+ghost use Rattle.name_search.specs.Keys.{AreKeysOf, text_cmp};
+ghost use Rattle.name_search.specs.Walks.{Covers, hits, keys_in};
+ghost use Rattle.std.specs.List.Sorted.{IsStrictlySortedBy};
 ghost use Rattle.std.specs.FinMap.Entries.{find, is_sorted};
 ghost use Rattle.name_search.specs.Gathering.{Gathers};
 ghost use Rattle.name_search.specs.NameTables.{Name};
 
+use crate::key::Key;
 use crate::named_row::NamedRow;
 use crate::places::row_at;
-use crate::postings::Keys;
+use crate::postings::{Keys, note_key};
 use lei_outside::{NoMemory, Text};
 use std::alloc::Global;
+use std::collections::BTreeSet;
 
 /// How many matches there are so far, and the names of those on the page.
 #[derive(Drop)]
@@ -47,17 +51,85 @@ pub fn gather_under(
     start: u64,
     wanted: &[Text],
     rows: &[NamedRow],
-    keys: Option<&Keys>,
+    first: &[Key],
+    later: Option<&Keys>,
 ) -> Result<Gathered, NoMemory>
     requires sorted { is_sorted text_cmp rows.now ≡ true }
-    requires covers { Covers (spec.is_match wanted.now) rows.now (keys_in (option_map (λ keys. keys.now) keys)) }
+    requires rising { IsStrictlySortedBy text_cmp first.now }
+    requires covers { Covers (spec.is_match wanted.now) rows.now
+        (first.now ++ keys_in (option_map (λ keys. keys.now) later)) }
     ensures { IfOk result (λ gathered. Gathers start (filter (spec.is_match wanted.now) rows.now)
         gathered.matches gathered.names.items) }
 {
-    match keys {
-        Some(keys) => gather_each(alloc, start, wanted, rows, keys),
-        None => Ok(nothing(alloc)),
+    match later {
+        Some(later) => gather_both(alloc, start, wanted, rows, first, later),
+        None => gather_rising(alloc, start, wanted, rows, first),
     }
+}
+
+// The same for keys of which some came with deltas: list and set are put into one set.
+fn gather_both(
+    alloc: Global,
+    start: u64,
+    wanted: &[Text],
+    rows: &[NamedRow],
+    first: &[Key],
+    later: &Keys,
+) -> Result<Gathered, NoMemory>
+    requires sorted { is_sorted text_cmp rows.now ≡ true }
+    requires covers { Covers (spec.is_match wanted.now) rows.now (first.now ++ later.now.keys) }
+    ensures { IfOk result (λ gathered. Gathers start (filter (spec.is_match wanted.now) rows.now)
+        gathered.matches gathered.names.items) }
+{
+    let mut keys = BTreeSet::new(alloc);
+    put_list(&mut keys, first)?;
+    put_set(&mut keys, later)?;
+    gather_each(alloc, start, wanted, rows, &keys)
+}
+
+// Puts the keys of a list among others.
+fn put_list(keys: &mut Keys, list: &[Key]) -> Result<(), NoMemory>
+    ensures stay { AreKeysOf keys.old.keys keys.new.keys }
+    ensures put { OnOk result (AreKeysOf list.now keys.new.keys) }
+{
+    for key in list {
+        note_key(keys, key)?;
+    }
+    Ok(())
+}
+
+// Puts the keys of a set among others.
+fn put_set(keys: &mut Keys, set: &Keys) -> Result<(), NoMemory>
+    ensures stay { AreKeysOf keys.old.keys keys.new.keys }
+    ensures put { OnOk result (AreKeysOf set.now.keys keys.new.keys) }
+{
+    for key in set.iter() {
+        note_key(keys, key)?;
+    }
+    Ok(())
+}
+
+// The same for a list of keys, none of which came with a delta.
+fn gather_rising(
+    alloc: Global,
+    start: u64,
+    wanted: &[Text],
+    rows: &[NamedRow],
+    keys: &[Key],
+) -> Result<Gathered, NoMemory>
+    requires sorted { is_sorted text_cmp rows.now ≡ true }
+    requires rising { IsStrictlySortedBy text_cmp keys.now }
+    requires covers { Covers (spec.is_match wanted.now) rows.now keys.now }
+    ensures { IfOk result (λ gathered. Gathers start (filter (spec.is_match wanted.now) rows.now)
+        gathered.matches gathered.names.items) }
+{
+    let mut gathered = nothing(alloc);
+    for key in keys {
+        if let Some(row) = match_at(wanted, rows, key.as_str()) {
+            gathered.add(alloc, start, row)?;
+        }
+    }
+    Ok(gathered)
 }
 
 // No matches so far.
@@ -71,7 +143,7 @@ fn nothing(alloc: Global) -> Gathered
     }
 }
 
-// The same for keys that are there.
+// The same for keys in a set.
 fn gather_each(
     alloc: Global,
     start: u64,

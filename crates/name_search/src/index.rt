@@ -13,8 +13,9 @@ ghost use Rattle.name_search.specs.Words.{words};
 use crate::faults::{FindFault, TakeFault};
 use crate::found::Found;
 use crate::gathering::{Gathered, gather_under};
-use crate::merging::{merge, named_puts, named_rows, number_of};
+use crate::merging::{merge, named_puts, number_of};
 use crate::named_row::NamedRow;
+use crate::opening::noted_rows;
 use crate::postings::Postings;
 use crate::words::words_of;
 use copy_csv::{CopyRead, DeltaRead};
@@ -67,9 +68,8 @@ impl Index {
         ensures steps { steps.new ≤ steps.old + length copy.now.rows }
         ensures steps_stay { steps.old ≤ steps.new }
     {
-        let rows = named_rows(alloc, copy.rows.as_slice(), steps)?;
         let mut postings = Postings::new(alloc);
-        postings.note_all(rows.as_slice())?;
+        let rows = noted_rows(alloc, copy.rows.as_slice(), &mut postings, steps)?;
         Ok(Index {
             alloc,
             publication: number_of(&copy.head),
@@ -166,9 +166,17 @@ impl Index {
         ensures { IfOk result (λ gathered. Gathers start (filter (spec.is_match wanted.now) self.now.names)
             gathered.matches gathered.names.items) }
     {
-        let word = &wanted[self.postings.rarest(wanted)];
-        let keys = self.postings.get(word.as_str());
-        gather_under(self.alloc, start, wanted, self.rows.as_slice(), keys)
+        let word = wanted[self.postings.rarest(wanted)].as_str();
+        let first = self.postings.first_keys(word);
+        let later = self.postings.later_keys(word);
+        gather_under(
+            self.alloc,
+            start,
+            wanted,
+            self.rows.as_slice(),
+            first,
+            later,
+        )
     }
 
     /// The number of its rows.

@@ -8,8 +8,10 @@ mod index;
 mod key;
 mod merging;
 mod named_row;
+mod opening;
 mod places;
 mod postings;
+mod rising;
 mod words;
 
 pub use faults::{FindFault, TakeFault};

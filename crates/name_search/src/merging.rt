@@ -30,24 +30,6 @@ pub fn number_of(head: &Option<Head>) -> Option<u32>
     }
 }
 
-/// The keys and names of rows of `lei`. Each is a step.
-pub fn named_rows<L: Ledger>(
-    alloc: Global,
-    rows: &[Row],
-    steps: &mut Steps<L>,
-) -> Result<Vec<NamedRow>, NoMemory>
-    requires { All (IsRowOf DeclaredSheet.Lei) rows.now }
-    ensures names { IfOk result (λ made. made.items ≡ map named rows.now) }
-    ensures steps { steps.new ≤ steps.old + length rows.now }
-    ensures steps_stay { steps.old ≤ steps.new }
-{
-    let mut made = Vec::with_capacity(alloc, rows.len())?;
-    for row in rows {
-        made.push(NamedRow::of(alloc, row, steps)?)?;
-    }
-    Ok(made)
-}
-
 /// The keys and names of the rows that changes of `lei` put. Each is a step.
 pub fn named_puts<L: Ledger>(
     alloc: Global,
@@ -70,13 +52,14 @@ pub fn named_puts<L: Ledger>(
 }
 
 /// Puts the rows after the changes into a vector that has room for them: those of a copy, and those that the changes
-/// put, which were made before. Those that go stand in another vector then. It takes no memory.
+/// put, which were made before. Those that go stand in another vector then, each with the place at which a row that was
+/// put instead of it stands. It takes no memory.
 pub fn merge(
     out: &mut Vec<NamedRow>,
     rows: Vec<NamedRow>,
     puts: Vec<NamedRow>,
     changes: &[Change],
-    gone: &mut Vec<NamedRow>,
+    gone: &mut Vec<(usize, NamedRow)>,
 )
     requires empty { out.old.items ≡ [] }
     requires room { length rows.items + length puts.items ≤ vec_capacity out.old }
@@ -95,7 +78,7 @@ pub fn merge(
         if stays {
             out.push_reserved(row);
         } else {
-            gone.push_reserved(row);
+            gone.push_reserved((out.len().saturating_sub(1), row));
         }
         next = left;
     }

@@ -1,16 +1,18 @@
 //! By word, the keys of the rows whose names have it.
-ghost use Rattle.std.specs.Prelude.{◌≡◌, ◌≤◌, ◌<◌, ◌&&◌, [], length, true, false, option_map, OnOk};
+ghost use Rattle.std.specs.Prelude.{◌≡◌, ◌≤◌, ◌<◌, [], length, true, IfOk, option_map, OnOk};
 ghost use Rattle.std.specs.BTreeMap.{get_by_text};
 ghost use Rattle.std.specs.List.{list_all};
-ghost use Rattle.std.specs.Str.{bytes_eq};
+ghost use Rattle.std.specs.List.Sorted.{IsStrictlySortedBy};
 ghost use Rattle.lei_code.specs.Texts.{Text as Bytes};
 ghost use Rattle.std.specs.FinMap.Entries.{is_sorted};
 ghost use Rattle.name_search.specs.Walks as spec;
-ghost use Rattle.name_search.specs.Walks.{Stays, StaysFor, TakesOne, is_key, is_noted, keys_in, keys_under, text_cmp};
+ghost use Rattle.name_search.specs.Keys.{is_key, text_cmp};
+ghost use Rattle.name_search.specs.Walks.{FirstStays, LaterStays, Stays, StaysFor, TakesFrom, is_noted, keys_in, keys_under, rising_in};
 
 use crate::key::Key;
 use crate::named_row::NamedRow;
-use crate::places::row_at;
+use crate::places::row_near;
+use crate::rising::RisingKeys;
 use lei_outside::{NoMemory, Text};
 use std::alloc::Global;
 use std::collections::{BTreeMap, BTreeSet};
@@ -19,10 +21,13 @@ use std::collections::{BTreeMap, BTreeSet};
 pub type Keys = BTreeSet<Key>;
 
 /// By word, the keys of the rows whose names have it, and maybe keys of others: those of rows that have gone may stay.
+/// The keys of a copy's rows come in rising order, and stand in lists, which then stay as they are. Those that come
+/// later, with deltas, stand in sets.
 #[derive(Drop)]
 pub struct Postings {
     pub alloc: Global,
-    pub map: BTreeMap<String, Keys>,
+    pub first: BTreeMap<String, RisingKeys>,
+    pub later: BTreeMap<String, Keys>,
 }
 
 impl Postings {
@@ -32,15 +37,27 @@ impl Postings {
     {
         Postings {
             alloc,
-            map: BTreeMap::new(alloc),
+            first: BTreeMap::new(alloc),
+            later: BTreeMap::new(alloc),
         }
     }
 
-    /// The keys under a word, if there are any.
-    pub fn get(&self, word: &str) -> Option<&Keys>
-        ensures { keys_in (option_map (λ keys. keys.now) result) ≡ keys_under self.now word.now }
+    /// The list of a word's keys.
+    pub fn first_keys(&self, word: &str) -> &[Key]
+        ensures value { result.now ≡ rising_in (get_by_text self.now.first word.now) }
+        ensures rising { IsStrictlySortedBy text_cmp result.now }
     {
-        self.map.get(word)
+        match self.first.get(word) {
+            Some(keys) => keys.as_slice(),
+            None => &[],
+        }
+    }
+
+    /// The set of a word's keys, if there is one.
+    pub fn later_keys(&self, word: &str) -> Option<&Keys>
+        ensures { keys_in (option_map (λ keys. keys.now) result) ≡ keys_in (get_by_text self.now.later word.now) }
+    {
+        self.later.get(word)
     }
 
     /// The place of a word under which no more keys stand than under the others.
@@ -61,94 +78,162 @@ impl Postings {
     }
 
     // How many keys stand under a word.
-    fn count(&self, word: &str) -> usize
-        ensures { result ≡ length (keys_under self.now word.now) }
-    {
-        match self.get(word) {
-            Some(keys) => keys.len(),
-            None => 0,
+    fn count(&self, word: &str) -> usize {
+        let first = self.first_keys(word).len();
+        match self.later_keys(word) {
+            Some(later) => first.saturating_add(later.len()),
+            None => first,
         }
     }
 
-    /// Notes the key of a row under each word of its name.
-    pub fn note(&mut self, row: &NamedRow) -> Result<(), NoMemory>
+    /// Notes the key of a row under each word of its name. When an index is opened, keys rise and go to lists.
+    pub fn note(&mut self, row: &NamedRow, opening: bool) -> Result<(), NoMemory>
         ensures stays { Stays self.old self.new }
         ensures noted { OnOk result (is_noted self.new row.now ≡ true) }
     {
         for word in row.words() {
-            self.note_word(word.as_str(), row.key())?;
+            self.note_word(word.as_str(), row.key(), opening)?;
         }
         Ok(())
     }
 
-    /// Notes the keys of rows.
+    /// Notes the keys of rows that come later.
     pub fn note_all(&mut self, rows: &[NamedRow]) -> Result<(), NoMemory>
         ensures stays { Stays self.old self.new }
         ensures noted { OnOk result (list_all (is_noted self.new) rows.now ≡ true) }
     {
         for row in rows {
-            self.note(row)?;
+            self.note(row, false)?;
         }
         Ok(())
     }
 
     // Notes a key under a word.
-    fn note_word(&mut self, word: &str, key: &Key) -> Result<(), NoMemory>
+    fn note_word(&mut self, word: &str, key: &Key, opening: bool) -> Result<(), NoMemory>
         ensures stays { Stays self.old self.new }
         ensures noted { OnOk result (is_key key.now (keys_under self.new word.now) ≡ true) }
     {
-        match self.map.get_mut(word) {
-            Some(keys) => note_key(keys, key),
-            None => self.note_first(word, key),
+        if opening {
+            return self.note_first(word, key);
         }
+        note_later(self.alloc, &mut self.later, word, key)
     }
 
-    // Notes the first key of a word.
+    // The same when an index is opened: the key goes to the word's list, or to its set if it comes before another one.
     fn note_first(&mut self, word: &str, key: &Key) -> Result<(), NoMemory>
-        requires { get_by_text self.old.map word.now ≡ None }
         ensures stays { Stays self.old self.new }
         ensures noted { OnOk result (is_key key.now (keys_under self.new word.now) ≡ true) }
     {
-        let mut keys = BTreeSet::new(self.alloc);
-        note_key(&mut keys, key)?;
-        let word = String::from_str(self.alloc, word)?;
-        self.map.insert(word, keys)?;
-        Ok(())
+        if push_first(self.alloc, &mut self.first, word, key)? {
+            return Ok(());
+        }
+        note_later(self.alloc, &mut self.later, word, key)
     }
 
     /// Takes the keys of rows that have gone from under their words, unless the row that has the key now has the word.
-    pub fn forget_all(&mut self, gone: &[NamedRow], rows: &[NamedRow])
+    /// With each stands the place at which that row may stand.
+    pub fn forget_all(&mut self, gone: &[(usize, NamedRow)], rows: &[NamedRow])
         requires { is_sorted text_cmp rows.now ≡ true }
         ensures { StaysFor rows.now self.old self.new }
     {
         for row in gone {
-            self.forget(row, rows);
+            self.forget(&row.1, row.0, rows);
         }
     }
 
     // The same of one row.
-    fn forget(&mut self, gone: &NamedRow, rows: &[NamedRow])
+    fn forget(&mut self, gone: &NamedRow, place: usize, rows: &[NamedRow])
         requires { is_sorted text_cmp rows.now ≡ true }
         ensures { StaysFor rows.now self.old self.new }
     {
         let key = gone.key();
-        let row = row_at(rows, key.as_str());
+        let row = row_near(rows, key.as_str(), place);
         for each in gone.words() {
             let word = each.as_str();
             if has_word(row, word) {
                 continue;
             }
-            self.forget_word(word, key);
+            forget_word(&mut self.later, word, key);
         }
     }
+}
 
-    // Takes a key from under a word.
-    fn forget_word(&mut self, word: &str, key: &Key)
-        ensures { TakesOne word.now key.now self.old self.new }
-    {
-        if let Some(keys) = self.map.get_mut(word) {
-            keys.remove(key);
-        }
+// Puts a key at the end of a word's list, if it comes after the last. Answers whether it stands in the list then.
+fn push_first(
+    alloc: Global,
+    first: &mut BTreeMap<String, RisingKeys>,
+    word: &str,
+    key: &Key,
+) -> Result<bool, NoMemory>
+    ensures stays { FirstStays first.old first.new }
+    ensures noted { IfOk result
+        (λ is. is ≡ true → is_key key.now (rising_in (get_by_text first.new word.now)) ≡ true) }
+{
+    match first.get_mut(word) {
+        Some(keys) => keys.push(key),
+        None => push_alone(alloc, first, word, key),
+    }
+}
+
+// The same for the first key of a word.
+fn push_alone(
+    alloc: Global,
+    first: &mut BTreeMap<String, RisingKeys>,
+    word: &str,
+    key: &Key,
+) -> Result<bool, NoMemory>
+    requires { get_by_text first.old word.now ≡ None }
+    ensures stays { FirstStays first.old first.new }
+    ensures noted { IfOk result
+        (λ is. is ≡ true → is_key key.now (rising_in (get_by_text first.new word.now)) ≡ true) }
+{
+    let mut keys = RisingKeys::new(alloc);
+    let is_there = keys.push(key)?;
+    let word = String::from_str(alloc, word)?;
+    first.insert(word, keys)?;
+    Ok(is_there)
+}
+
+// Puts a key into a word's set.
+fn note_later(
+    alloc: Global,
+    later: &mut BTreeMap<String, Keys>,
+    word: &str,
+    key: &Key,
+) -> Result<(), NoMemory>
+    ensures stays { LaterStays later.old later.new }
+    ensures noted { OnOk result (is_key key.now (keys_in (get_by_text later.new word.now)) ≡ true) }
+{
+    match later.get_mut(word) {
+        Some(keys) => note_key(keys, key),
+        None => note_alone(alloc, later, word, key),
+    }
+}
+
+// The same for the first key of a word.
+fn note_alone(
+    alloc: Global,
+    later: &mut BTreeMap<String, Keys>,
+    word: &str,
+    key: &Key,
+) -> Result<(), NoMemory>
+    requires { get_by_text later.old word.now ≡ None }
+    ensures stays { LaterStays later.old later.new }
+    ensures noted { OnOk result (is_key key.now (keys_in (get_by_text later.new word.now)) ≡ true) }
+{
+    let mut keys = BTreeSet::new(alloc);
+    note_key(&mut keys, key)?;
+    let word = String::from_str(alloc, word)?;
+    later.insert(word, keys)?;
+    Ok(())
+}
+
+// Takes a key from a word's set.
+fn forget_word(later: &mut BTreeMap<String, Keys>, word: &str, key: &Key)
+    ensures { TakesFrom word.now key.now later.old later.new }
+{
+    if let Some(keys) = later.get_mut(word) {
+        keys.remove(key);
     }
 }
 
@@ -162,8 +247,8 @@ fn has_word(row: Option<&NamedRow>, word: &str) -> bool
     }
 }
 
-// Puts a key among others.
-fn note_key(keys: &mut Keys, key: &Key) -> Result<(), NoMemory>
+/// Puts a key among others.
+pub fn note_key(keys: &mut Keys, key: &Key) -> Result<(), NoMemory>
     ensures stay { (k : Bytes) → is_key k keys.old.keys ≡ true → is_key k keys.new.keys ≡ true }
     ensures noted { OnOk result (is_key key.now keys.new.keys ≡ true) }
 {

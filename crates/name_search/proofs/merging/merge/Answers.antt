@@ -23,7 +23,7 @@ loop-next-preserved c = record {
       c.put_before-left.ensures.passes c.if-stays.false;
   within = c.put_before-left.ensures.place;
   puts = c.put_before-left.ensures.puts;
-  gone = omega (arith, ap length c.push_reserved-else-stays.ensures.items, length_push c.loop-next.gone.items c.in-Some.row, c.put_before-left.ensures.leaves c.if-stays.false);
+  gone = omega (arith, ap length c.push_reserved-else-stays.ensures.items, length_push c.loop-next.gone.items (c.saturating_sub.result, c.in-Some.row), c.put_before-left.ensures.leaves c.if-stays.false);
   room_for_gone = omega (arith, c.push_reserved-else-stays.ensures.capacity);
   room = omega (arith, ap length c.in-Some.ensures.items);
 }

@@ -1,5 +1,5 @@
 use Rattle.std.proofs.Common.{◌≡◌, Bool, true, false, cond, refl, ◌∙◌}
-use Rattle.name_search.specs.Walks.{is_key}
+use Rattle.name_search.specs.Keys.{is_key}
 use Rattle.name_search.proofs.postings.note_key.Goals as goal
 
 had : (b t : Bool) → t ≡ true → cond b true t ≡ true

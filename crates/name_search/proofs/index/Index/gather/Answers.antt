@@ -1,6 +1,9 @@
-use Rattle.std.proofs.Common.{ap, ◌∙◌}
+use Rattle.std.proofs.Common.{◌++◌, ap, ◌∙◌}
+use Rattle.std.specs.BTreeMap.{get_by_text}
+use Rattle.std.specs.Option.{option_map}
 use Rattle.std.specs.FinMap.Entries.{is_sorted}
-use Rattle.name_search.specs.Walks.{text_cmp}
+use Rattle.name_search.specs.Keys.{text_cmp}
+use Rattle.name_search.specs.Walks.{keys_in, rising_in}
 use Rattle.name_search.proofs.NotedLemmas.{covers_at, indexed-sorted}
 use Rattle.name_search.proofs.index.Index.gather.Goals as goal
 
@@ -10,5 +13,8 @@ gather_under-requires-clause-sorted c =
 
 pub gather_under-requires-clause-covers : goal.gather_under-requires-clause-covers
 gather_under-requires-clause-covers c =
-    covers_at c.self.inside.postings c.self.inside.rows.items c.as_slice.result.now c.args.wanted.now c.rarest.result c.index-wanted-rarest.result c.as_str.result.now _
-    c.self.invariant.noted c.rarest.ensures c.index-wanted-rarest.is c.as_slice.ensures.value c.get-keys.ensures c.as_str.ensures
+    covers_at c.self.inside.postings c.self.inside.rows.items c.as_slice.result.now c.args.wanted.now c.rarest.result c.index-wanted-rarest.result c.as_str-word.result.now _
+    c.self.invariant.noted c.rarest.ensures c.index-wanted-rarest.is c.as_slice.ensures.value
+    (ap (λ l. l ++ keys_in (option_map (λ keys. keys.now) c.later_keys-later.result)) c.first_keys-first.ensures.value
+    ∙ ap (λ l. rising_in (get_by_text c.self.inside.postings.first c.as_str-word.result.now) ++ l) c.later_keys-later.ensures)
+    c.as_str-word.ensures

@@ -1,7 +1,8 @@
 use Rattle.std.proofs.Common.{ap, subst, ◌∙◌}
 use Rattle.std.specs.FinMap.Entries.{is_sorted}
 use Rattle.name_search.specs.NameTables.{NameTable}
-use Rattle.name_search.specs.Walks.{StaysFor, text_cmp}
+use Rattle.name_search.specs.Keys.{text_cmp}
+use Rattle.name_search.specs.Walks.{StaysFor}
 use Rattle.name_search.proofs.NotedLemmas.{indexed-after, indexed-forgot, indexed-more, indexed-sorted}
 use Rattle.name_search.proofs.Walked.{table_after}
 use Rattle.name_search.proofs.index.Index.take.Goals as goal

@@ -1,0 +1,37 @@
+//! The rows of a copy, made and noted.
+ghost use Rattle.std.specs.Prelude.{◌≡◌, ◌+◌, ◌≤◌, true, length, map, IfOk};
+ghost use Rattle.std.specs.List.{All, list_all};
+ghost use Rattle.register_words.specs.declared.sheets.Sheet.{Sheet as DeclaredSheet};
+ghost use Rattle.copy_csv.specs.Rows.{IsRowOf};
+ghost use Rattle.name_search.specs.NameTables.{named};
+ghost use Rattle.name_search.specs.Walks.{is_noted};
+
+use crate::named_row::NamedRow;
+use crate::postings::Postings;
+use copy_csv::Row;
+use lei_outside::NoMemory;
+use std::alloc::Global;
+use std::sync::ledger::Ledger;
+use worker_pool::Steps;
+
+/// The keys and names of the rows of a copy of `lei`, each noted as soon as it is made. Each is a step.
+pub fn noted_rows<L: Ledger>(
+    alloc: Global,
+    rows: &[Row],
+    postings: &mut Postings,
+    steps: &mut Steps<L>,
+) -> Result<Vec<NamedRow>, NoMemory>
+    requires { All (IsRowOf DeclaredSheet.Lei) rows.now }
+    ensures names { IfOk result (λ made. made.items ≡ map named rows.now) }
+    ensures noted { IfOk result (λ made. list_all (is_noted postings.new) made.items ≡ true) }
+    ensures steps { steps.new ≤ steps.old + length rows.now }
+    ensures steps_stay { steps.old ≤ steps.new }
+{
+    let mut made = Vec::with_capacity(alloc, rows.len())?;
+    for row in rows {
+        let named = NamedRow::of(alloc, row, steps)?;
+        postings.note(&named, true)?;
+        made.push(named)?;
+    }
+    Ok(made)
+}

@@ -1,0 +1,78 @@
+//! Keys that came in rising order.
+ghost use Rattle.std.specs.Prelude.{◌≡◌, ◌++◌, ◌∷◌, [], true, IfOk};
+ghost use Rattle.std.specs.Cmp.Lexicographic.{slice_cmp};
+ghost use Rattle.std.specs.List.Sorted.{IsStrictlySortedBy};
+ghost use Rattle.std.specs.Ordering.{nat_cmp};
+ghost use Rattle.std.specs.declared.cmp.Ordering.{Ordering as Order};
+ghost use Rattle.lei_code.specs.Texts.{Text as Bytes};
+ghost use Rattle.name_search.specs.Keys.{is_key};
+
+use crate::key::Key;
+use lei_outside::NoMemory;
+use std::alloc::Global;
+use std::cmp::Ordering;
+use std::marker::Model;
+
+/// Keys in rising order, each once. Contracts see the list of them.
+#[derive(Drop)]
+pub struct RisingKeys {
+    keys: Vec<Key>,
+}
+
+impl Model for RisingKeys {
+    ghost use Rattle.std.specs.Prelude.{ℕ, List};
+    ghost use Rattle.std.specs.Cmp.Lexicographic.{slice_cmp};
+    ghost use Rattle.std.specs.List.Sorted.{IsStrictlySortedBy};
+    ghost use Rattle.std.specs.Ordering.{nat_cmp};
+
+    ghost Value = { List (List ℕ) };
+
+    ghost view = { λ rising. rising.keys.items };
+
+    ghost invariant = { λ rising. IsStrictlySortedBy (slice_cmp nat_cmp) rising.keys.items };
+}
+
+impl RisingKeys {
+    /// No keys.
+    pub fn new(alloc: Global) -> Self
+        ensures { result ≡ [] }
+    {
+        RisingKeys {
+            keys: Vec::new(alloc),
+        }
+    }
+
+    /// The keys, lent.
+    pub fn as_slice(&self) -> &[Key]
+        ensures value { result.now ≡ self.now }
+        ensures rising { IsStrictlySortedBy (slice_cmp nat_cmp) self.now }
+    {
+        self.keys.as_slice()
+    }
+
+    /// Puts a key after the others if it comes after the last. Answers whether it is there then.
+    pub fn push(&mut self, key: &Key) -> Result<bool, NoMemory>
+        ensures stay { (k : Bytes) → is_key k self.old ≡ true → is_key k self.new ≡ true }
+        ensures is_there { IfOk result (λ is. is ≡ true → is_key key.now self.new ≡ true) }
+    {
+        match order(self.keys.as_slice(), key) {
+            Ordering::Less => return Ok(false),
+            Ordering::Equal => return Ok(true),
+            Ordering::Greater => {}
+        }
+        self.keys.push(key.share()?)?;
+        Ok(true)
+    }
+}
+
+// How a key compares to the last of keys that rise. If there is none, it comes after them.
+fn order(keys: &[Key], key: &Key) -> Ordering
+    requires { IsStrictlySortedBy (slice_cmp nat_cmp) keys.now }
+    ensures equal { result ≡ Order.Equal → is_key key.now keys.now ≡ true }
+    ensures greater { result ≡ Order.Greater → IsStrictlySortedBy (slice_cmp nat_cmp) (keys.now ++ key.now ∷ []) }
+{
+    match keys.last() {
+        Some(last) => key.cmp(last),
+        None => Ordering::Greater,
+    }
+}
