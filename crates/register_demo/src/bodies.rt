@@ -183,6 +183,7 @@ pub fn block_body(alloc: Global, group: Group, n: u32, block: u32) -> Result<Sha
     let (first, last) = (first_item(group, block), last_item(n, block));
     put_items(&mut out, group, manager(block), first, last)?;
     put_all(&mut out, &["]}"])?;
+    out.shrink_to_fit();
     let body = Shared::of(alloc, out)?;
     Ok(body)
 }

@@ -1,5 +1,6 @@
 // The cells of a table, in an ordered map.
-ghost use Rattle.std.specs.Prelude.{◌≡◌, true, Some, None, IfOk, OnOk, OnErr, IfSome, is_some, map, option_map};
+ghost use Rattle.std.specs.Prelude.{◌≡◌, ◌++◌, ◌∷◌, [], true, Some, None, IfOk, OnOk, OnErr, IfSome, is_some, map, option_map};
+ghost use Rattle.std.specs.List.{filter};
 ghost use Rattle.std.specs.FinMap.{empty, entries, get, insert, remove};
 ghost use Rattle.register_table.specs.Cells.{AreOwnCells, AreOwnItems, IsOwnCell, cell_in, held_in, unlent};
 ghost use Rattle.register_table.specs.Counts.{AreCounts};
@@ -18,6 +19,9 @@ use lei_records::{Item, RowKey};
 use std::alloc::Global;
 use std::collections::BTreeMap;
 use std::marker::Model;
+
+// A cell takes about as long to be looked up, and put into an order, as so many cells that are passed in order.
+const LOOK_UP: usize = 8;
 
 // Slots that are lent, under their keys.
 type LentSlots<'a> = BTreeMap<TextKey, &'a Slot>;
@@ -88,6 +92,10 @@ impl CellMap {
         ensures told { IfOk result (λ list. map shown list.items ≡ touched after upto self.now) }
         ensures own { IfOk result (λ list. AreOwnItems list.items) }
     {
+        if self.map.len() / LOOK_UP <= stamps.len() {
+            let room = stamps.len().min(self.map.len());
+            return touched_among(alloc, &self.map, room, after, upto);
+        }
         let slots = self.stamped(alloc, stamps, after, upto)?;
         touched_in(alloc, &slots)
     }
@@ -186,4 +194,47 @@ fn touched_in(alloc: Global, slots: &LentSlots<'_>) -> Result<Vec<Touched>, NoMe
         list.push(touched_of(&key.key, slot)?)?;
     }
     Ok(list)
+}
+
+// The cells whose numbers are greater than `after` and at most `upto`, found by going over all. Room is taken for so
+// many of them at once.
+fn touched_among(
+    alloc: Global,
+    cells: &BTreeMap<TextKey, Slot>,
+    room: usize,
+    after: u64,
+    upto: u64,
+) -> Result<Vec<Touched>, NoMemory>
+    requires { AreOwnCells cells.now.entries }
+    ensures told { IfOk result
+        (λ list. map shown list.items ≡ touched after upto (held_in cells.now.entries)) }
+    ensures own { IfOk result (λ list. AreOwnItems list.items) }
+{
+    // A step of the proof: the keys are in order.
+    let _cells = cells.len();
+    let mut list = Vec::with_capacity(alloc, room)?;
+    for (key, slot) in cells {
+        push_within(&mut list, &key.key, slot, after, upto)?;
+    }
+    Ok(list)
+}
+
+// Puts a slot under its key behind the others, if its number is greater than `after` and at most `upto`.
+fn push_within(
+    list: &mut Vec<Touched>,
+    key: &RowKey,
+    slot: &Slot,
+    after: u64,
+    upto: u64,
+) -> Result<(), NoMemory>
+    requires own { IsOwnCell key.now slot.now }
+    requires all_own { AreOwnItems list.old.items }
+    ensures told { OnOk result (map shown list.new.items ≡ map shown list.old.items
+        ++ filter (λ cell. is_touched after upto cell.1) ((cell_key key.now, cell_in slot.now) ∷ [])) }
+    ensures own { OnOk result (AreOwnItems list.new.items) }
+{
+    if is_within(slot, after, upto) {
+        list.push(touched_of(key, slot)?)?;
+    }
+    Ok(())
 }

@@ -3,12 +3,14 @@ ghost use Rattle.std.specs.Prelude.{◌≡◌, Some, refl};
 ghost use Rattle.std.specs.Cmp;
 ghost use Rattle.std.specs.Cmp.{eq_by_cmp_equiv, on_total, partial_order_from_agreeing_total};
 ghost use Rattle.std.specs.Cmp.Rules.{comparing};
-ghost use Rattle.std.specs.Ordering.{eq_by_cmp};
+ghost use Rattle.std.specs.Cmp.Lexicographic.{slice_cmp};
+ghost use Rattle.std.specs.Ordering.{eq_by_cmp, nat_cmp, ordering_then};
 ghost use Rattle.std.proofs.Common.{rules};
 ghost use Rattle.lei_records.specs.Tables.{key_cmp};
 ghost use Rattle.authority_rules.proofs.HolderLemmas.{keys_total};
 ghost use Rattle.register_table.specs.Held.{cell_key};
 
+use lei_code::Lei;
 use lei_records::RowKey;
 use std::cmp::Ordering;
 
@@ -65,14 +67,27 @@ fn compare(a: &RowKey, b: &RowKey) -> Ordering
         (RowKey::Rec(a), RowKey::Rec(b)) => a.cmp(b),
         (RowKey::Rec(_), _) => Ordering::Less,
         (_, RowKey::Rec(_)) => Ordering::Greater,
-        (RowKey::Rel(a, kind, end), RowKey::Rel(b, other, last)) => a
-            .cmp(b)
-            .then(kind.text().cmp(other.text()))
-            .then(end.cmp(last)),
+        (RowKey::Rel(a, kind, end), RowKey::Rel(b, other, last)) => {
+            match compare_starts(a, kind.text(), b, other.text()) {
+                Ordering::Equal => end.cmp(last),
+                unequal => unequal,
+            }
+        }
         (RowKey::Rel(_, _, _), RowKey::Exc(_, _)) => Ordering::Less,
         (RowKey::Exc(_, _), RowKey::Rel(_, _, _)) => Ordering::Greater,
         (RowKey::Exc(a, category), RowKey::Exc(b, other)) => {
-            a.cmp(b).then(category.text().cmp(other.text()))
+            compare_starts(a, category.text(), b, other.text())
         }
+    }
+}
+
+// The order of two LEIs, each with a text behind it. The texts are compared only if the LEIs are the same.
+fn compare_starts(lei: &Lei, text: &str, other: &Lei, other_text: &str) -> Ordering
+    ensures { result ≡ ordering_then (slice_cmp nat_cmp lei.now other.now)
+        (slice_cmp nat_cmp text.now other_text.now) }
+{
+    match lei.cmp(other) {
+        Ordering::Equal => text.cmp(other_text),
+        unequal => unequal,
     }
 }

@@ -1,3 +1,4 @@
+//! The table: the cells that are held, and the writes that change them.
 ghost use Rattle.std.specs.Prelude.{◌≡◌, ◌↔◌, ℕ, ◌+◌, [], Some, None, IsTrue, IfOk, IfSome, OnOk, OnErr, IsSome, map, option_map, take};
 ghost use Rattle.std.specs.FinMap.{empty, len};
 ghost use Rattle.cell_reads.specs.Reads.{Agrees};
