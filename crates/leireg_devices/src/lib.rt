@@ -9,5 +9,5 @@ mod watched;
 
 pub use clock::SystemClock;
 pub use files::FileSource;
-pub use streams::{StdSink, StdSource};
+pub use streams::StdSink;
 pub use watched::Watched;

@@ -1,62 +1,12 @@
-//! The standard input and output, or any other reader and writer of std, as a source and a sink.
+//! Any writer of std, such as the standard output, as a sink, and single reads of a reader.
 ghost use Rattle.std.specs.Io.KnownBytes.{ReadConsumes, WriteAppends};
-ghost use Rattle.std.specs.Prelude.{◌≡◌, ◌≤◌, ◌<◌, None, length, IfOk, OnErr, IsErrOf, MatchResult};
+ghost use Rattle.std.specs.Prelude.{◌≡◌, ◌≤◌, ◌<◌, None, length, IfOk, IsErrOf, MatchResult};
 ghost use Rattle.lei_outside.specs.Count.{Rose, counted};
-ghost use Rattle.lei_outside.specs.Told.{Reads, Writes};
+ghost use Rattle.lei_outside.specs.Told.{Writes};
 
-use lei_outside::{Failed, Sink, SinkFault, Source};
+use lei_outside::{Failed, Sink, SinkFault};
 use std::io::{ErrorKind, Read, Write};
 use std::marker::Model;
-
-/// A source over a reader. It tells nothing of its own bytes. Contracts see it as the reader and the number of its
-/// reads that failed, which stops at its greatest value.
-#[derive(Drop)]
-pub struct StdSource<R> {
-    reader: R,
-    faults: u64,
-}
-
-impl<R> Model for StdSource<R> {
-    ghost use Rattle.std.specs.Prelude.{ℕ};
-
-    ghost Value = { R × ℕ };
-
-    ghost view = { λ source. (source.reader, source.faults) };
-}
-
-impl<R> StdSource<R> {
-    /// A source over this reader. None of its reads has failed.
-    pub fn new(reader: R) -> Self
-        ensures { result ≡ (reader, 0) }
-    {
-        StdSource { reader, faults: 0 }
-    }
-}
-
-impl<R: Read> Source for StdSource<R> {
-    ghost left = { λ _. None };
-
-    ghost faults = { λ source. source.1 };
-
-    fn read(&mut self, buffer: &mut [u8]) -> Result<usize, Failed>
-        requires { 0 < length buffer.old }
-        ensures bytes { Reads None None result buffer.new }
-        ensures count { self.old.1 ≤ self.new.1 }
-        ensures failed { OnErr result (Rose self.old.1 self.new.1) }
-        ensures exact { MatchResult result
-            (λ _. self.new.1 ≡ self.old.1)
-            (λ _. self.new.1 ≡ counted self.old.1) }
-        ensures reader { ReadConsumes (R.remaining self.old.0) (R.remaining self.new.0) result buffer.new }
-    {
-        match read_once(&mut self.reader, buffer) {
-            Ok(count) => Ok(count),
-            Err(fault) => {
-                self.faults = self.faults.saturating_add(1);
-                Err(fault)
-            }
-        }
-    }
-}
 
 /// A sink over a writer. It tells nothing of its own bytes. Contracts see it as the writer and the number of its writes
 /// that failed, which stops at its greatest value. A write that takes nothing counts as failed.

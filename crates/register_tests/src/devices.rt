@@ -1,7 +1,7 @@
 //! The standard streams and the clock of the machine, and readers and writers that fail or are slow.
 use crate::fakes::{FailsAt, Slow};
 use lei_outside::{Clock, Failed, Sink, SinkFault, Source, write_all};
-use leireg_devices::{StdSink, StdSource, SystemClock};
+use leireg_devices::{FileSource, StdSink, SystemClock};
 use std::io::ErrorKind;
 use std::test::Fail;
 
@@ -13,7 +13,7 @@ const AHEAD: i64 = 7_258_118_400;
 
 #[test]
 fn reads_the_end_of_an_empty_standard_input(rt: HostRuntime) -> Result<(), Fail> {
-    let mut source = StdSource::new(rt.stdin());
+    let mut source = FileSource::new(Some(rt.stdin()));
     assert_eq!(rt; source.read(&mut [0; 8])?, 0);
     Ok(())
 }
@@ -28,7 +28,7 @@ fn writes_to_the_standard_output(rt: HostRuntime) -> Result<(), Fail> {
 #[test]
 fn says_that_a_read_failed_and_reads_on(rt: HostRuntime) -> Result<(), Fail> {
     let mut reader = FailsAt::new(b"ab".as_slice(), 1, ErrorKind::TimedOut);
-    let mut source = StdSource::new(&mut reader);
+    let mut source = FileSource::new(Some(&mut reader));
     let mut buffer = [0; 8];
     assert_eq!(rt; source.read(&mut buffer), Err(Failed));
     assert_eq!(rt; source.read(&mut buffer)?, 2);
@@ -49,7 +49,7 @@ fn says_that_a_write_failed_and_writes_on(rt: HostRuntime) -> Result<(), Fail> {
 #[test]
 fn goes_on_after_a_signal(rt: HostRuntime) -> Result<(), Fail> {
     let mut reader = FailsAt::new(b"ab".as_slice(), 1, ErrorKind::Interrupted);
-    let mut source = StdSource::new(&mut reader);
+    let mut source = FileSource::new(Some(&mut reader));
     assert_eq!(rt; source.read(&mut [0; 8])?, 2);
     let mut writer = FailsAt::new(Vec::new(rt.alloc()), 1, ErrorKind::Interrupted);
     let mut sink = StdSink::new(&mut writer);
