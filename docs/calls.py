@@ -89,7 +89,7 @@ LEFT = {
     "issuer_http.send_response": "sent left read_count",
     "issuer_http.serve_alone": "serves",
     "issuer_http.serve_with": "serves",
-    "register_demo.demo": "",
+    "register_demo.demo": "same",
     "line_reading.WriteBuffer::flush": "sent left read_count",
     "line_reading.put_all": "puts left read_count",
     "search_queries.serve_queries": "serves read_fault write_fault",

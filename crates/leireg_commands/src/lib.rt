@@ -4,7 +4,6 @@
 mod arguments;
 mod help;
 mod one_of;
-mod progress;
 mod running;
 mod telling;
 

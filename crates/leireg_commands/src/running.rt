@@ -4,9 +4,8 @@ ghost use Rattle.program_words.specs.Words.{to_answer_lines};
 ghost use Rattle.leireg_run.specs.Words.{Mean, invocation_in};
 
 use crate::one_of::OneOf;
-use crate::progress::Counted;
 use lei_outside::Keeper;
-use leireg_devices::{FileSource, StdSink, SystemClock};
+use leireg_devices::{FileSource, StdSink, SystemClock, WatchedSink};
 use leireg_run::run;
 use program_words::{Command, WantedRun};
 use std::fs::File;
@@ -28,9 +27,8 @@ pub fn run_command<R: Threads + Sync, K: Keeper>(
 {
     let mut input = FileSource::new(first_input(host, wanted));
     let mut second = FileSource::new(file_at(host, wanted.second));
-    let mut out = StdSink::new(host.stdout());
+    let mut out = WatchedSink::new(host, StdSink::new(host.stdout()));
     let mut clock = SystemClock::new(host);
-    let mut progress = Counted::new(host);
     run(
         rt,
         host.alloc(),
@@ -40,7 +38,6 @@ pub fn run_command<R: Threads + Sync, K: Keeper>(
         &mut out,
         keeper,
         &mut clock,
-        &mut progress,
     )
 }
 

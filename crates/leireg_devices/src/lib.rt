@@ -1,13 +1,15 @@
-//! The standard streams, files and the clock of the machine, as the devices of a run, and a keeper that reports the
-//! progress of its opening.
+//! The standard streams, files and the clock of the machine, as the devices of a run, and a keeper and a sink that report
+//! to a person how far a long task is.
 #![tactic(auto)]
 
 mod clock;
 mod files;
 mod streams;
 mod watched;
+mod watched_sink;
 
 pub use clock::SystemClock;
 pub use files::FileSource;
 pub use streams::StdSink;
 pub use watched::Watched;
+pub use watched_sink::WatchedSink;

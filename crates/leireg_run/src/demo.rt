@@ -6,17 +6,16 @@ ghost use Rattle.file_commands.specs.Status.{end_status};
 
 use file_commands::{Stop, tell_text};
 use lei_outside::Sink;
-use register_demo::{Progress, demo};
+use register_demo::demo;
 use std::alloc::Global;
 use std::thread::Threads;
 
-/// Makes up a register of so many records, and writes its summary.
-pub fn tell_demo<R: Threads + Sync, W: Sink, P: Progress>(
+/// Makes up a register of so many records, and writes its summary. Until then the output is asked to report how far it is.
+pub fn tell_demo<R: Threads + Sync, W: Sink>(
     rt: &R,
     alloc: Global,
     records: u32,
     out: &mut W,
-    progress: &mut P,
 ) -> Result<(), Stop>
     requires least { 2 ≤ records }
     requires most { records ≤ 100_000 }
@@ -24,6 +23,6 @@ pub fn tell_demo<R: Threads + Sync, W: Sink, P: Progress>(
     ensures kept { ¬ (IsErrOf result Stop.WriteFault) → W.faults out.new ≡ W.faults out.old }
     ensures failed { IsErrOf result Stop.WriteFault → FailsLast W.written W.faults out.old out.new }
 {
-    let summary = demo(rt, alloc, records, progress)?;
+    let summary = demo(rt, alloc, records, out)?;
     tell_text(summary.as_slice(), out)
 }

@@ -10,4 +10,3 @@ mod program;
 pub use file_commands::{MAX_FILE, MAX_INPUT, no_file, status_text};
 pub use laws::mirrors_show_copies_of_histories;
 pub use program::run;
-pub use register_demo::{Progress, Untold};

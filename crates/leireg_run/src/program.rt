@@ -24,16 +24,22 @@ use lei_office::{Damage, Limits, Office, OpenFault};
 use lei_outside::{Clock, Keeper, Sink, SinkFault, Source};
 use line_reading::LineFraming;
 use program_words::{Command, WordsFault};
-use register_demo::Progress;
 use register_words::ExitStatus;
 use request_loop::{Duplex, Intake, serve};
 use std::alloc::Global;
 use std::thread::Threads;
 
+// What a command runs on: what starts its threads, and where its memory comes from.
+#[derive(Drop)]
+struct Machine<'a, R> {
+    rt: &'a R,
+    alloc: Global,
+}
+
 /// Does what the words ask for, which are the program's words without its name. Says the status that it ends with, and
 /// gives the keeper back. Lines are answered from the office of what the keeper has. The clock is asked for one moment
 /// for each line that asks something, after the line was read.
-pub fn run<R: Threads + Sync, S: Source, T: Source, W: Sink, K: Keeper, C: Clock, P: Progress>(
+pub fn run<R: Threads + Sync, S: Source, T: Source, W: Sink, K: Keeper, C: Clock>(
     rt: &R,
     alloc: Global,
     words: &[String],
@@ -42,7 +48,6 @@ pub fn run<R: Threads + Sync, S: Source, T: Source, W: Sink, K: Keeper, C: Clock
     out: &mut W,
     keeper: K,
     clock: &mut C,
-    progress: &mut P,
 ) -> (u8, K)
     ensures usage { result.0 ≡ 1 → invocation_in (map string_bytes words.now) ≡ None }
     ensures refused { invocation_in (map string_bytes words.now) ≡ None → (result.0 ≡ 1) ⊎ (result.0 ≡ 6) }
@@ -86,24 +91,21 @@ pub fn run<R: Threads + Sync, S: Source, T: Source, W: Sink, K: Keeper, C: Clock
         Err(WordsFault::Usage) => return (ExitStatus::Usage.number(), keeper),
         Err(WordsFault::NoMemory) => return (ExitStatus::NoMemory.number(), keeper),
     };
-    match run_command(
-        rt, alloc, &command, input, second, out, keeper, clock, progress,
-    ) {
+    let machine = Machine { rt, alloc };
+    match run_command(&machine, &command, input, second, out, keeper, clock) {
         (Ok(()), keeper) => (ExitStatus::Ok.number(), keeper),
         (Err(stop), keeper) => (stop.status(), keeper),
     }
 }
 
-fn run_command<R: Threads + Sync, S: Source, T: Source, W: Sink, K: Keeper, C: Clock, P: Progress>(
-    rt: &R,
-    alloc: Global,
+fn run_command<R: Threads + Sync, S: Source, T: Source, W: Sink, K: Keeper, C: Clock>(
+    machine: &Machine<'_, R>,
     command: &Command<'_>,
     input: &mut S,
     second: &mut T,
     out: &mut W,
     keeper: K,
     clock: &mut C,
-    progress: &mut P,
 ) -> (Result<(), Stop>, K)
     requires range { IsInRange command.now }
     requires run { unless_serving (invocation_of command.now) ≡ Some (invocation_of command.now) }
@@ -132,6 +134,8 @@ fn run_command<R: Threads + Sync, S: Source, T: Source, W: Sink, K: Keeper, C: C
         (outside (S.left input.new) (C.given clock.new) (W.written out.new) (K.tables result.1) (K.faults result.1))
         (Ok (tt {0})) }
 {
+    let rt = machine.rt;
+    let alloc = machine.alloc;
     match command {
         Command::Lines => run_lines(rt, alloc, input, out, keeper, clock),
         Command::Serve => unreachable!(),
@@ -141,7 +145,7 @@ fn run_command<R: Threads + Sync, S: Source, T: Source, W: Sink, K: Keeper, C: C
         Command::Search(form) => (search(rt, alloc, *form, input, second, out), keeper),
         Command::Mirror => (mirror(rt, alloc, input, out), keeper),
         Command::Group(who, form) => (group(alloc, who, *form, input, second, out), keeper),
-        Command::Demo(records) => (tell_demo(rt, alloc, *records, out, progress), keeper),
+        Command::Demo(records) => (tell_demo(rt, alloc, *records, out), keeper),
     }
 }
 

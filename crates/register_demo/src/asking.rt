@@ -10,9 +10,8 @@ ghost use Rattle.register_demo.specs.Session.{is_told, text_of, texts_of};
 use crate::bodies::block_body;
 use crate::codes::issuer_of;
 use crate::plan::{Group, Uploads, block_count, request_count, upload_number};
-use crate::progress::Progress;
 use lei_office::{Call, Office, Refusal, Reply, Request};
-use lei_outside::{NoMemory, SureKeeper};
+use lei_outside::{NoMemory, Sink, SureKeeper};
 use lei_shapes::Moment;
 use std::alloc::Global;
 use std::thread::Threads;
@@ -114,14 +113,15 @@ fn send_block<R: Threads + Sync>(
     Ok(reply.status_code() == 200)
 }
 
-/// Sends the uploads of a group, and puts the texts of the answers after the others. Says how many were told.
-pub fn send_uploads<R: Threads + Sync, P: Progress>(
+/// Sends the uploads of a group, and puts the texts of the answers after the others. Says how many were told. After each
+/// upload the sink is asked to report how many of all requests were answered.
+pub fn send_uploads<R: Threads + Sync, W: Sink>(
     rt: &R,
     alloc: Global,
     office: &mut Office<SureKeeper>,
     uploads: Uploads,
     answers: &mut Vec<u8>,
-    progress: &mut P,
+    out: &mut W,
 ) -> Result<u32, NoMemory>
     requires least { 2 ≤ uploads.n }
     requires most { uploads.n ≤ 100_000 }
@@ -133,11 +133,12 @@ pub fn send_uploads<R: Threads + Sync, P: Progress>(
         (uploads_of uploads.group uploads.n))) }
     ensures office { OnOk result (office.new.office
         ≡ office_from office.old.office uploads.count (uploads_of uploads.group uploads.n)) }
+    ensures same { out.new ≡ out.old }
 {
     let mut told = 0;
     for block in 1..block_count(uploads.n) + 1 {
         told += u32::from(send_block(rt, alloc, office, uploads, block, answers)?);
-        progress.tell(uploads.count + block, request_count(uploads.n));
+        out.report_progress(uploads.count + block, request_count(uploads.n));
     }
     Ok(told)
 }

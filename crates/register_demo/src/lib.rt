@@ -6,12 +6,10 @@ mod bodies;
 mod codes;
 mod marks;
 mod plan;
-mod progress;
 mod session;
 mod summary;
 mod whole;
 
 pub use bodies::block_body;
 pub use plan::{Group, block_count, request_count, upload_number};
-pub use progress::{Progress, Untold};
 pub use whole::demo;

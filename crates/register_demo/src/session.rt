@@ -10,12 +10,11 @@ use crate::asking::{ask, send_uploads, text_of};
 use crate::codes::issuer_of;
 use crate::marks::rows_in;
 use crate::plan::{Group, Uploads, block_count};
-use crate::progress::Progress;
 use crate::summary::Told;
 use delta_apply::{ApplyFault, apply};
 use golden_shelf::Base;
 use lei_office::{Form, Office, Reply, Request, Sheet};
-use lei_outside::{Bytes, NoMemory, SureKeeper};
+use lei_outside::{Bytes, NoMemory, Sink, SureKeeper};
 use std::alloc::Global;
 use std::thread::Threads;
 
@@ -74,18 +73,19 @@ fn ask_for_deltas<R: Threads + Sync>(
 }
 
 // Has the records sent and published.
-fn make_records<R: Threads + Sync, P: Progress>(
+fn make_records<R: Threads + Sync, W: Sink>(
     rt: &R,
     alloc: Global,
     office: &mut Office<SureKeeper>,
     n: u32,
     answers: &mut Vec<u8>,
-    progress: &mut P,
+    out: &mut W,
 ) -> Result<(Reply, Reply), NoMemory>
     requires least { 2 ≤ n }
     requires most { n ≤ 100_000 }
-    ensures { IfOk result (λ told.
+    ensures makes { IfOk result (λ told.
         MakesRecords n office.old.office office.new.office answers.old.items answers.new.items told.0 told.1) }
+    ensures same { out.new ≡ out.old }
 {
     accredit(rt, office)?;
     let uploads = Uploads {
@@ -93,24 +93,25 @@ fn make_records<R: Threads + Sync, P: Progress>(
         n,
         count: 2,
     };
-    send_uploads(rt, alloc, office, uploads, answers, progress)?;
+    send_uploads(rt, alloc, office, uploads, answers, out)?;
     let told = publish_records(rt, office, block_count(n) + 2)?;
     Ok(told)
 }
 
 // Has the relationships sent and published.
-fn make_relationships<R: Threads + Sync, P: Progress>(
+fn make_relationships<R: Threads + Sync, W: Sink>(
     rt: &R,
     alloc: Global,
     office: &mut Office<SureKeeper>,
     n: u32,
     answers: &mut Vec<u8>,
-    progress: &mut P,
+    out: &mut W,
 ) -> Result<Reply, NoMemory>
     requires least { 2 ≤ n }
     requires most { n ≤ 100_000 }
-    ensures { IfOk result (λ published.
+    ensures makes { IfOk result (λ published.
         MakesRelationships n office.old.office office.new.office answers.old.items answers.new.items published) }
+    ensures same { out.new ≡ out.old }
 {
     let blocks = block_count(n);
     let uploads = Uploads {
@@ -118,23 +119,24 @@ fn make_relationships<R: Threads + Sync, P: Progress>(
         n,
         count: blocks + 5,
     };
-    send_uploads(rt, alloc, office, uploads, answers, progress)?;
+    send_uploads(rt, alloc, office, uploads, answers, out)?;
     let published = ask(rt, office, &Request::Publish(2), 2 * blocks + 5)?;
     Ok(published)
 }
 
 // Has the records sent once more, and asks for the deltas.
-fn repeat_records<R: Threads + Sync, P: Progress>(
+fn repeat_records<R: Threads + Sync, W: Sink>(
     rt: &R,
     alloc: Global,
     office: &mut Office<SureKeeper>,
     n: u32,
-    progress: &mut P,
+    out: &mut W,
 ) -> Result<(u32, (Reply, Reply)), NoMemory>
     requires least { 2 ≤ n }
     requires most { n ≤ 100_000 }
-    ensures { IfOk result (λ found. Repeats n office.old.office office.new.office found.0
+    ensures repeats { IfOk result (λ found. Repeats n office.old.office office.new.office found.0
         found.1.0 found.1.1) }
+    ensures same { out.new ≡ out.old }
 {
     let blocks = block_count(n);
     let uploads = Uploads {
@@ -143,7 +145,7 @@ fn repeat_records<R: Threads + Sync, P: Progress>(
         count: 2 * blocks + 6,
     };
     let mut answers = Vec::new(alloc);
-    let told = send_uploads(rt, alloc, office, uploads, &mut answers, progress)?;
+    let told = send_uploads(rt, alloc, office, uploads, &mut answers, out)?;
     let deltas = ask_for_deltas(rt, office, 3 * blocks + 6)?;
     Ok((told, deltas))
 }
@@ -168,21 +170,22 @@ fn made(reply: &Reply) -> u32
 }
 
 /// Has an office make a register of so many records, and says what is told of it.
-pub fn make<R: Threads + Sync, P: Progress>(
+pub fn make<R: Threads + Sync, W: Sink>(
     rt: &R,
     alloc: Global,
     office: &mut Office<SureKeeper>,
     n: u32,
-    progress: &mut P,
+    out: &mut W,
 ) -> Result<Told, NoMemory>
     requires least { 2 ≤ n }
     requires most { n ≤ 100_000 }
-    ensures { IfOk result (IsTold n office.old.office office.new.office) }
+    ensures told { IfOk result (IsTold n office.old.office office.new.office) }
+    ensures same { out.new ≡ out.old }
 {
     let mut answers = Vec::new(alloc);
-    let (first, copy) = make_records(rt, alloc, office, n, &mut answers, progress)?;
-    let second = make_relationships(rt, alloc, office, n, &mut answers, progress)?;
-    let (repeats, (lei_delta, rr_delta)) = repeat_records(rt, alloc, office, n, progress)?;
+    let (first, copy) = make_records(rt, alloc, office, n, &mut answers, out)?;
+    let second = make_relationships(rt, alloc, office, n, &mut answers, out)?;
+    let (repeats, (lei_delta, rr_delta)) = repeat_records(rt, alloc, office, n, out)?;
     let applied = patched_size(alloc, text_of(&copy), text_of(&rr_delta))?;
     Ok(Told {
         answers,

@@ -7,11 +7,10 @@ ghost use Rattle.register_history.specs.State.{opened};
 ghost use Rattle.register_demo.specs.Session.{IsSummary, told_text};
 ghost use Rattle.register_demo.specs.declared.summary.Told.{Told as Found};
 
-use crate::progress::Progress;
 use crate::session::make;
 use crate::summary::{Told, summary_of};
 use lei_office::{Limits, Office, OpenFault};
-use lei_outside::{Bytes, KeepFault, Keeper, NoMemory, SureKeeper};
+use lei_outside::{Bytes, KeepFault, Keeper, NoMemory, Sink, SureKeeper};
 use std::alloc::Global;
 use std::thread::Threads;
 
@@ -42,37 +41,39 @@ fn summary_with(
 }
 
 // Makes a register by an office that took nothing yet, and lets the office go.
-fn demo_by<R: Threads + Sync, P: Progress>(
+fn demo_by<R: Threads + Sync, W: Sink>(
     rt: &R,
     alloc: Global,
     mut office: Office<SureKeeper>,
     n: u32,
-    progress: &mut P,
+    out: &mut W,
 ) -> Result<Bytes, NoMemory>
     requires opened { office.office ≡ opened standard }
     requires least { 2 ≤ n }
     requires most { n ≤ 100_000 }
-    ensures { IfOk result (IsSummary n) }
+    ensures summary { IfOk result (IsSummary n) }
+    ensures same { out.new ≡ out.old }
 {
-    let told = make(rt, alloc, &mut office, n, progress);
+    let told = make(rt, alloc, &mut office, n, out);
     let text = summary_with(alloc, office.close(), told)?;
     Ok(text)
 }
 
 /// Makes a register of so many records, by an office of its own in memory, and says the summary, or that memory was
-/// wanting.
-pub fn demo<R: Threads + Sync, P: Progress>(
+/// wanting. Nothing is written to the sink, which is asked to report how far it is.
+pub fn demo<R: Threads + Sync, W: Sink>(
     rt: &R,
     alloc: Global,
     n: u32,
-    progress: &mut P,
+    out: &mut W,
 ) -> Result<Bytes, NoMemory>
     requires least { 2 ≤ n }
     requires most { n ≤ 100_000 }
-    ensures { IfOk result (IsSummary n) }
+    ensures summary { IfOk result (IsSummary n) }
+    ensures same { out.new ≡ out.old }
 {
     match Office::open(rt, alloc, SureKeeper::new(alloc), Limits::standard()) {
-        Ok(office) => demo_by(rt, alloc, office, n, progress),
+        Ok(office) => demo_by(rt, alloc, office, n, out),
         Err(OpenFault::NoMemory(_)) => Err(NoMemory),
         Err(OpenFault::KeeperFault(_)) => unreachable!(),
         Err(OpenFault::StoreDamaged(_, _)) => unreachable!(),

@@ -5,7 +5,7 @@ use lei_outside::{
     ByteSink, ByteSource, Bytes, Clock, Failed, NoMemory, Sink, Source, SureKeeper, SureSink,
     SureSource,
 };
-use leireg_run::{Untold, no_file, run};
+use leireg_run::{no_file, run};
 use register_words::ExitStatus;
 use std::alloc::Global;
 use std::test::Fail;
@@ -127,7 +127,6 @@ fn status_of<R: Threads + Sync, S: Source, W: Sink>(
         sink,
         SureKeeper::new(alloc),
         &mut clock,
-        &mut Untold,
     );
     (status, clock.calls)
 }

@@ -6,7 +6,7 @@ use keeper_sqlite::SqliteKeeper;
 use lei_outside::{
     Bytes, Keeper, List, ListClock, NoMemory, Sink, SureKeeper, SureSink, SureSource,
 };
-use leireg_run::{Untold, no_file, run};
+use leireg_run::{no_file, run};
 use register_words::ExitStatus;
 use std::alloc::{AllocError, Global};
 use std::test::Fail;
@@ -45,7 +45,6 @@ fn came<R: Threads + Sync, K: Keeper + Drop>(
         &mut sink,
         keeper,
         &mut clock,
-        &mut Untold,
     );
     Ok((status, Bytes::copy_of(alloc, sink.written())?, keeper))
 }

@@ -6,7 +6,7 @@ use lei_outside::{
     Bytes, Clock, KeepFault, Keeper, KeptCell, KeptEntry, List, MapKeeper, NoMemory, Shared,
     SureSink, SureSource, may_be_kept,
 };
-use leireg_run::{Untold, no_file, run};
+use leireg_run::{no_file, run};
 use std::alloc::{AllocError, Global};
 use std::test::Fail;
 use std::thread::Threads;
@@ -164,7 +164,6 @@ fn answers<R: Threads + Sync>(
         sink,
         keeper,
         &mut Still,
-        &mut Untold,
     );
     keeper
 }

@@ -2,7 +2,7 @@
 use crate::runs::words;
 use crate::stores::Still;
 use lei_outside::{Bytes, Keeper, NoMemory, Sink, SureSink, SureSource};
-use leireg_run::{Untold, no_file, run};
+use leireg_run::{no_file, run};
 use std::alloc::Global;
 use std::thread::Threads;
 
@@ -108,7 +108,6 @@ pub fn replies<R: Threads + Sync, K: Keeper + Drop>(
         &mut sink,
         keeper,
         &mut Still,
-        &mut Untold,
     );
     Ok((status, Bytes::copy_of(alloc, sink.written())?, keeper))
 }

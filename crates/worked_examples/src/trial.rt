@@ -4,7 +4,7 @@ ghost use Rattle.std.specs.Prelude.{◌≤◌};
 use crate::stores::{Store, keeper_of, path_of};
 use example_sessions::{Came, Run};
 use lei_outside::{Bytes, KeepFault, Keeper, ListClock, NoMemory, Sink, SureSink, SureSource};
-use leireg_run::{Untold, run};
+use leireg_run::run;
 use std::alloc::Global;
 use std::thread::Threads;
 
@@ -50,7 +50,6 @@ impl Devices {
             &mut self.sink,
             keeper,
             &mut self.clock,
-            &mut Untold,
         )
     }
 

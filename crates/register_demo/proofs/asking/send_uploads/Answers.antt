@@ -25,4 +25,5 @@ loop-block-preserved g c =
           c.send_block.new.answers.items c.loop-block.told (c.loop-block.told + c.from.result) kept.3
           (uploads-cut group n block (block_count n) (omega (arith, blocks, within))) (omega (arith, kept.0)) sent.office sent.answers
           (ap (λ k. c.loop-block.told + k) (one ∙ ap from_bool sent.told ∙ bool-is _)),
+      c.report_progress.ensures.same ∙ kept.4,
     )

@@ -4,8 +4,8 @@ use Rattle.register_demo.specs.Session.{IsPatchedSize, MakesRecords, text_of}
 use Rattle.register_demo.proofs.Making.{tells, two-made}
 use Rattle.register_demo.proofs.session.make.Goals as goal
 
-pub returns : goal.returns
-returns g c =
+pub returns-clause-told : goal.returns-clause-told
+returns-clause-told g c =
     let first = c.in_ok-first.first in
     let copy = c.in_ok-first.copy in
     let second = c.in_ok-second.second in
@@ -19,7 +19,7 @@ returns g c =
     let C : List ℕ → Type 0 = λ text. IsPatchedSize text c.text_of-2.result.now size in
     let D : List ℕ → Type 0 = λ text. IsPatchedSize (text_of copy) text size in
     tells c.args.n o1 o2 c.make_relationships.new.office.office c.repeat_records.new.office.office sent c.make_relationships.new.answers.items
-    first copy second lei rr c.in_ok-repeats.repeats _ (subst M c.new-answers.ensures.items c.in_ok-first.ensures) c.in_ok-second.ensures
-    c.in_ok-repeats.ensures refl refl (two-made first second c.made.result c.made-2.result c.made.ensures.value c.made-2.ensures.value)
+    first copy second lei rr c.in_ok-repeats.repeats _ (subst M c.new-answers.ensures.items c.in_ok-first.ensures.makes) c.in_ok-second.ensures.makes
+    c.in_ok-repeats.ensures.repeats refl refl (two-made first second c.made.result c.made-2.result c.made.ensures.value c.made-2.ensures.value)
     (c.in_ok-copy_of.ensures ∙ c.text_of-3.ensures) (c.rows_in.ensures ∙ ap rows_in c.text_of-4.ensures)
     (c.rows_in-2.ensures ∙ ap rows_in c.text_of-5.ensures) (subst D c.text_of-2.ensures (subst C c.text_of.ensures c.in_ok-applied.ensures))

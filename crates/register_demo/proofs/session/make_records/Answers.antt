@@ -2,8 +2,8 @@ use Rattle.std.proofs.Common.{◌+◌, arith, rules}
 use Rattle.register_demo.proofs.Making.{makes-records}
 use Rattle.register_demo.proofs.session.make_records.Goals as goal
 
-pub returns : goal.returns
-returns g c =
+pub returns-clause-makes : goal.returns-clause-makes
+returns-clause-makes g c =
     let accredited = c.in_ok-accredit.ensures in
     let published = c.in_ok-told.ensures in
     makes-records c.args.n (c.block_count.result + 2) c.args.office.now.office c.accredit.new.office.office c.send_uploads.new.office.office

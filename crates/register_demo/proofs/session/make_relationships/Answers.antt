@@ -4,8 +4,8 @@ use Rattle.register_demo.proofs.Making.{makes-relationships}
 use Rattle.register_demo.proofs.Stages.{answers-one}
 use Rattle.register_demo.proofs.session.make_relationships.Goals as goal
 
-pub returns : goal.returns
-returns g c =
+pub returns-clause-makes : goal.returns-clause-makes
+returns-clause-makes g c =
     let blocks = c.block_count-blocks.ensures.value in
     let asked = answers-one c.send_uploads.new.office.office c.ask.new.office.office (2 * c.block_count-blocks.result + 5) (Publish 2)
     c.in_ok-published.published c.in_ok-published.ensures.reply c.in_ok-published.ensures.next in
