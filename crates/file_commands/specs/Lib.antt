@@ -1,5 +1,6 @@
 pub mod Codes
 pub mod Status
+pub mod Devices
 pub mod Files
 pub mod TwoFiles
 pub mod Applying

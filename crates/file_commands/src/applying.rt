@@ -1,8 +1,8 @@
 //! The command that patches a golden copy by a delta.
 ghost use Rattle.std.specs.Prelude.{◌≡◌, Err, IsErrOf};
-ghost use Rattle.lei_outside.specs.Faults.{FailsLast};
+ghost use Rattle.file_commands.specs.Devices.{FailsIf};
 ghost use Rattle.file_commands.specs.Applying.{Patches, apply_refusal};
-ghost use Rattle.file_commands.specs.TwoFiles.{DoesWithFiles, FailsOneOf, TellsOf, TellsOutcome, files};
+ghost use Rattle.file_commands.specs.TwoFiles.{DoesWithFiles, OneFailsIf, TellsOf, TellsOutcome, files};
 ghost use Rattle.request_loop.specs.Wires.{IsSent};
 ghost use Rattle.file_commands.specs.Status.{end_status};
 
@@ -27,12 +27,9 @@ pub fn apply<S: Source, T: Source, W: Sink>(
         (files (S.left input.old) (T.left second.old) (W.written out.old))
         (files (S.left input.new) (T.left second.new) (W.written out.new))
         (end_status result) }
-    ensures read_fault { IsErrOf result Stop.ReadFault → FailsOneOf S.left S.faults input.old input.new
+    ensures reads { OneFailsIf (IsErrOf result Stop.ReadFault) S.left S.faults input.old input.new
         T.left T.faults second.old second.new }
-    ensures no_read_fault { ¬ (IsErrOf result Stop.ReadFault) → S.faults input.new ≡ S.faults input.old }
-    ensures no_second_fault { ¬ (IsErrOf result Stop.ReadFault) → T.faults second.new ≡ T.faults second.old }
-    ensures write_fault { IsErrOf result Stop.WriteFault → FailsLast W.written W.faults out.old out.new }
-    ensures no_write_fault { ¬ (IsErrOf result Stop.WriteFault) → W.faults out.new ≡ W.faults out.old }
+    ensures writes { FailsIf (IsErrOf result Stop.WriteFault) W.written W.faults out.old out.new }
 {
     let copy = read_file(alloc, input)?;
     let delta = read_file(alloc, second)?;
@@ -51,8 +48,7 @@ fn tell<W: Sink>(
     ensures tells { TellsOf (Patches sheet form) copy.now delta.now (W.written out.old) (W.written out.new)
         (end_status result) }
     ensures no_read_fault { ¬ (IsErrOf result Stop.ReadFault) }
-    ensures kept { ¬ (IsErrOf result Stop.WriteFault) → W.faults out.new ≡ W.faults out.old }
-    ensures failed { IsErrOf result Stop.WriteFault → FailsLast W.written W.faults out.old out.new }
+    ensures writes { FailsIf (IsErrOf result Stop.WriteFault) W.written W.faults out.old out.new }
 {
     match delta_apply::apply(alloc, copy, delta, sheet, form) {
         Ok(text) => tell_text(text.as_slice(), out),
@@ -66,8 +62,7 @@ fn refuse<W: Sink>(fault: ApplyFault, out: &mut W) -> Result<(), Stop>
     ensures tells { TellsOutcome (Err (apply_refusal fault)) (W.written out.old) (W.written out.new)
         (end_status result) }
     ensures no_read_fault { ¬ (IsErrOf result Stop.ReadFault) }
-    ensures kept { ¬ (IsErrOf result Stop.WriteFault) → W.faults out.new ≡ W.faults out.old }
-    ensures failed { IsErrOf result Stop.WriteFault → FailsLast W.written W.faults out.old out.new }
+    ensures writes { FailsIf (IsErrOf result Stop.WriteFault) W.written W.faults out.old out.new }
 {
     write_refusal(fault, out)?;
     Err(Stop::Refused)
@@ -75,8 +70,7 @@ fn refuse<W: Sink>(fault: ApplyFault, out: &mut W) -> Result<(), Stop>
 
 fn write_refusal<W: Sink>(fault: ApplyFault, out: &mut W) -> Result<(), SinkFault>
     ensures written { IsSent (W.written out.old) (W.written out.new) (apply_refusal fault) result }
-    ensures kept { ¬ (IsErrOf result SinkFault.Failed) → W.faults out.new ≡ W.faults out.old }
-    ensures failed { IsErrOf result SinkFault.Failed → FailsLast W.written W.faults out.old out.new }
+    ensures writes { FailsIf (IsErrOf result SinkFault.Failed) W.written W.faults out.old out.new }
 {
     match fault {
         ApplyFault::CopyNotRead => write_pieces(out, &[b"refused COPY_NOT_READ\n"]),

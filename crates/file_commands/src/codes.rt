@@ -1,8 +1,8 @@
 //! The commands over a single text. They take no memory.
 ghost use Rattle.std.specs.Prelude.{◌≡◌, [], Some, IfOk, IsErrOf};
 ghost use Rattle.std.specs.Result.{result_err};
+ghost use Rattle.file_commands.specs.Devices.{FailsIf};
 ghost use Rattle.lei_code.specs.Digits.{digits};
-ghost use Rattle.lei_outside.specs.Faults.{FailsLast};
 ghost use Rattle.lei_code.specs.Fault.{fault_of};
 ghost use Rattle.file_commands.specs.Codes.{check_line, digits_fault, digits_line, line_or, TellsLine};
 ghost use Rattle.request_loop.specs.Wires.{IsSent};
@@ -17,8 +17,7 @@ use lei_outside::{Sink, SinkFault};
 pub fn check<W: Sink>(text: &str, out: &mut W) -> Result<(), Stop>
     ensures tells { TellsLine (fault_of text.now) (check_line text.now)
         (W.written out.old) (W.written out.new) (end_status result) }
-    ensures kept { ¬ (IsErrOf result Stop.WriteFault) → W.faults out.new ≡ W.faults out.old }
-    ensures failed { IsErrOf result Stop.WriteFault → FailsLast W.written W.faults out.old out.new }
+    ensures writes { FailsIf (IsErrOf result Stop.WriteFault) W.written W.faults out.old out.new }
 {
     match Lei::read(text.as_bytes()) {
         Ok(_) => Ok(write_pieces(out, &[b"valid", b"\n"])?),
@@ -30,8 +29,7 @@ pub fn check<W: Sink>(text: &str, out: &mut W) -> Result<(), Stop>
 pub fn digits<W: Sink>(text: &str, out: &mut W) -> Result<(), Stop>
     ensures tells { TellsLine (digits_fault text.now) (digits_line text.now)
         (W.written out.old) (W.written out.new) (end_status result) }
-    ensures kept { ¬ (IsErrOf result Stop.WriteFault) → W.faults out.new ≡ W.faults out.old }
-    ensures failed { IsErrOf result Stop.WriteFault → FailsLast W.written W.faults out.old out.new }
+    ensures writes { FailsIf (IsErrOf result Stop.WriteFault) W.written W.faults out.old out.new }
 {
     match digits_of(text.as_bytes()) {
         Ok(digits) => Ok(write_pieces(out, &[&digits, b"\n"])?),
@@ -53,8 +51,7 @@ fn digits_of(text: &[u8]) -> Result<[u8; 2], LeiFault>
 fn refuse<W: Sink>(fault: LeiFault, out: &mut W) -> Result<(), Stop>
     ensures tells { TellsLine (Some fault) (line_or [] (Some fault))
         (W.written out.old) (W.written out.new) (end_status result) }
-    ensures kept { ¬ (IsErrOf result Stop.WriteFault) → W.faults out.new ≡ W.faults out.old }
-    ensures failed { IsErrOf result Stop.WriteFault → FailsLast W.written W.faults out.old out.new }
+    ensures writes { FailsIf (IsErrOf result Stop.WriteFault) W.written W.faults out.old out.new }
 {
     write_refusal(fault, out)?;
     Err(Stop::Refused)
@@ -62,8 +59,7 @@ fn refuse<W: Sink>(fault: LeiFault, out: &mut W) -> Result<(), Stop>
 
 fn write_refusal<W: Sink>(fault: LeiFault, out: &mut W) -> Result<(), SinkFault>
     ensures written { IsSent (W.written out.old) (W.written out.new) (line_or [] (Some fault)) result }
-    ensures kept { ¬ (IsErrOf result SinkFault.Failed) → W.faults out.new ≡ W.faults out.old }
-    ensures failed { IsErrOf result SinkFault.Failed → FailsLast W.written W.faults out.old out.new }
+    ensures writes { FailsIf (IsErrOf result SinkFault.Failed) W.written W.faults out.old out.new }
 {
     match fault {
         LeiFault::Length => write_pieces(out, &[b"refused LENGTH", b"\n"]),

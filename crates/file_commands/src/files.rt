@@ -3,6 +3,7 @@ ghost use Rattle.std.specs.Prelude.{◌≡◌, ◌≤◌, ◌<◌, ◌++◌, [],
 ghost use Rattle.lei_outside.specs.Told.{Loses};
 ghost use Rattle.request_loop.specs.ReadBuffers.{Fills};
 ghost use Rattle.lei_outside.specs.Faults.{FailsLast};
+ghost use Rattle.file_commands.specs.Devices.{FailsIf};
 ghost use Rattle.file_commands.specs.Files.{IsFileStop, IsReadWhole};
 
 use crate::status::Stop;
@@ -24,8 +25,7 @@ pub fn no_file(alloc: Global) -> SureSource
 pub fn read_file<S: Source>(alloc: Global, input: &mut S) -> Result<Vec<u8>, Stop>
     ensures whole { IfOk result (λ file. IsReadWhole (S.left input.old) (S.left input.new) file.items) }
     ensures stops { IfErr result (IsFileStop (S.left input.old) (S.left input.new)) }
-    ensures failed { IsErrOf result Stop.ReadFault → FailsLast S.left S.faults input.old input.new }
-    ensures kept { ¬ (IsErrOf result Stop.ReadFault) → S.faults input.new ≡ S.faults input.old }
+    ensures reads { FailsIf (IsErrOf result Stop.ReadFault) S.left S.faults input.old input.new }
 {
     let mut block = block(alloc)?;
     let mut file = Vec::new(alloc);

@@ -1,11 +1,11 @@
 //! The command that reports on groups.
 ghost use Rattle.std.specs.Prelude.{◌≡◌, Err, IfErr, IfOk, IsErrOf};
-ghost use Rattle.lei_outside.specs.Faults.{FailsLast};
+ghost use Rattle.file_commands.specs.Devices.{FailsIf};
 ghost use Rattle.register_words.specs.declared.sheets.Sheet.{Sheet as DeclaredSheet};
 ghost use Rattle.copy_forms.specs.Files.{IsCopyRead};
 ghost use Rattle.group_reports.specs.Links.{GroupTable};
 ghost use Rattle.file_commands.specs.Grouping.{IsReport, IsReportOf, Reports, UnlessNoMemory, group_refusal};
-ghost use Rattle.file_commands.specs.TwoFiles.{DoesWithFiles, FailsOneOf, TellsOf, TellsOutcome, files};
+ghost use Rattle.file_commands.specs.TwoFiles.{DoesWithFiles, OneFailsIf, TellsOf, TellsOutcome, files};
 ghost use Rattle.request_loop.specs.Wires.{IsSent};
 ghost use Rattle.file_commands.specs.Status.{end_status};
 
@@ -47,12 +47,9 @@ pub fn group<S: Source, T: Source, W: Sink>(
         (files (S.left input.old) (T.left second.old) (W.written out.old))
         (files (S.left input.new) (T.left second.new) (W.written out.new))
         (end_status result) }
-    ensures read_fault { IsErrOf result Stop.ReadFault → FailsOneOf S.left S.faults input.old input.new
+    ensures reads { OneFailsIf (IsErrOf result Stop.ReadFault) S.left S.faults input.old input.new
         T.left T.faults second.old second.new }
-    ensures no_read_fault { ¬ (IsErrOf result Stop.ReadFault) → S.faults input.new ≡ S.faults input.old }
-    ensures no_second_fault { ¬ (IsErrOf result Stop.ReadFault) → T.faults second.new ≡ T.faults second.old }
-    ensures write_fault { IsErrOf result Stop.WriteFault → FailsLast W.written W.faults out.old out.new }
-    ensures no_write_fault { ¬ (IsErrOf result Stop.WriteFault) → W.faults out.new ≡ W.faults out.old }
+    ensures writes { FailsIf (IsErrOf result Stop.WriteFault) W.written W.faults out.old out.new }
 {
     let lei = read_file(alloc, input)?;
     let rr = read_file(alloc, second)?;
@@ -71,8 +68,7 @@ fn tell<W: Sink>(
     ensures tells { TellsOf (Reports who.now form) lei.now rr.now (W.written out.old) (W.written out.new)
         (end_status result) }
     ensures no_read_fault { ¬ (IsErrOf result Stop.ReadFault) }
-    ensures kept { ¬ (IsErrOf result Stop.WriteFault) → W.faults out.new ≡ W.faults out.old }
-    ensures failed { IsErrOf result Stop.WriteFault → FailsLast W.written W.faults out.old out.new }
+    ensures writes { FailsIf (IsErrOf result Stop.WriteFault) W.written W.faults out.old out.new }
 {
     match report(alloc, who, form, lei, rr) {
         Ok(text) => tell_text(text.as_slice(), out),
@@ -130,8 +126,7 @@ fn refuse<W: Sink>(refusal: GroupRefusal, out: &mut W) -> Result<(), Stop>
     ensures tells { TellsOutcome (Err (group_refusal refusal)) (W.written out.old) (W.written out.new)
         (end_status result) }
     ensures no_read_fault { ¬ (IsErrOf result Stop.ReadFault) }
-    ensures kept { ¬ (IsErrOf result Stop.WriteFault) → W.faults out.new ≡ W.faults out.old }
-    ensures failed { IsErrOf result Stop.WriteFault → FailsLast W.written W.faults out.old out.new }
+    ensures writes { FailsIf (IsErrOf result Stop.WriteFault) W.written W.faults out.old out.new }
 {
     write_refusal(refusal, out)?;
     Err(Stop::Refused)
@@ -139,8 +134,7 @@ fn refuse<W: Sink>(refusal: GroupRefusal, out: &mut W) -> Result<(), Stop>
 
 fn write_refusal<W: Sink>(refusal: GroupRefusal, out: &mut W) -> Result<(), SinkFault>
     ensures written { IsSent (W.written out.old) (W.written out.new) (group_refusal refusal) result }
-    ensures kept { ¬ (IsErrOf result SinkFault.Failed) → W.faults out.new ≡ W.faults out.old }
-    ensures failed { IsErrOf result SinkFault.Failed → FailsLast W.written W.faults out.old out.new }
+    ensures writes { FailsIf (IsErrOf result SinkFault.Failed) W.written W.faults out.old out.new }
 {
     match refusal {
         GroupRefusal::LeiCopyNotRead => write_pieces(out, &[b"refused LEI_COPY_NOT_READ\n"]),

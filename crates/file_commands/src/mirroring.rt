@@ -1,6 +1,6 @@
 //! The command that keeps a mirror of the three tables.
 ghost use Rattle.std.specs.Prelude.{◌≡◌, [], IsErrOf};
-ghost use Rattle.lei_outside.specs.Faults.{FailsLast};
+ghost use Rattle.file_commands.specs.Devices.{FailsIf};
 ghost use Rattle.lei_mirror.specs.Mirrors.{empty_mirror};
 ghost use Rattle.mirror_queries.specs.Grammar.{mirror_says};
 ghost use Rattle.query_reading.specs.QueryFrames.{HoldsQuery};
@@ -25,10 +25,8 @@ pub fn mirror<R, S: Source, W: Sink>(
 ) -> Result<(), Stop>
     ensures mirrors { Mirrors (sides (S.left input.old) (W.written out.old))
         (sides (S.left input.new) (W.written out.new)) (end_status result) }
-    ensures read_fault { IsErrOf result Stop.ReadFault → FailsLast S.left S.faults input.old input.new }
-    ensures no_read_fault { ¬ (IsErrOf result Stop.ReadFault) → S.faults input.new ≡ S.faults input.old }
-    ensures write_fault { IsErrOf result Stop.WriteFault → FailsLast W.written W.faults out.old out.new }
-    ensures no_write_fault { ¬ (IsErrOf result Stop.WriteFault) → W.faults out.new ≡ W.faults out.old }
+    ensures reads { FailsIf (IsErrOf result Stop.ReadFault) S.left S.faults input.old input.new }
+    ensures writes { FailsIf (IsErrOf result Stop.WriteFault) W.written W.faults out.old out.new }
 {
     let mut framing = QueryFraming::new(alloc, MirrorGrammar {})?;
     let mut server = MirrorServer::new(alloc)?;
@@ -47,14 +45,10 @@ fn answer_mirror<R, S: Source, W: Sink>(
     requires holds { HoldsQuery mirror_says framing.old.stage [] [] }
     ensures answers { AnswersMirror (sides (S.left wire.old.input.now) (W.written wire.old.out.now))
         (sides (S.left wire.new.input.now) (W.written wire.new.out.now)) (end_status result) }
-    ensures read_fault { IsErrOf result Stop.ReadFault
-        → FailsLast S.left S.faults wire.old.input.now wire.new.input.now }
-    ensures no_read_fault { ¬ (IsErrOf result Stop.ReadFault)
-        → S.faults wire.new.input.now ≡ S.faults wire.old.input.now }
-    ensures write_fault { IsErrOf result Stop.WriteFault
-        → FailsLast W.written W.faults wire.old.out.now wire.new.out.now }
-    ensures no_write_fault { ¬ (IsErrOf result Stop.WriteFault)
-        → W.faults wire.new.out.now ≡ W.faults wire.old.out.now }
+    ensures reads { FailsIf (IsErrOf result Stop.ReadFault) S.left S.faults
+        wire.old.input.now wire.new.input.now }
+    ensures writes { FailsIf (IsErrOf result Stop.WriteFault) W.written W.faults
+        wire.old.out.now wire.new.out.now }
     ensures input { wire.new.input.ghost_name ≡ wire.old.input.ghost_name }
     ensures out { wire.new.out.ghost_name ≡ wire.old.out.ghost_name }
 {

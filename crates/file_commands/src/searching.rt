@@ -1,13 +1,13 @@
 //! The command that searches the names of a golden copy.
 ghost use Rattle.std.specs.Prelude.{◌≡◌, [], Err, IsErrOf};
-ghost use Rattle.lei_outside.specs.Faults.{FailsLast};
+ghost use Rattle.file_commands.specs.Devices.{FailsIf};
 ghost use Rattle.search_queries.specs.Grammar.{search_says};
 ghost use Rattle.search_queries.specs.Searchers.{IsStateOf};
 ghost use Rattle.search_queries.specs.Searches.{SearchState};
 ghost use Rattle.query_reading.specs.QueryFrames.{HoldsQuery};
 ghost use Rattle.file_commands.specs.Searching.{AnswersCopy, AnswersFrom, RefusesCopy, Searches, copy_refusal};
 ghost use Rattle.file_commands.specs.Sides.{sides};
-ghost use Rattle.file_commands.specs.TwoFiles.{FailsOneOf, TellsOutcome, files};
+ghost use Rattle.file_commands.specs.TwoFiles.{OneFailsIf, TellsOutcome, files};
 ghost use Rattle.file_commands.specs.Status.{end_status};
 
 use crate::files::read_file;
@@ -40,12 +40,9 @@ pub fn search<R, S: Source, T: Source, W: Sink>(
         (files (S.left input.old) (T.left second.old) (W.written out.old))
         (files (S.left input.new) (T.left second.new) (W.written out.new))
         (end_status result) }
-    ensures read_fault { IsErrOf result Stop.ReadFault → FailsOneOf S.left S.faults input.old input.new
+    ensures reads { OneFailsIf (IsErrOf result Stop.ReadFault) S.left S.faults input.old input.new
         T.left T.faults second.old second.new }
-    ensures no_read_fault { ¬ (IsErrOf result Stop.ReadFault) → S.faults input.new ≡ S.faults input.old }
-    ensures no_second_fault { ¬ (IsErrOf result Stop.ReadFault) → T.faults second.new ≡ T.faults second.old }
-    ensures write_fault { IsErrOf result Stop.WriteFault → FailsLast W.written W.faults out.old out.new }
-    ensures no_write_fault { ¬ (IsErrOf result Stop.WriteFault) → W.faults out.new ≡ W.faults out.old }
+    ensures writes { FailsIf (IsErrOf result Stop.WriteFault) W.written W.faults out.old out.new }
 {
     let copy = read_file(alloc, second)?;
     let mut wire = Duplex { input, out };
@@ -68,14 +65,10 @@ fn search_in<L: Ledger, R, S: Source, W: Sink>(
     ensures answers { AnswersCopy form bytes.items
         (sides (S.left wire.old.input.now) (W.written wire.old.out.now))
         (sides (S.left wire.new.input.now) (W.written wire.new.out.now)) (end_status result) }
-    ensures read_fault { IsErrOf result Stop.ReadFault
-        → FailsLast S.left S.faults wire.old.input.now wire.new.input.now }
-    ensures no_read_fault { ¬ (IsErrOf result Stop.ReadFault)
-        → S.faults wire.new.input.now ≡ S.faults wire.old.input.now }
-    ensures write_fault { IsErrOf result Stop.WriteFault
-        → FailsLast W.written W.faults wire.old.out.now wire.new.out.now }
-    ensures no_write_fault { ¬ (IsErrOf result Stop.WriteFault)
-        → W.faults wire.new.out.now ≡ W.faults wire.old.out.now }
+    ensures reads { FailsIf (IsErrOf result Stop.ReadFault) S.left S.faults
+        wire.old.input.now wire.new.input.now }
+    ensures writes { FailsIf (IsErrOf result Stop.WriteFault) W.written W.faults
+        wire.old.out.now wire.new.out.now }
     ensures input { wire.new.input.ghost_name ≡ wire.old.input.ghost_name }
     ensures out { wire.new.out.ghost_name ≡ wire.old.out.ghost_name }
 {
@@ -98,10 +91,8 @@ fn refuse_copy<S: Source, W: Sink>(wire: &mut Duplex<'_, S, W>) -> Result<(), St
     ensures unread { S.left wire.new.input.now ≡ S.left wire.old.input.now }
     ensures no_read { ¬ (IsErrOf result Stop.ReadFault) }
     ensures no_read_fault { S.faults wire.new.input.now ≡ S.faults wire.old.input.now }
-    ensures write_fault { IsErrOf result Stop.WriteFault
-        → FailsLast W.written W.faults wire.old.out.now wire.new.out.now }
-    ensures no_write_fault { ¬ (IsErrOf result Stop.WriteFault)
-        → W.faults wire.new.out.now ≡ W.faults wire.old.out.now }
+    ensures writes { FailsIf (IsErrOf result Stop.WriteFault) W.written W.faults
+        wire.old.out.now wire.new.out.now }
     ensures input { wire.new.input.ghost_name ≡ wire.old.input.ghost_name }
     ensures out { wire.new.out.ghost_name ≡ wire.old.out.ghost_name }
 {
@@ -121,14 +112,10 @@ fn answer_queries<R, L: Ledger, S: Source, W: Sink>(
         → AnswersFrom searcher.old.form state
         (sides (S.left wire.old.input.now) (W.written wire.old.out.now))
         (sides (S.left wire.new.input.now) (W.written wire.new.out.now)) (end_status result) }
-    ensures read_fault { IsErrOf result Stop.ReadFault
-        → FailsLast S.left S.faults wire.old.input.now wire.new.input.now }
-    ensures no_read_fault { ¬ (IsErrOf result Stop.ReadFault)
-        → S.faults wire.new.input.now ≡ S.faults wire.old.input.now }
-    ensures write_fault { IsErrOf result Stop.WriteFault
-        → FailsLast W.written W.faults wire.old.out.now wire.new.out.now }
-    ensures no_write_fault { ¬ (IsErrOf result Stop.WriteFault)
-        → W.faults wire.new.out.now ≡ W.faults wire.old.out.now }
+    ensures reads { FailsIf (IsErrOf result Stop.ReadFault) S.left S.faults
+        wire.old.input.now wire.new.input.now }
+    ensures writes { FailsIf (IsErrOf result Stop.WriteFault) W.written W.faults
+        wire.old.out.now wire.new.out.now }
     ensures input { wire.new.input.ghost_name ≡ wire.old.input.ghost_name }
     ensures out { wire.new.out.ghost_name ≡ wire.old.out.ghost_name }
 {

@@ -1,6 +1,6 @@
 //! What commands write.
 ghost use Rattle.std.specs.Prelude.{◌≡◌, ◌∷◌, ◌++◌, [], Ok, decimal, flat_map, IsErrOf};
-ghost use Rattle.lei_outside.specs.Faults.{FailsLast};
+ghost use Rattle.file_commands.specs.Devices.{FailsIf};
 ghost use Rattle.request_loop.specs.Wires.{IsSent};
 ghost use Rattle.file_commands.specs.TwoFiles.{TellsOutcome};
 ghost use Rattle.file_commands.specs.Status.{end_status};
@@ -12,8 +12,7 @@ use lei_outside::{Sink, SinkFault, write_all};
 pub fn tell_text<W: Sink>(text: &[u8], out: &mut W) -> Result<(), Stop>
     ensures tells { TellsOutcome (Ok text.now) (W.written out.old) (W.written out.new) (end_status result) }
     ensures no_read_fault { ¬ (IsErrOf result Stop.ReadFault) }
-    ensures kept { ¬ (IsErrOf result Stop.WriteFault) → W.faults out.new ≡ W.faults out.old }
-    ensures failed { IsErrOf result Stop.WriteFault → FailsLast W.written W.faults out.old out.new }
+    ensures writes { FailsIf (IsErrOf result Stop.WriteFault) W.written W.faults out.old out.new }
 {
     Ok(write_all(out, text)?)
 }
@@ -27,8 +26,7 @@ pub fn write_numbers<W: Sink>(
 ) -> Result<(), SinkFault>
     ensures written { IsSent (W.written out.old) (W.written out.new)
         (front.now ++ (decimal first ++ 32 ∷ (decimal second ++ 10 ∷ []))) result }
-    ensures kept { ¬ (IsErrOf result SinkFault.Failed) → W.faults out.new ≡ W.faults out.old }
-    ensures failed { IsErrOf result SinkFault.Failed → FailsLast W.written W.faults out.old out.new }
+    ensures writes { FailsIf (IsErrOf result SinkFault.Failed) W.written W.faults out.old out.new }
 {
     let (mut low, mut high) = (itoa::Buffer::new(), itoa::Buffer::new());
     let first = low.format(first).as_bytes();
@@ -40,8 +38,7 @@ pub fn write_numbers<W: Sink>(
 pub fn write_pieces<W: Sink>(out: &mut W, pieces: &[&[u8]]) -> Result<(), SinkFault>
     ensures written { IsSent (W.written out.old) (W.written out.new)
         (flat_map (λ piece. piece.now) pieces.now) result }
-    ensures kept { ¬ (IsErrOf result SinkFault.Failed) → W.faults out.new ≡ W.faults out.old }
-    ensures failed { IsErrOf result SinkFault.Failed → FailsLast W.written W.faults out.old out.new }
+    ensures writes { FailsIf (IsErrOf result SinkFault.Failed) W.written W.faults out.old out.new }
 {
     for piece in pieces {
         write_all(out, piece)?;

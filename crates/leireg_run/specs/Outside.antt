@@ -1,5 +1,7 @@
 -- The outside of a run, as its devices tell it, and what a run does there.
-use Rattle.std.specs.Prelude.{ℕ, ℤ, List, Option}
+use Rattle.std.specs.Prelude.{◌≡◌, ℕ, ℤ, List, Option}
+use Rattle.lei_outside.specs.Count.{Rose}
+use Rattle.lei_outside.specs.Faults.{FailsLast}
 use Rattle.lei_outside.specs.Keeping.{KeptTables}
 use Rattle.lei_outside.specs.Told.{Grows, Loses}
 use Rattle.register_words.specs.declared.reply.Reply.{Reply}
@@ -28,6 +30,15 @@ outside left given written kept faults = record {
   kept = kept;
   faults = faults;
 }
+
+-- What a run does to its output. If this is a fault of it, a write failed, and nothing was written after it. If a store is
+-- damaged, a write may have failed while that was written, and then too nothing was written after it. Otherwise no write
+-- failed.
+pub record OutputFails {W : Type 0} (fault damaged : Type 0) (written : W → Option (List ℕ)) (faults : W → ℕ)
+    (before after : W) : Type 0 where
+  pub last : fault → FailsLast written faults before after
+  pub damage : damaged → Rose (faults before) (faults after) → FailsLast written faults before after
+  pub none : ¬ fault → ¬ damaged → faults after ≡ faults before
 
 -- What a run does to the outside: the office that it begins with, the bytes that it reads, the moments that it is
 -- given, the replies that it gives, the bytes that it writes, each in their order, and the office that it ends with.

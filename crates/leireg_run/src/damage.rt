@@ -1,6 +1,6 @@
 //! What is told of a store that can't be opened.
 ghost use Rattle.std.specs.Prelude.{◌≡◌, IsErrOf};
-ghost use Rattle.lei_outside.specs.Faults.{FailsLast};
+ghost use Rattle.file_commands.specs.Devices.{FailsIf};
 ghost use Rattle.request_loop.specs.Wires.{IsSent};
 ghost use Rattle.leireg_run.specs.Ends.{damage_text};
 
@@ -11,8 +11,7 @@ use lei_outside::{Sink, SinkFault};
 /// Writes the first difference between what a keeper has and what its entries come to, in three lines.
 pub fn write_damage<W: Sink>(damage: &Damage, out: &mut W) -> Result<(), SinkFault>
     ensures written { IsSent (W.written out.old) (W.written out.new) (damage_text damage.now) result }
-    ensures kept { ¬ (IsErrOf result SinkFault.Failed) → W.faults out.new ≡ W.faults out.old }
-    ensures failed { IsErrOf result SinkFault.Failed → FailsLast W.written W.faults out.old out.new }
+    ensures writes { FailsIf (IsErrOf result SinkFault.Failed) W.written W.faults out.old out.new }
 {
     let mut number = itoa::Buffer::new();
     let number = number.format(damage.entry).as_bytes();

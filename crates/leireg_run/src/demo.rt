@@ -1,6 +1,6 @@
 //! The command that makes up a register.
 ghost use Rattle.std.specs.Prelude.{◌≡◌, ◌≤◌, IsErrOf};
-ghost use Rattle.lei_outside.specs.Faults.{FailsLast};
+ghost use Rattle.file_commands.specs.Devices.{FailsIf};
 ghost use Rattle.leireg_run.specs.Ends.{TellsSummary};
 ghost use Rattle.file_commands.specs.Status.{end_status};
 
@@ -20,8 +20,7 @@ pub fn tell_demo<R: Threads + Sync, W: Sink>(
     requires least { 2 ≤ records }
     requires most { records ≤ 100_000 }
     ensures tells { TellsSummary records (W.written out.old) (W.written out.new) (end_status result) }
-    ensures kept { ¬ (IsErrOf result Stop.WriteFault) → W.faults out.new ≡ W.faults out.old }
-    ensures failed { IsErrOf result Stop.WriteFault → FailsLast W.written W.faults out.old out.new }
+    ensures writes { FailsIf (IsErrOf result Stop.WriteFault) W.written W.faults out.old out.new }
 {
     let summary = demo(rt, alloc, records, out)?;
     tell_text(summary.as_slice(), out)

@@ -4,15 +4,16 @@ ghost use Rattle.lei_outside.specs.Count.{Rose};
 ghost use Rattle.lei_outside.specs.Faults.{FailsLast};
 ghost use Rattle.lei_outside.specs.Keeping.{KeptTables, Stays};
 ghost use Rattle.lei_outside.specs.Told.{Grows};
+ghost use Rattle.file_commands.specs.Devices.{FailsIf};
 ghost use Rattle.register_history.specs.Kept.{Keeps, StaysUntold};
 ghost use Rattle.register_words.specs.Limits.{standard};
 ghost use Rattle.lei_office.specs.Offices.{FaultRose, IsRefused, keeper_back};
 ghost use Rattle.leireg_run.specs.Opened.{IsOpened};
 ghost use Rattle.leireg_run.specs.Ends.{RunsFrom, RunsLines, Does, DoesIfRead, Completes, IsDamageTold, IsUnopened, MayTell, TellsDamage, damage_text};
 ghost use Rattle.line_reading.specs.LineFrames.{Holds};
-ghost use Rattle.leireg_run.specs.Outside.{outside};
+ghost use Rattle.leireg_run.specs.Outside.{OutputFails, outside};
 ghost use Rattle.file_commands.specs.Status.{end_status};
-ghost use Rattle.file_commands.specs.TwoFiles.{FailsOneOf};
+ghost use Rattle.file_commands.specs.TwoFiles.{OneFailsIf};
 ghost use Rattle.program_words.specs.Words.{Invocation, IsInRange, invocation_of, to_answer_lines};
 ghost use Rattle.leireg_run.specs.Words.{Mean, invocation_in, reads_input, reads_second, unless_serving};
 
@@ -64,14 +65,10 @@ pub fn run<R: Threads + Sync, S: Source, T: Source, W: Sink, K: Keeper, C: Clock
         (outside (S.left input.old) (C.given clock.old) (W.written out.old) (K.tables keeper) (K.faults keeper))
         (outside (S.left input.new) (C.given clock.new) (W.written out.new) (K.tables result.1) (K.faults result.1))
         (T.left second.old) (T.left second.new) result.0 }
-    ensures read_fault { result.0 ≡ 3 → FailsOneOf S.left S.faults input.old input.new
+    ensures reads { OneFailsIf (result.0 ≡ 3) S.left S.faults input.old input.new
         T.left T.faults second.old second.new }
-    ensures no_read_fault { result.0 ≢ 3 → S.faults input.new ≡ S.faults input.old }
-    ensures no_second_fault { result.0 ≢ 3 → T.faults second.new ≡ T.faults second.old }
-    ensures write_fault { result.0 ≡ 4 → FailsLast W.written W.faults out.old out.new }
-    ensures no_write_fault { result.0 ≢ 4 → result.0 ≢ 7 → W.faults out.new ≡ W.faults out.old }
-    ensures damage_fault { result.0 ≡ 7 → Rose (W.faults out.old) (W.faults out.new)
-        → FailsLast W.written W.faults out.old out.new }
+    ensures writes { OutputFails (result.0 ≡ 4) (result.0 ≡ 7)
+        W.written W.faults out.old out.new }
     ensures damage_told { result.0 ≡ 7 → ¬ (Rose (W.faults out.old) (W.faults out.new))
         → TellsDamage {E = Unit {0}}
         (outside (S.left input.old) (C.given clock.old) (W.written out.old) (K.tables keeper) (K.faults keeper))
@@ -118,16 +115,10 @@ fn run_command<R: Threads + Sync, S: Source, T: Source, W: Sink, K: Keeper, C: C
         (outside (S.left input.old) (C.given clock.old) (W.written out.old) (K.tables keeper) (K.faults keeper))
         (outside (S.left input.new) (C.given clock.new) (W.written out.new) (K.tables result.1) (K.faults result.1))
         (T.left second.old) (T.left second.new) (end_status result.0) }
-    ensures read_fault { IsErrOf result.0 Stop.ReadFault → FailsOneOf S.left S.faults input.old input.new
+    ensures reads { OneFailsIf (IsErrOf result.0 Stop.ReadFault) S.left S.faults input.old input.new
         T.left T.faults second.old second.new }
-    ensures no_read_fault { ¬ (IsErrOf result.0 Stop.ReadFault) → S.faults input.new ≡ S.faults input.old }
-    ensures no_second_fault { ¬ (IsErrOf result.0 Stop.ReadFault)
-        → T.faults second.new ≡ T.faults second.old }
-    ensures write_fault { IsErrOf result.0 Stop.WriteFault → FailsLast W.written W.faults out.old out.new }
-    ensures no_write_fault { ¬ (IsErrOf result.0 Stop.WriteFault) → ¬ (IsErrOf result.0 Stop.StoreDamaged)
-        → W.faults out.new ≡ W.faults out.old }
-    ensures damage_fault { IsErrOf result.0 Stop.StoreDamaged → Rose (W.faults out.old) (W.faults out.new)
-        → FailsLast W.written W.faults out.old out.new }
+    ensures writes { OutputFails (IsErrOf result.0 Stop.WriteFault) (IsErrOf result.0 Stop.StoreDamaged)
+        W.written W.faults out.old out.new }
     ensures damage_told { IsErrOf result.0 Stop.StoreDamaged → ¬ (Rose (W.faults out.old) (W.faults out.new))
         → TellsDamage {E = Unit {0}}
         (outside (S.left input.old) (C.given clock.old) (W.written out.old) (K.tables keeper) (K.faults keeper))
@@ -162,13 +153,9 @@ fn run_lines<R: Threads + Sync, S: Source, W: Sink, K: Keeper, C: Clock>(
         (outside (S.left input.old) (C.given clock.old) (W.written out.old) (K.tables keeper) (K.faults keeper))
         (outside (S.left input.new) (C.given clock.new) (W.written out.new) (K.tables result.1) (K.faults result.1))
         (end_status result.0) }
-    ensures read_fault { IsErrOf result.0 Stop.ReadFault → FailsLast S.left S.faults input.old input.new }
-    ensures no_read_fault { ¬ (IsErrOf result.0 Stop.ReadFault) → S.faults input.new ≡ S.faults input.old }
-    ensures write_fault { IsErrOf result.0 Stop.WriteFault → FailsLast W.written W.faults out.old out.new }
-    ensures no_write_fault { ¬ (IsErrOf result.0 Stop.WriteFault) → ¬ (IsErrOf result.0 Stop.StoreDamaged)
-        → W.faults out.new ≡ W.faults out.old }
-    ensures damage_fault { IsErrOf result.0 Stop.StoreDamaged → Rose (W.faults out.old) (W.faults out.new)
-        → FailsLast W.written W.faults out.old out.new }
+    ensures reads { FailsIf (IsErrOf result.0 Stop.ReadFault) S.left S.faults input.old input.new }
+    ensures writes { OutputFails (IsErrOf result.0 Stop.WriteFault) (IsErrOf result.0 Stop.StoreDamaged)
+        W.written W.faults out.old out.new }
     ensures damage_told { IsErrOf result.0 Stop.StoreDamaged → ¬ (Rose (W.faults out.old) (W.faults out.new))
         → TellsDamage {E = Unit {0}}
         (outside (S.left input.old) (C.given clock.old) (W.written out.old) (K.tables keeper) (K.faults keeper))
@@ -239,10 +226,8 @@ fn answer_input<R: Threads + Sync, S: Source, W: Sink, K: Keeper, C: Clock>(
         (outside (S.left input.new) (C.given clock.new) (W.written out.new) kept (K.faults office.new.keeper))
         (end_status result) }
     ensures untold { StaysUntold (K.tables office.old.keeper) (K.tables office.new.keeper) }
-    ensures read_fault { IsErrOf result Stop.ReadFault → FailsLast S.left S.faults input.old input.new }
-    ensures no_read_fault { ¬ (IsErrOf result Stop.ReadFault) → S.faults input.new ≡ S.faults input.old }
-    ensures write_fault { IsErrOf result Stop.WriteFault → FailsLast W.written W.faults out.old out.new }
-    ensures no_write_fault { ¬ (IsErrOf result Stop.WriteFault) → W.faults out.new ≡ W.faults out.old }
+    ensures reads { FailsIf (IsErrOf result Stop.ReadFault) S.left S.faults input.old input.new }
+    ensures writes { FailsIf (IsErrOf result Stop.WriteFault) W.written W.faults out.old out.new }
 {
     let mut wire = Duplex { input, out };
     serve_lines(rt, office, framing, &mut wire, clock)
@@ -265,14 +250,10 @@ fn serve_lines<R: Threads + Sync, S: Source, W: Sink, K: Keeper, C: Clock>(
         (K.faults office.new.keeper))
         (end_status result) }
     ensures untold { StaysUntold (K.tables office.old.keeper) (K.tables office.new.keeper) }
-    ensures read_fault { IsErrOf result Stop.ReadFault
-        → FailsLast S.left S.faults wire.old.input.now wire.new.input.now }
-    ensures no_read_fault { ¬ (IsErrOf result Stop.ReadFault)
-        → S.faults wire.new.input.now ≡ S.faults wire.old.input.now }
-    ensures write_fault { IsErrOf result Stop.WriteFault
-        → FailsLast W.written W.faults wire.old.out.now wire.new.out.now }
-    ensures no_write_fault { ¬ (IsErrOf result Stop.WriteFault)
-        → W.faults wire.new.out.now ≡ W.faults wire.old.out.now }
+    ensures reads { FailsIf (IsErrOf result Stop.ReadFault) S.left S.faults
+        wire.old.input.now wire.new.input.now }
+    ensures writes { FailsIf (IsErrOf result Stop.WriteFault) W.written W.faults
+        wire.old.out.now wire.new.out.now }
     ensures input { wire.new.input.ghost_name ≡ wire.old.input.ghost_name }
     ensures out { wire.new.out.ghost_name ≡ wire.old.out.ghost_name }
 {

@@ -13,7 +13,7 @@ pub returns-in-Err-default-clause-complete : goal.returns-in-Err-default-clause-
 returns-in-Err-default-clause-complete g c = λ what means n6 input_still second_still out_still.
     let ended = c.run_command.ensures in
     completes_stopped (MayTell g.K.Keeper.tables) _ what _ _ _ _ _ c.run_command.result.0 c.in-Err-default.stop c.status.result c.in-Err-default.is-0 c.status.ensures (sym c.in-Ok.ensures.meant) means
-    (λ failed. one_rose _ _ _ _ _ _ _ _ (ended.read_fault failed) input_still second_still) (λ failed. out_still (rose_of _ _ _ _ (ended.write_fault failed))) n6
+    (λ failed. one_rose _ _ _ _ _ _ _ _ (ended.reads.last failed) input_still second_still) (λ failed. out_still (rose_of _ _ _ _ (ended.writes.last failed))) n6
     (λ damaged. ended.damage_told damaged out_still) ended.does
 
 pub returns-in-Err-default-clause-damage_told : goal.returns-in-Err-default-clause-damage_told

@@ -1,4 +1,4 @@
-use Rattle.std.proofs.Common.{ℕ, List, Option, Result, refl, subst, sym}
+use Rattle.std.proofs.Common.{ℕ, List, Option, Result, ap, refl, subst, sym, ◌∙◌}
 use Rattle.lei_outside.specs.Links.{told_by}
 use Rattle.register_history.specs.State.{OfficeState}
 use Rattle.request_loop.proofs.Failing.{fails_at}
@@ -10,7 +10,7 @@ use Rattle.line_reading.specs.LineFrames.{line_rules}
 use Rattle.leireg_run.specs.Ends.{RunsFrom}
 use Rattle.leireg_run.specs.Outside.{outside}
 use Rattle.file_commands.specs.Files.{input_limit}
-use Rattle.file_commands.specs.Status.{end_status}
+use Rattle.file_commands.specs.Status.{end_status, ended_as}
 use Rattle.file_commands.specs.declared.status.Stop.{Stop}
 use Rattle.leireg_run.proofs.Ending.{runs_served}
 use Rattle.leireg_run.proofs.Fitting.{lines_fit}
@@ -52,18 +52,24 @@ returns-clause-untold g c =
     (progress c.args.office.now (given c.args.clock.now) (written c.args.wire.now.out.now))
     (progress c.serve.new.who (given c.serve.new.clock) (written c.serve.new.link.out.now)) _ _ c.serve.ensures.serves
 
-pub returns-clause-read_fault : goal.returns-clause-read_fault
-returns-clause-read_fault g c is =
+pub returns-clause-reads : goal.returns-clause-reads
+returns-clause-reads g c =
     let left = g.S.Source.left in
     let written = g.W.Sink.written in
-    fails_at (told_by (λ d. left d.input.now) (λ d. written d.out.now)) (λ d. g.S.Source.faults d.input.now) (λ d. d.input.now)
-    left g.S.Source.faults (λ told. told.left) c.args.wire.now c.serve.new.link (λ d. refl) (λ d. refl)
-    (c.serve.ensures.read_fault (only_read_fault c.serve.result c.ended_as.result c.ended_as.ensures is))
+    record {
+      last = λ is. fails_at (told_by (λ d. left d.input.now) (λ d. written d.out.now)) (λ d. g.S.Source.faults d.input.now)
+          (λ d. d.input.now) left g.S.Source.faults (λ told. told.left) c.args.wire.now c.serve.new.link (λ d. refl) (λ d. refl)
+          (c.serve.ensures.read_fault (only_read_fault c.serve.result c.ended_as.result c.ended_as.ensures is));
+      none = λ none. c.serve.ensures.no_read_fault (λ is. none (c.ended_as.ensures ∙ ap ended_as is));
+    }
 
-pub returns-clause-write_fault : goal.returns-clause-write_fault
-returns-clause-write_fault g c is =
+pub returns-clause-writes : goal.returns-clause-writes
+returns-clause-writes g c =
     let left = g.S.Source.left in
     let written = g.W.Sink.written in
-    fails_at (told_by (λ d. left d.input.now) (λ d. written d.out.now)) (λ d. g.W.Sink.faults d.out.now) (λ d. d.out.now)
-    written g.W.Sink.faults (λ told. told.written) c.args.wire.now c.serve.new.link (λ d. refl) (λ d. refl)
-    (c.serve.ensures.write_fault (only_write_fault c.serve.result c.ended_as.result c.ended_as.ensures is))
+    record {
+      last = λ is. fails_at (told_by (λ d. left d.input.now) (λ d. written d.out.now)) (λ d. g.W.Sink.faults d.out.now)
+          (λ d. d.out.now) written g.W.Sink.faults (λ told. told.written) c.args.wire.now c.serve.new.link (λ d. refl) (λ d. refl)
+          (c.serve.ensures.write_fault (only_write_fault c.serve.result c.ended_as.result c.ended_as.ensures is));
+      none = λ none. c.serve.ensures.no_write_fault (λ is. none (c.ended_as.ensures ∙ ap ended_as is));
+    }
