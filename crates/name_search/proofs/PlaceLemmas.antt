@@ -1,5 +1,5 @@
 -- The place of a key among names in the order of their keys.
-use Rattle.std.proofs.Common.{◌≡◌, ℕ, zero, suc, ◌+◌, ◌<◌, ◌≤◌, T, Bool, true, false, cond, Option, None, Some, List, [], ◌∷◌, get_or, ltb, length, refl, sym, ap, subst, ◌∙◌, arith}
+use Rattle.std.proofs.Common.{◌≡◌, ℕ, zero, suc, ◌+◌, ◌<◌, ◌≤◌, T, Bool, true, false, cond, Option, None, Some, List, [], ◌∷◌, get_or, ltb, length, drop, ◌&&◌, refl, sym, ap, subst, ◌∙◌, arith}
 use Rattle.std.specs.FinMap.Entries.{below_all, find, is_sorted}
 use Rattle.std.specs.Option.{option_map}
 use Rattle.std.specs.Ordering.{is_eq, is_lt, ordering_reverse}
@@ -10,15 +10,8 @@ use Rattle.std.proofs.lemmas.List.{get_or_default}
 use Rattle.lei_code.specs.Texts.{Text}
 use Rattle.name_search.specs.NameTables.{Name}
 use Rattle.name_search.specs.Keys.{text_cmp}
+use Rattle.name_search.specs.Places.{IsAbove, IsBelow, IsHere}
 use Rattle.name_search.proofs.WalkLemmas.{first_true, less, second_true, text_same}
-
--- the key stands after those before a place
-abbrev pub IsBelow : List Name → Text → ℕ → Type 0
-IsBelow names key place = (k : ℕ) (d : Name) → k < place → text_cmp key (get_or names k d).0 ≡ Ordering.Greater
-
--- and before those from a place on
-abbrev pub IsAbove : List Name → Text → ℕ → Type 0
-IsAbove names key place = (k : ℕ) (d : Name) → place ≤ k → k < length names → text_cmp key (get_or names k d).0 ≡ Ordering.Less
 
 ascends : (names : List Name) → is_sorted text_cmp names ≡ true → T (is_sorted text_cmp names)
 ascends names sorted = subst T (sym sorted) tt
@@ -80,6 +73,60 @@ below_to names key i name sorted within here gt k d before = by (ltb k i) refl
     by false same =
         let is : i ≡ k = omega (arith, ltb-false k i same) in
         subst (λ n. text_cmp key (get_or names n d).0 ≡ Ordering.Greater) is at
+
+-- a key that is that of one place
+pub is_here : (names : List Name) (key : Text) (i : ℕ) (name : Name) → i < length names → name ≡ get_or names i name
+    → text_cmp key name.0 ≡ Ordering.Equal → IsHere names key i
+is_here names key i name within here tie d = ap (λ (n : Name). text_cmp key n.0) (same_name names i d name within here) ∙ tie
+
+key_here : (names : List Name) (key : Text) (i : ℕ) (d name : Name) → i < length names → name ≡ get_or names i name
+    → text_cmp key name.0 ≡ Ordering.Equal → key ≡ (get_or names i d).0
+key_here names key i d name within here tie = text_same key name.0 tie ∙ ap (λ (n : Name). n.0) (sym (same_name names i d name within here))
+
+-- comes after those before it
+pub below_here : (names : List Name) (key : Text) (i : ℕ) (name : Name) → is_sorted text_cmp names ≡ true → i < length names
+    → name ≡ get_or names i name → text_cmp key name.0 ≡ Ordering.Equal → IsBelow names key i
+below_here names key i name sorted within here tie k d before =
+    turned (get_or names k d).0 key
+    (ap (text_cmp (get_or names k d).0) (key_here names key i d name within here tie)
+    ∙ rises_at names (ascends names sorted) k i d before within)
+
+-- and before those after it
+pub above_here : (names : List Name) (key : Text) (i : ℕ) (name : Name) → is_sorted text_cmp names ≡ true → i < length names
+    → name ≡ get_or names i name → text_cmp key name.0 ≡ Ordering.Equal → IsAbove names key (i + 1)
+above_here names key i name sorted within here tie k d from inside =
+    ap (λ q. text_cmp q (get_or names k d).0) (key_here names key i d name within here tie)
+    ∙ rises_at names (ascends names sorted) i k d (omega arith) inside
+
+-- no name stands from the end on
+pub above_end : (names : List Name) (key : Text) (i : ℕ) → length names ≤ i → IsAbove names key i
+above_end names key i past k d from inside = absurd (omega arith)
+
+-- where the places meet, the key comes before all from there on
+pub above_upto : (names : List Name) (key : Text) (high low : ℕ) → IsAbove names key high → high ≤ low → IsAbove names key low
+above_upto names key high low above meet k d from inside = above k d (omega arith) inside
+
+-- ---- the names from a place on
+
+second : (a b : Bool) → (a && b) ≡ true → b ≡ true
+second true b e = e
+second false b e = absurd (cc)
+
+pub sorted_drop : (n : ℕ) (names : List Name) → is_sorted text_cmp names ≡ true → is_sorted text_cmp (drop n names) ≡ true
+sorted_drop zero names sorted = sorted
+sorted_drop (suc n) [] sorted = refl
+sorted_drop (suc n) (e ∷ es) sorted = sorted_drop n es (second (below_all text_cmp e.0 es) (is_sorted text_cmp es) sorted)
+
+pub here_drop : (n : ℕ) (names : List Name) (key : Text) → IsHere names key n → IsHere (drop n names) key 0
+here_drop zero names key is = is
+here_drop (suc n) [] key is = is
+here_drop (suc n) (e ∷ es) key is = here_drop n es key is
+
+pub above_drop : (n : ℕ) (names : List Name) (key : Text) → IsAbove names key n → IsAbove (drop n names) key 0
+above_drop zero names key above = above
+above_drop (suc n) [] key above = λ k d from inside. absurd (omega arith)
+above_drop (suc n) (e ∷ es) key above =
+    above_drop n es key (λ k d from inside. above (suc k) d (omega arith) (omega arith))
 
 found_at : (names : List Name) (key : Text) (i : ℕ) (d name : Name) → T (is_sorted text_cmp names) → i < length names
     → name ≡ get_or names i d → text_cmp key name.0 ≡ Ordering.Equal

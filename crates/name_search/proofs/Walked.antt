@@ -1,29 +1,26 @@
 -- A walk over the rows of a copy and the changes of a delta, of which only the names are put.
-use Rattle.std.proofs.Common.{◌≡◌, ℕ, ◌+◌, ◌<◌, ◌≤◌, Bool, true, false, List, [], ◌∷◌, ◌++◌, length, drop, get_or, map, refl, sym, ap, subst, ◌∙◌, arith}
-use Rattle.std.specs.Prelude.{flat_map, if◌then◌else◌}
+use Rattle.std.proofs.Common.{◌≡◌, ℕ, zero, suc, ◌+◌, ◌<◌, ◌≤◌, List, [], ◌∷◌, ◌++◌, length, drop, take, get_or, map, refl, sym, ap, subst, ◌∙◌, append_assoc, arith}
+use Rattle.std.specs.FinMap.Entries.{by_order}
 use Rattle.std.specs.List.{All}
 use Rattle.std.specs.declared.cmp.Ordering.{Ordering}
-use Rattle.std.proofs.lemmas.Grind.{flat_map-append}
-use Rattle.std.proofs.lemmas.List.{append-nil, drop_more}
-use Rattle.std.proofs.lemmas.List.Concat.{flat_map_single}
-use Rattle.std.proofs.lemmas.List.Elements.{All-head, All-tail}
+use Rattle.std.proofs.lemmas.List.{drop-map, drop_all, drop_more, length-append, length-drop, length-map, length-take, map-append, take-map, take_all, take_more}
+use Rattle.std.proofs.lemmas.List.Elements.{All-drop, All-head, All-tail}
+use Rattle.lei_code.specs.Texts.{Text}
+use Rattle.lei_records.specs.Rows.{text_at}
 use Rattle.lei_records.specs.Tables.{key_cmp}
 use Rattle.register_words.specs.declared.sheets.Sheet.{Sheet}
 use Rattle.copy_csv.specs.declared.rows.Change.{Change}
-use Rattle.copy_csv.specs.Rows.{AreChanges, AreRows, IsRowOf, changed_key}
+use Rattle.copy_csv.specs.Rows.{AreChanges, AreRows, IsChangeOf, IsRowOf, changed_key, changed_row}
 use Rattle.copy_csv.specs.Sheets.{SheetRow, key}
 use Rattle.copy_forms.specs.Patching.{patched}
-use Rattle.copy_forms.specs.Merging.{PassesRow, merged, put_by}
+use Rattle.copy_forms.specs.Merging.{merged, placed, put_by}
 use Rattle.copy_forms.proofs.Merged.{merged_is, rows_stay}
-use Rattle.copy_forms.proofs.Passing.{StandsBefore, passes-end, passes-equal, passes-greater, passes-lesser}
+use Rattle.name_search.specs.Keys.{text_cmp}
 use Rattle.name_search.specs.NameTables.{IsTableOf, Name, NameTable, named}
-use Rattle.name_search.specs.Puts.{named_alone, put_name, put_names}
-
--- the names of what changes put are those of what each puts
-puts_names : (changes : List Change) → flat_map named_alone (flat_map put_by changes) ≡ put_names changes
-puts_names [] = refl
-puts_names (change ∷ changes) =
-    flat_map-append named_alone (put_by change) (flat_map put_by changes) ∙ ap (λ l. put_name change ++ l) (puts_names changes)
+use Rattle.name_search.specs.Places.{IsAbove, IsBelow, IsHere}
+use Rattle.name_search.specs.Puts.{put_name, put_names}
+use Rattle.name_search.proofs.KeyLemmas.{key_order}
+use Rattle.name_search.proofs.PlaceLemmas.{above_drop, here_drop}
 
 -- the next change, and what is put after it
 pub next_put : (changes : List Change) (i : ℕ) (change : Change) → i < length changes → change ≡ get_or changes i change
@@ -41,57 +38,87 @@ pub rest_put : (changes : List Change) (i : ℕ) (change : Change) (old new : Li
 rest_put changes i change old new within here before after =
     same_rest (put_name change) new (put_names (drop (i + 1) changes)) (sym after ∙ before ∙ next_put changes i change within here)
 
--- ---- one row
+-- ---- rows that are moved
 
--- so many changes were put before each row that has this name
-abbrev pub StandsSo : List Change → Name → ℕ → List Name → ℕ → List Name → Type 0
-StandsSo changes name at old next new =
-    (row : SheetRow) → IsRowOf Sheet.Lei row → name ≡ named row → StandsBefore named_alone changes row at old next new
+-- one more row is moved
+pub move_more : (out mid new rows left rest : List Name) (i : ℕ) (row : Name) → i < length rows → mid ≡ out ++ take i rows → left ≡ drop i rows
+    → left ≡ row ∷ rest → new ≡ mid ++ row ∷ [] → (new ≡ out ++ take (i + 1) rows) × (rest ≡ drop (i + 1) rows)
+move_more out mid new rows left rest i row within before left_is takes put =
+    let both : get_or rows i row ∷ drop (i + 1) rows ≡ row ∷ rest = sym (drop_more rows i row within) ∙ sym left_is ∙ takes in
+    let first : get_or rows i row ≡ row = cc in
+    let others : drop (i + 1) rows ≡ rest = cc in (
+      put ∙ ap (λ l. l ++ row ∷ []) before ∙ append_assoc out (take i rows) (row ∷ [])
+          ∙ ap (λ l. out ++ l) (ap (λ y. take i rows ++ y ∷ []) (sym first) ∙ sym (take_more rows i row within)),
+      sym others,
+    )
 
--- and they passed it
-abbrev pub PassesSo : List Change → Name → ℕ → List Name → ℕ → List Name → Type 0
-PassesSo changes name at old next new =
-    (row : SheetRow) → IsRowOf Sheet.Lei row → name ≡ named row → PassesRow named_alone changes row at old next new
+-- what is left fits
+pub room_after : (out mid new rows left rest puts front puts' : List Name) (n room : ℕ) → n ≤ length rows → mid ≡ out ++ take n rows → left ≡ drop n rows
+    → length rest ≤ length left → new ≡ mid ++ front → puts ≡ front ++ puts' → length out + (length rows + length puts) ≤ room
+    → length new + (length rest + length puts') ≤ room
+room_after out mid new rows left rest puts front puts' n room within moved left_is few put puts_are fits =
+    omega (
+      arith,
+      ap length moved,
+      length-append out (take n rows),
+      length-take n rows,
+      ap length left_is,
+      length-drop n rows,
+      ap length put,
+      length-append mid front,
+      ap length puts_are,
+      length-append front puts',
+    )
 
--- how a change's key compares to that of each row of this name
-abbrev pub OrdersSo : Ordering → Change → Name → Type 0
-OrdersSo o change name = (row : SheetRow) → IsRowOf Sheet.Lei row → name ≡ named row → o ≡ key_cmp (changed_key change) (key row)
+-- ---- one change
 
-module _ (changes : List Change) (name : Name) (at : ℕ) (old : List Name) where
-  pub so_lesser : (out new : List Name) (i : ℕ) (change : Change) (o : Ordering) → StandsSo changes name at old i out → i < length changes
-      → change ≡ get_or changes i change → OrdersSo o change name → o ≡ Ordering.Less → new ≡ out ++ put_name change
-      → StandsSo changes name at old (i + 1) new
-  so_lesser out new i change o stands within here orders less put = λ row is is_named.
-      passes-lesser named_alone changes row at old out new i change (stands row is is_named) within here (sym (orders row is is_named) ∙ less) put
+module _ (change : Change) (cs : List Change) (q : Text)
+    (orders : (row : SheetRow) → IsRowOf Sheet.Lei row → key_cmp (changed_key change) (key row) ≡ text_cmp q (named row).0) where
+  -- what a row makes of it and of those after it, by how their keys compare
+  abbrev by_row : SheetRow → List SheetRow → Ordering → List SheetRow
+  by_row row rest o = by_order o (put_by change ++ placed row (merged rest) cs) (put_by change ++ merged rest cs) (row ∷ merged rest (change ∷ cs))
 
-  pub so_equal : (out new : List Name) (i : ℕ) (change : Change) (o : Ordering) → StandsSo changes name at old i out → i < length changes
-      → change ≡ get_or changes i change → OrdersSo o change name → o ≡ Ordering.Equal → new ≡ out ++ put_name change
-      → PassesSo changes name at old (i + 1) (new ++ [])
-  so_equal out new i change o stands within here orders equal put = λ row is is_named.
-      subst (PassesRow named_alone changes row at old (i + 1)) (sym (append-nil new))
-      (passes-equal named_alone changes row at old out new i change (stands row is is_named) within here (sym (orders row is is_named) ∙ equal) put)
+  -- the rows with lesser keys stay before it
+  passes_lesser : (n : ℕ) (rest : List SheetRow) → All (IsRowOf Sheet.Lei) rest → n ≤ length rest → IsBelow (map named rest) q n
+      → take n rest ++ merged (drop n rest) (change ∷ cs) ≡ merged rest (change ∷ cs)
+  passes_lesser zero rest each within below = refl
+  passes_lesser (suc n) [] each within below = absurd (omega arith)
+  passes_lesser (suc n) (row ∷ rest) each within below =
+      ap (λ l. row ∷ l) (passes_lesser n rest (All-tail (IsRowOf Sheet.Lei) row rest each) (omega arith) (λ k d before. below (suc k) d (omega arith)))
+      ∙ sym (ap (by_row row rest) (orders row (All-head (IsRowOf Sheet.Lei) row rest each) ∙ below 0 (named row) (omega arith)))
 
-  pub so_greater : (out : List Name) (i : ℕ) (change : Change) (o : Ordering) → StandsSo changes name at old i out → i < length changes
-      → change ≡ get_or changes i change → OrdersSo o change name → o ≡ Ordering.Greater
-      → PassesSo changes name at old i (out ++ name ∷ [])
-  so_greater out i change o stands within here orders greater = λ row is is_named.
-      passes-greater named_alone changes row at old out (out ++ name ∷ []) i change (stands row is is_named) within here (sym (orders row is is_named) ∙ greater)
-      (ap (λ n. out ++ n ∷ []) is_named)
+  -- it takes the place of the row with its key
+  passes_same : (rest : List SheetRow) → All (IsRowOf Sheet.Lei) rest → 1 ≤ length rest → IsHere (map named rest) q 0
+      → merged rest (change ∷ cs) ≡ put_by change ++ merged (drop 1 rest) cs
+  passes_same [] each some here = absurd (omega arith)
+  passes_same (row ∷ rest) each some here =
+      ap (by_row row rest) (orders row (All-head (IsRowOf Sheet.Lei) row rest each) ∙ here (named row))
 
-  pub so_end : (out : List Name) (i : ℕ) → StandsSo changes name at old i out → length changes ≤ i
-      → PassesSo changes name at old (length changes) (out ++ name ∷ [])
-  so_end out i stands past = λ row is is_named.
-      passes-end named_alone changes row at old out (out ++ name ∷ []) i (length changes) (stands row is is_named) past (omega arith)
-      (ap (λ n. out ++ n ∷ []) is_named)
+  -- or it stands before those with greater keys
+  passes_greater : (rest : List SheetRow) → All (IsRowOf Sheet.Lei) rest → IsAbove (map named rest) q 0
+      → merged rest (change ∷ cs) ≡ put_by change ++ merged rest cs
+  passes_greater [] each above = refl
+  passes_greater (row ∷ rest) each above =
+      ap (by_row row rest) (orders row (All-head (IsRowOf Sheet.Lei) row rest each) ∙ above 0 (named row) (omega arith) (omega arith))
 
--- ---- all rows
+-- how a change's key compares to those of rows
+orders_so : (change : Change) (q : Text) → IsChangeOf Sheet.Lei change → q ≡ text_at (changed_row change).texts 1 → (row : SheetRow) → IsRowOf Sheet.Lei row
+    → key_cmp (changed_key change) (key row) ≡ text_cmp q (named row).0
+orders_so change q is q_is row row_is =
+    sym (key_order (changed_row change) row (named row) (text_cmp q (named row).0) is.0.0 is.0.1 row_is refl (ap (λ t. text_cmp t (named row).0) q_is))
+
+put_names_by : (change : Change) → put_name change ≡ map named (put_by change)
+put_names_by (Change.Put row) = refl
+put_names_by (Change.Drop row) = refl
+
+-- ---- all changes
 
 -- what was put, with what the rest of a copy and the changes that are left make, is what all make
 pub record Walked (copy : List SheetRow) (changes : List Change) (left : List Name) (next : ℕ) (out : List Name) : Type 0 where
   pub rest : List SheetRow
   pub each : All (IsRowOf Sheet.Lei) rest
   pub left_is : left ≡ map named rest
-  pub walk : out ++ flat_map named_alone (merged rest (drop next changes)) ≡ flat_map named_alone (merged copy changes)
+  pub walk : out ++ map named (merged rest (drop next changes)) ≡ map named (merged copy changes)
 
 -- the same of each copy that has these names
 abbrev pub WalkedSo : List Name → List Change → List Name → ℕ → List Name → Type 0
@@ -104,60 +131,100 @@ walk_begins names changes left out all empty = λ copy are is. record {
   rest = copy;
   each = are.each;
   left_is = all ∙ is;
-  walk = ap (λ l. l ++ flat_map named_alone (merged copy changes)) empty;
+  walk = ap (λ l. l ++ map named (merged copy changes)) empty;
 }
 
--- one row is passed
-walked_on : (copy : List SheetRow) (changes : List Change) (left left' : List Name) (name : Name) (next next' : ℕ) (out out' : List Name)
-    → (walked : Walked copy changes left next out) → left ≡ name ∷ left' → PassesSo changes name next out next' out'
-    → Walked copy changes left' next' out'
-walked_on copy changes left left' name next next' out out' walked takes passes = by walked.rest walked.each (sym takes ∙ walked.left_is) walked.walk
-  where
-    by : (rest : List SheetRow) → All (IsRowOf Sheet.Lei) rest → name ∷ left' ≡ map named rest
-        → out ++ flat_map named_alone (merged rest (drop next changes)) ≡ flat_map named_alone (merged copy changes)
-        → Walked copy changes left' next' out'
-    by [] each is walk = absurd (cc)
-    by (row ∷ rest) each is walk =
-        let first : name ≡ named row = cc in
-        let others : left' ≡ map named rest = cc in
-        record {
-          rest = rest;
-          each = All-tail (IsRowOf Sheet.Lei) row rest each;
-          left_is = others;
-          walk = passes row (All-head (IsRowOf Sheet.Lei) row rest each) first rest ∙ walk;
-        }
+-- rows with lesser keys were put, and then what the change puts
+put_after : (rest rest' : List SheetRow) (change : Change) (cs : List Change) (left out out1 out2 all : List Name) (n : ℕ) → left ≡ map named rest
+    → out1 ≡ out ++ take n left → out2 ≡ out1 ++ put_name change
+    → take n rest ++ merged (drop n rest) (change ∷ cs) ≡ merged rest (change ∷ cs)
+    → merged (drop n rest) (change ∷ cs) ≡ put_by change ++ merged rest' cs
+    → out ++ map named (merged rest (change ∷ cs)) ≡ all → out2 ++ map named (merged rest' cs) ≡ all
+put_after rest rest' change cs left out out1 out2 all n is lesser put passes then walk =
+    let front : take n left ≡ map named (take n rest) = ap (take n) is ∙ take-map named n rest in
+    let more : put_name change ++ map named (merged rest' cs) ≡ map named (merged (drop n rest) (change ∷ cs)) =
+    ap (λ l. l ++ map named (merged rest' cs)) (put_names_by change) ∙ sym (map-append named (put_by change) (merged rest' cs)) ∙ ap (map named) (sym then) in
+    ap (λ l. l ++ map named (merged rest' cs)) put
+    ∙ append_assoc out1 (put_name change) (map named (merged rest' cs))
+    ∙ ap (λ l. out1 ++ l) more
+    ∙ ap (λ l. l ++ map named (merged (drop n rest) (change ∷ cs))) lesser
+    ∙ append_assoc out (take n left) (map named (merged (drop n rest) (change ∷ cs)))
+    ∙ ap (λ l. out ++ (l ++ map named (merged (drop n rest) (change ∷ cs)))) front
+    ∙ ap (λ l. out ++ l) (sym (map-append named (take n rest) (merged (drop n rest) (change ∷ cs))) ∙ ap (map named) passes)
+    ∙ walk
 
-pub walk_stays : (names : List Name) (changes : List Change) (left left' : List Name) (name : Name) (next next' : ℕ) (out mid out' : List Name) (stays : Bool)
-    → WalkedSo names changes left next out → left ≡ name ∷ left' → PassesSo changes name next out next' (mid ++ (if stays then name ∷ [] else []))
-    → stays ≡ true → out' ≡ mid ++ name ∷ [] → WalkedSo names changes left' next' out'
-walk_stays names changes left left' name next next' out mid out' stays walked takes passes stay put = λ copy are is.
-    let all : mid ++ (if stays then name ∷ [] else []) ≡ out' = ap (λ b. mid ++ (if b then name ∷ [] else [])) stay ∙ sym put in
-    walked_on copy changes left left' name next next' out out' (walked copy are is) takes (subst (PassesSo changes name next out next') all passes)
+-- one change
+module _ (names : List Name) (changes : List Change) (left : List Name) (i : ℕ) (out : List Name) (change : Change) (q : Text) (n : ℕ)
+    (walked : WalkedSo names changes left i out) (within : i < length changes) (here : change ≡ get_or changes i change)
+    (is_change : IsChangeOf Sheet.Lei change) (q_is : q ≡ text_at (changed_row change).texts 1) (bound : n ≤ length left)
+    (below : IsBelow left q n) where
+  abbrev cs : List Change
+  cs = drop (i + 1) changes
 
-pub walk_leaves : (names : List Name) (changes : List Change) (left left' : List Name) (name : Name) (next next' : ℕ) (out mid : List Name) (stays : Bool)
-    → WalkedSo names changes left next out → left ≡ name ∷ left' → PassesSo changes name next out next' (mid ++ (if stays then name ∷ [] else []))
-    → stays ≡ false → WalkedSo names changes left' next' mid
-walk_leaves names changes left left' name next next' out mid stays walked takes passes gone = λ copy are is.
-    let all : mid ++ (if stays then name ∷ [] else []) ≡ mid = ap (λ b. mid ++ (if b then name ∷ [] else [])) gone ∙ append-nil mid in
-    walked_on copy changes left left' name next next' out mid (walked copy are is) takes (subst (PassesSo changes name next out next') all passes)
+  orders : (row : SheetRow) → IsRowOf Sheet.Lei row → key_cmp (changed_key change) (key row) ≡ text_cmp q (named row).0
+  orders = orders_so change q is_change q_is
 
--- what is put with the rest of the names is that of the patched rows
-abbrev pub PutsRest : List Name → List Change → List Name → List Name → Type 0
-PutsRest names changes out puts =
-    (copy : List SheetRow) → AreRows Sheet.Lei copy → names ≡ map named copy → out ++ puts ≡ map named (patched copy changes)
+  next : drop i changes ≡ change ∷ cs
+  next = drop_more changes i change within ∙ ap (λ c. c ∷ drop (i + 1) changes) (sym here)
 
-pub walk_ends : (names : List Name) (changes : List Change) (left : List Name) (next : ℕ) (out puts : List Name) → AreChanges Sheet.Lei changes
-    → WalkedSo names changes left next out → left ≡ [] → puts ≡ put_names (drop next changes) → PutsRest names changes out puts
-walk_ends names changes left next out puts are walked done rest copy rows is =
-    let w : Walked copy changes left next out = walked copy rows is in
-    let none : w.rest ≡ [] = no_rows w.rest (sym w.left_is ∙ done) in
-    ap (λ l. out ++ l) (rest ∙ sym (puts_names (drop next changes)))
-    ∙ ap (λ l. out ++ flat_map named_alone (merged l (drop next changes))) (sym none)
-    ∙ w.walk ∙ flat_map_single named (merged copy changes) ∙ ap (map named) (merged_is copy changes rows.rising are.rising)
-  where
-    no_rows : (rest : List SheetRow) → map named rest ≡ [] → rest ≡ []
-    no_rows [] none = refl
-    no_rows (row ∷ rest) none = absurd (cc)
+  module _ (copy : List SheetRow) (w : Walked copy changes left i out) where
+    fits : n ≤ length w.rest
+    fits = let long : length (map named w.rest) ≡ length w.rest = length-map w.rest named in omega (arith, ap length w.left_is)
+
+    lesser_pass : take n w.rest ++ merged (drop n w.rest) (change ∷ cs) ≡ merged w.rest (change ∷ cs)
+    lesser_pass = passes_lesser change cs q orders n w.rest w.each fits (subst (λ l. IsBelow l q n) w.left_is below)
+
+    walk_now : out ++ map named (merged w.rest (change ∷ cs)) ≡ map named (merged copy changes)
+    walk_now = ap (λ l. out ++ map named (merged w.rest l)) (sym next) ∙ w.walk
+
+    dropped : drop n left ≡ map named (drop n w.rest)
+    dropped = ap (drop n) w.left_is ∙ drop-map named n w.rest
+
+    rest_each : All (IsRowOf Sheet.Lei) (drop n w.rest)
+    rest_each = All-drop (IsRowOf Sheet.Lei) n w.rest w.each
+
+  pub walk_same : (out1 left1 left2 out2 : List Name) → n < length left → IsHere left q n → out1 ≡ out ++ take n left → left1 ≡ drop n left
+      → left2 ≡ drop 1 left1 → out2 ≡ out1 ++ put_name change → WalkedSo names changes left2 (i + 1) out2
+  walk_same out1 left1 left2 out2 some same lesser after first put = λ copy are is.
+      let w : Walked copy changes left i out = walked copy are is in
+      let some_rest : 1 ≤ length (drop n w.rest) =
+      (let long : length (map named (drop n w.rest)) ≡ length (drop n w.rest) = length-map (drop n w.rest) named in
+      omega (arith, ap length (dropped copy w), length-drop n left)) in
+      record {
+        rest = drop 1 (drop n w.rest);
+        each = All-drop (IsRowOf Sheet.Lei) 1 (drop n w.rest) (rest_each copy w);
+        left_is = first ∙ ap (drop 1) (after ∙ dropped copy w) ∙ drop-map named 1 (drop n w.rest);
+        walk = put_after w.rest (drop 1 (drop n w.rest)) change cs left out out1 out2 (map named (merged copy changes)) n w.left_is lesser put (lesser_pass copy w)
+            (passes_same change cs q orders (drop n w.rest) (rest_each copy w) some_rest (subst (λ l. IsHere l q 0) (dropped copy w) (here_drop n left q same)))
+            (walk_now copy w);
+      }
+
+  pub walk_greater : (out1 left1 out2 : List Name) → IsAbove left q n → out1 ≡ out ++ take n left → left1 ≡ drop n left
+      → out2 ≡ out1 ++ put_name change → WalkedSo names changes left1 (i + 1) out2
+  walk_greater out1 left1 out2 above lesser after put = λ copy are is.
+      let w : Walked copy changes left i out = walked copy are is in
+      record {
+        rest = drop n w.rest;
+        each = rest_each copy w;
+        left_is = after ∙ dropped copy w;
+        walk = put_after w.rest (drop n w.rest) change cs left out out1 out2 (map named (merged copy changes)) n w.left_is lesser put (lesser_pass copy w)
+            (passes_greater change cs q orders (drop n w.rest) (rest_each copy w) (subst (λ l. IsAbove l q 0) (dropped copy w) (above_drop n left q above)))
+            (walk_now copy w);
+      }
+
+merged_none : (rest : List SheetRow) → merged rest [] ≡ rest
+merged_none [] = refl
+merged_none (row ∷ rest) = ap (λ l. row ∷ l) (merged_none rest)
+
+-- after the last change, the rest of the rows are put
+pub walk_ends : (names : List Name) (changes : List Change) (left : List Name) (i n : ℕ) (out out' : List Name) → AreChanges Sheet.Lei changes
+    → WalkedSo names changes left i out → length changes ≤ i → length left ≤ n → out' ≡ out ++ take n left
+    → (copy : List SheetRow) → AreRows Sheet.Lei copy → names ≡ map named copy → out' ≡ map named (patched copy changes)
+walk_ends names changes left i n out out' are walked past all put copy rows is =
+    let w : Walked copy changes left i out = walked copy rows is in
+    put ∙ ap (λ l. out ++ l) (take_all n left all ∙ w.left_is ∙ ap (map named) (sym (merged_none w.rest)))
+    ∙ ap (λ l. out ++ map named (merged w.rest l)) (sym (drop_all i changes past))
+    ∙ w.walk ∙ ap (map named) (merged_is copy changes rows.rising are.rising)
 
 -- so the names of a table are those of the patched rows
 pub table_after : (rows : List SheetRow) (changes changes' : List Change) (table new : NameTable) (names : List Name) → changes' ≡ changes

@@ -44,6 +44,25 @@ impl Gathered {
     }
 }
 
+/// The rows that match, for a page that begins after so many. All rows are looked at.
+pub fn gather_all(
+    alloc: Global,
+    start: u64,
+    wanted: &[Text],
+    rows: &[NamedRow],
+) -> Result<Gathered, NoMemory>
+    ensures { IfOk result (λ gathered. Gathers start (filter (spec.is_match wanted.now) rows.now)
+        gathered.matches gathered.names.items) }
+{
+    let mut gathered = nothing(alloc);
+    for row in rows {
+        if row.is_match(wanted) {
+            gathered.add(alloc, start, row)?;
+        }
+    }
+    Ok(gathered)
+}
+
 /// The rows that match, for a page that begins after so many. Only rows under these keys are looked at, which are those
 /// of all rows that match, and maybe others.
 pub fn gather_under(

@@ -12,7 +12,7 @@ ghost use Rattle.name_search.specs.Words.{words};
 
 use crate::faults::{FindFault, TakeFault};
 use crate::found::Found;
-use crate::gathering::{Gathered, gather_under};
+use crate::gathering::{Gathered, gather_all, gather_under};
 use crate::merging::{merge, named_puts, number_of};
 use crate::named_row::NamedRow;
 use crate::opening::noted_rows;
@@ -160,23 +160,20 @@ impl Index {
     }
 
     // The rows that have each of these words, for a page that begins after so many. Only those under the rarest word
-    // are looked at.
+    // are looked at. If these are many, all are: to look at a row costs less than to look one up under its key.
     fn gather(&self, start: u64, wanted: &[Text]) -> Result<Gathered, NoMemory>
         requires { 1 ≤ length wanted.now }
         ensures { IfOk result (λ gathered. Gathers start (filter (spec.is_match wanted.now) self.now.names)
             gathered.matches gathered.names.items) }
     {
         let word = wanted[self.postings.rarest(wanted)].as_str();
+        let rows = self.rows.as_slice();
+        if self.postings.count(word) >= rows.len() / 4 {
+            return gather_all(self.alloc, start, wanted, rows);
+        }
         let first = self.postings.first_keys(word);
         let later = self.postings.later_keys(word);
-        gather_under(
-            self.alloc,
-            start,
-            wanted,
-            self.rows.as_slice(),
-            first,
-            later,
-        )
+        gather_under(self.alloc, start, wanted, rows, first, later)
     }
 
     /// The number of its rows.

@@ -30,7 +30,7 @@ pub fn noted_rows<L: Ledger>(
     let mut made = Vec::with_capacity(alloc, rows.len())?;
     for row in rows {
         let named = NamedRow::of(alloc, row, steps)?;
-        postings.note(&named, true)?;
+        postings.note_of_copy(&named)?;
         made.push(named)?;
     }
     Ok(made)

@@ -1,10 +1,12 @@
 //! Rows in the order of their keys.
-ghost use Rattle.std.specs.Prelude.{◌≡◌, true, option_map};
+ghost use Rattle.std.specs.Prelude.{◌≡◌, ◌<◌, ◌≤◌, false, length, true, option_map};
 ghost use Rattle.std.specs.FinMap.Entries.{find, is_sorted};
 ghost use Rattle.name_search.specs.Keys.{text_cmp};
+ghost use Rattle.name_search.specs.Places.{IsAbove, IsBelow, IsHere};
 
 use crate::named_row::NamedRow;
 use std::cmp::Ordering;
+use std::collections::VecDeque;
 
 /// The row of a key among rows in the order of their keys.
 pub fn row_at<'a>(rows: &'a [NamedRow], key: &str) -> Option<&'a NamedRow>
@@ -40,4 +42,67 @@ pub fn row_near<'a>(rows: &'a [NamedRow], key: &str, place: usize) -> Option<&'a
         }
     }
     row_at(rows, key)
+}
+
+/// How many of some rows have lesser keys, and whether the next one has the key itself. It is found the sooner the fewer
+/// they are.
+pub fn place_of(rows: &VecDeque<NamedRow>, key: &str) -> (usize, bool)
+    requires { is_sorted text_cmp rows.now.items ≡ true }
+    ensures within { result.0 ≤ length rows.now.items }
+    ensures lesser { IsBelow rows.now.items key.now result.0 }
+    ensures there { result.1 ≡ true → result.0 < length rows.now.items }
+    ensures same { result.1 ≡ true → IsHere rows.now.items key.now result.0 }
+    ensures greater { result.1 ≡ false → IsAbove rows.now.items key.now result.0 }
+{
+    let (low, high) = bounds(rows, key);
+    place_between(rows, key, low, high)
+}
+
+// Two places, up to which keys are lesser and from which on they are greater. The distance between places that are
+// looked at doubles.
+fn bounds(rows: &VecDeque<NamedRow>, key: &str) -> (usize, usize)
+    requires { is_sorted text_cmp rows.now.items ≡ true }
+    ensures ordered { result.0 ≤ result.1 }
+    ensures within { result.1 ≤ length rows.now.items }
+    ensures lesser { IsBelow rows.now.items key.now result.0 }
+    ensures greater { IsAbove rows.now.items key.now result.1 }
+{
+    let mut low = 0;
+    while low < rows.len() - low {
+        let place = low + low;
+        let row = &rows[place];
+        match key.cmp(row.key().as_str()) {
+            Ordering::Less => return (low, place),
+            Ordering::Equal => return (low, place + 1),
+            Ordering::Greater => low = place + 1,
+        }
+    }
+    (low, rows.len())
+}
+
+// The same as `place_of`, if up to one place keys are lesser, and from another one on they are greater.
+fn place_between(rows: &VecDeque<NamedRow>, key: &str, low: usize, high: usize) -> (usize, bool)
+    requires sorted { is_sorted text_cmp rows.now.items ≡ true }
+    requires ordered { low ≤ high }
+    requires bound { high ≤ length rows.now.items }
+    requires below { IsBelow rows.now.items key.now low }
+    requires above { IsAbove rows.now.items key.now high }
+    ensures within { result.0 ≤ length rows.now.items }
+    ensures lesser { IsBelow rows.now.items key.now result.0 }
+    ensures there { result.1 ≡ true → result.0 < length rows.now.items }
+    ensures same { result.1 ≡ true → IsHere rows.now.items key.now result.0 }
+    ensures greater { result.1 ≡ false → IsAbove rows.now.items key.now result.0 }
+{
+    let mut low = low;
+    let mut high = high;
+    while low < high {
+        let middle = low + (high - low) / 2;
+        let row = &rows[middle];
+        match key.cmp(row.key().as_str()) {
+            Ordering::Less => high = middle,
+            Ordering::Equal => return (middle, true),
+            Ordering::Greater => low = middle + 1,
+        }
+    }
+    (low, false)
 }

@@ -77,8 +77,8 @@ impl Postings {
         rarest
     }
 
-    // How many keys stand under a word.
-    fn count(&self, word: &str) -> usize {
+    /// How many keys stand under a word.
+    pub fn count(&self, word: &str) -> usize {
         let first = self.first_keys(word).len();
         match self.later_keys(word) {
             Some(later) => first.saturating_add(later.len()),
@@ -86,15 +86,26 @@ impl Postings {
         }
     }
 
-    /// Notes the key of a row under each word of its name. When an index is opened, keys rise and go to lists.
-    pub fn note(&mut self, row: &NamedRow, opening: bool) -> Result<(), NoMemory>
+    /// Notes the key of a row of a copy under each word of its name. These keys rise, and go to lists.
+    pub fn note_of_copy(&mut self, row: &NamedRow) -> Result<(), NoMemory>
         ensures stays { Stays self.old self.new }
         ensures noted { OnOk result (is_noted self.new row.now ≡ true) }
     {
         for word in row.words() {
-            self.note_word(word.as_str(), row.key(), opening)?;
+            self.note_first(word.as_str(), row.key())?;
         }
         Ok(())
+    }
+
+    // Notes a key under a word: it goes to the word's list, or to its set if it comes before another one.
+    fn note_first(&mut self, word: &str, key: &Key) -> Result<(), NoMemory>
+        ensures stays { Stays self.old self.new }
+        ensures noted { OnOk result (is_key key.now (keys_under self.new word.now) ≡ true) }
+    {
+        if push_first(self.alloc, &mut self.first, word, key)? {
+            return Ok(());
+        }
+        note_later(self.alloc, &mut self.later, word, key)
     }
 
     /// Notes the keys of rows that come later.
@@ -103,30 +114,27 @@ impl Postings {
         ensures noted { OnOk result (list_all (is_noted self.new) rows.now ≡ true) }
     {
         for row in rows {
-            self.note(row, false)?;
+            self.note_of_delta(row)?;
         }
         Ok(())
     }
 
-    // Notes a key under a word.
-    fn note_word(&mut self, word: &str, key: &Key, opening: bool) -> Result<(), NoMemory>
+    // Notes the key of a row that a delta puts under each word of its name. It goes to sets.
+    fn note_of_delta(&mut self, row: &NamedRow) -> Result<(), NoMemory>
         ensures stays { Stays self.old self.new }
-        ensures noted { OnOk result (is_key key.now (keys_under self.new word.now) ≡ true) }
+        ensures noted { OnOk result (is_noted self.new row.now ≡ true) }
     {
-        if opening {
-            return self.note_first(word, key);
+        for word in row.words() {
+            self.note_next(word.as_str(), row.key())?;
         }
-        note_later(self.alloc, &mut self.later, word, key)
+        Ok(())
     }
 
-    // The same when an index is opened: the key goes to the word's list, or to its set if it comes before another one.
-    fn note_first(&mut self, word: &str, key: &Key) -> Result<(), NoMemory>
+    // Notes a key under a word: it goes to the word's set.
+    fn note_next(&mut self, word: &str, key: &Key) -> Result<(), NoMemory>
         ensures stays { Stays self.old self.new }
         ensures noted { OnOk result (is_key key.now (keys_under self.new word.now) ≡ true) }
     {
-        if push_first(self.alloc, &mut self.first, word, key)? {
-            return Ok(());
-        }
         note_later(self.alloc, &mut self.later, word, key)
     }
 

@@ -1,38 +1,68 @@
-use Rattle.std.proofs.Common.{◌≡◌, [], ap, arith, length}
+use Rattle.std.proofs.Common.{◌≤◌, ◌∙◌, ap, arith, drop, length, rules}
+use Rattle.std.specs.FinMap.Entries.{is_sorted}
 use Rattle.std.specs.Vec.Iter.{into_iter_items}
-use Rattle.std.proofs.lemmas.List.{length_push, nil_from_length}
-use Rattle.name_search.proofs.Walked.{walk_ends, walk_leaves, walk_stays}
+use Rattle.std.proofs.lemmas.List.{length-drop}
+use Rattle.lei_records.specs.Rows.{text_at}
+use Rattle.register_words.specs.declared.sheets.Sheet.{Sheet}
+use Rattle.copy_csv.specs.Rows.{IsChangeOf}
+use Rattle.copy_csv.specs.Sheets.{SheetRow}
+use Rattle.name_search.specs.Keys.{text_cmp}
+use Rattle.name_search.specs.Puts.{put_name}
+use Rattle.name_search.proofs.PlaceLemmas.{sorted_drop}
+use Rattle.name_search.proofs.Walked.{rest_put, room_after, walk_ends, walk_greater, walk_same}
 use Rattle.name_search.proofs.merging.merge.Goals as goal
 
-pub loop-next-preserved-then-stays : goal.loop-next-preserved-then-stays
-loop-next-preserved-then-stays c = record {
-  walked = walk_stays c.args.rows.items c.args.changes.now (into_iter_items c.loop-next.rows) (into_iter_items c.next.new.self) c.in-Some.row c.loop-next.next c.put_before-left.result.0
-      c.loop-next.out.items c.put_before-left.new.out.items c.push_reserved.new.self.items c.put_before-left.result.1 c.loop-next.invariant.walked c.in-Some.ensures.items
-      c.put_before-left.ensures.passes c.if-stays.true c.push_reserved.ensures.items;
-  within = c.put_before-left.ensures.place;
-  puts = c.put_before-left.ensures.puts;
-  gone = omega (arith, c.put_before-left.ensures.onward);
-  room_for_gone = c.loop-next.invariant.room_for_gone;
-  room = omega (arith, ap length c.push_reserved.ensures.items, length_push c.put_before-left.new.out.items c.in-Some.row, ap length c.in-Some.ensures.items);
-}
-
-pub loop-next-preserved : goal.loop-next-preserved
-loop-next-preserved c = record {
-  walked = walk_leaves c.args.rows.items c.args.changes.now (into_iter_items c.loop-next.rows) (into_iter_items c.next.new.self) c.in-Some.row c.loop-next.next c.put_before-left.result.0
-      c.loop-next.out.items c.put_before-left.new.out.items c.put_before-left.result.1 c.loop-next.invariant.walked c.in-Some.ensures.items
-      c.put_before-left.ensures.passes c.if-stays.false;
-  within = c.put_before-left.ensures.place;
-  puts = c.put_before-left.ensures.puts;
-  gone = omega (arith, ap length c.push_reserved-else-stays.ensures.items, length_push c.loop-next.gone.items (c.saturating_sub.result, c.in-Some.row), c.put_before-left.ensures.leaves c.if-stays.false);
-  room_for_gone = omega (arith, c.push_reserved-else-stays.ensures.capacity);
-  room = omega (arith, ap length c.in-Some.ensures.items);
-}
-
-pub loop-row-init : goal.loop-row-init
-loop-row-init c =
-    let none : into_iter_items c.loop-next.rows ≡ [] = nil_from_length (into_iter_items c.loop-next.rows) (omega (arith, c.in_default.ensures.cases.0)) in
+pub loop-change-preserved : goal.loop-change-preserved
+loop-change-preserved c =
+    let is_change : IsChangeOf Sheet.Lei c.change-item.result = search rules in
+    let few : length c.take_first.new.rows.items ≤ length c.move_rows.new.rows.items = omega (arith, ap length c.take_first.ensures.rows, length-drop 1 c.move_rows.new.rows.items) in
     record {
-      puts = walk_ends c.args.rows.items c.args.changes.now (into_iter_items c.loop-next.rows) c.loop-next.next c.loop-next.out.items (into_iter_items c.loop-next.puts) c.requires.changes
-          c.loop-next.invariant.walked none c.loop-next.invariant.puts;
-      room = omega arith;
+      walked = walk_same c.args.rows.items c.args.changes.now c.loop-change.rows.items c.loop-change.change-index c.loop-change.out.items c.change-item.result c.text_of.result.now
+          c.place_of-lesser.result.0 c.loop-change.invariant.walked c.loop-change-test.true c.change-item.is is_change
+          (c.text_of.ensures.value ∙ ap (λ (row : SheetRow). text_at row.texts 1) c.row.ensures) c.place_of-lesser.ensures.within c.place_of-lesser.ensures.lesser
+          c.move_rows.new.out.items c.move_rows.new.rows.items c.take_first.new.rows.items c.put_change.new.out.items (c.place_of-lesser.ensures.there c.if-not-is_there.false)
+          (c.place_of-lesser.ensures.same c.if-not-is_there.false) c.move_rows.ensures.out c.move_rows.ensures.rows c.take_first.ensures.rows c.put_change.ensures.out;
+      sorted = ap (is_sorted text_cmp) (c.take_first.ensures.rows ∙ ap (drop 1) c.move_rows.ensures.rows)
+          ∙ sorted_drop 1 (drop c.place_of-lesser.result.0 c.loop-change.rows.items) (sorted_drop c.place_of-lesser.result.0 c.loop-change.rows.items c.loop-change.invariant.sorted);
+      puts = rest_put c.args.changes.now c.loop-change.change-index c.change-item.result (into_iter_items c.loop-change.puts) (into_iter_items c.put_change.new.puts)
+          c.loop-change-test.true c.change-item.is c.loop-change.invariant.puts c.put_change.ensures.puts;
+      gone = omega (arith, c.take_first.ensures.gone);
+      room_for_gone = omega (arith, c.take_first.ensures.capacity);
+      room = omega (
+        arith,
+        c.put_change.ensures.capacity,
+        c.move_rows.ensures.capacity,
+        room_after c.loop-change.out.items c.move_rows.new.out.items c.put_change.new.out.items c.loop-change.rows.items c.move_rows.new.rows.items c.take_first.new.rows.items
+            (into_iter_items c.loop-change.puts) (put_name c.change-item.result) (into_iter_items c.put_change.new.puts) c.place_of-lesser.result.0 _ c.place_of-lesser.ensures.within
+            c.move_rows.ensures.out c.move_rows.ensures.rows few c.put_change.ensures.out c.put_change.ensures.puts c.loop-change.invariant.room,
+      );
     }
+
+pub loop-change-preserved-then-not-is_there : goal.loop-change-preserved-then-not-is_there
+loop-change-preserved-then-not-is_there c =
+    let is_change : IsChangeOf Sheet.Lei c.change-item.result = search rules in
+    record {
+      walked = walk_greater c.args.rows.items c.args.changes.now c.loop-change.rows.items c.loop-change.change-index c.loop-change.out.items c.change-item.result c.text_of.result.now
+          c.place_of-lesser.result.0 c.loop-change.invariant.walked c.loop-change-test.true c.change-item.is is_change
+          (c.text_of.ensures.value ∙ ap (λ (row : SheetRow). text_at row.texts 1) c.row.ensures) c.place_of-lesser.ensures.within c.place_of-lesser.ensures.lesser
+          c.move_rows.new.out.items c.move_rows.new.rows.items c.put_change.new.out.items (c.place_of-lesser.ensures.greater c.if-not-is_there.true)
+          c.move_rows.ensures.out c.move_rows.ensures.rows c.put_change.ensures.out;
+      sorted = ap (is_sorted text_cmp) c.move_rows.ensures.rows ∙ sorted_drop c.place_of-lesser.result.0 c.loop-change.rows.items c.loop-change.invariant.sorted;
+      puts = rest_put c.args.changes.now c.loop-change.change-index c.change-item.result (into_iter_items c.loop-change.puts) (into_iter_items c.put_change.new.puts)
+          c.loop-change-test.true c.change-item.is c.loop-change.invariant.puts c.put_change.ensures.puts;
+      gone = omega arith;
+      room_for_gone = c.loop-change.invariant.room_for_gone;
+      room = omega (
+        arith,
+        c.put_change.ensures.capacity,
+        c.move_rows.ensures.capacity,
+        room_after c.loop-change.out.items c.move_rows.new.out.items c.put_change.new.out.items c.loop-change.rows.items c.move_rows.new.rows.items c.move_rows.new.rows.items
+            (into_iter_items c.loop-change.puts) (put_name c.change-item.result) (into_iter_items c.put_change.new.puts) c.place_of-lesser.result.0 _ c.place_of-lesser.ensures.within
+            c.move_rows.ensures.out c.move_rows.ensures.rows (omega arith) c.put_change.ensures.out c.put_change.ensures.puts c.loop-change.invariant.room,
+      );
+    }
+
+pub returns : goal.returns
+returns c =
+    walk_ends c.args.rows.items c.args.changes.now c.loop-change.rows.items c.loop-change.change-index c.len-left.result c.loop-change.out.items c.move_rows-2.new.out.items
+    c.requires.changes c.loop-change.invariant.walked (omega arith) (omega (arith, c.len-left.ensures)) c.move_rows-2.ensures.out

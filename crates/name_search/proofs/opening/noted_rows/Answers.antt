@@ -9,8 +9,8 @@ loop-row-preserved g c = record {
   names = c.in_ok-push.ensures.items
       ∙ named_more c.args.rows.now c.loop-row.row-index c.row-item.result c.loop-row.made.items c.in_ok-named.named c.loop-row-test.true c.row-item.is c.loop-row.invariant.names
       c.in_ok-named.ensures.value;
-  noted = ap (list_all (is_noted c.note.new.self)) c.in_ok-push.ensures.items
-      ∙ noted_more c.loop-row.postings c.note.new.self c.in_ok-note.ensures.stays c.loop-row.made.items c.in_ok-named.named c.loop-row.invariant.noted c.in_ok-note.ensures.noted;
+  noted = ap (list_all (is_noted c.note_of_copy.new.self)) c.in_ok-push.ensures.items
+      ∙ noted_more c.loop-row.postings c.note_of_copy.new.self c.in_ok-note_of_copy.ensures.stays c.loop-row.made.items c.in_ok-named.named c.loop-row.invariant.noted c.in_ok-note_of_copy.ensures.noted;
   steps = search rules;
   stay = search rules;
 }

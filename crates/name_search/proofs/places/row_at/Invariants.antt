@@ -1,5 +1,5 @@
 use Rattle.std.proofs.Common.{◌≤◌, ◌-◌, length}
-use Rattle.name_search.proofs.PlaceLemmas.{IsAbove, IsBelow}
+use Rattle.name_search.specs.Places.{IsAbove, IsBelow}
 use Rattle.name_search.proofs.places.row_at.Given as goal
 
 -- the key stands after those before one place, and before those from another place on

@@ -9,12 +9,12 @@ use Rattle.name_search.proofs.index.Index.gather.Goals as goal
 
 pub gather_under-requires-clause-sorted : goal.gather_under-requires-clause-sorted
 gather_under-requires-clause-sorted c =
-    ap (is_sorted text_cmp) c.as_slice.ensures.value ∙ indexed-sorted c.self.inside.rows.items c.self.inside.postings c.self.invariant
+    ap (is_sorted text_cmp) c.as_slice-rows.ensures.value ∙ indexed-sorted c.self.inside.rows.items c.self.inside.postings c.self.invariant
 
 pub gather_under-requires-clause-covers : goal.gather_under-requires-clause-covers
 gather_under-requires-clause-covers c =
-    covers_at c.self.inside.postings c.self.inside.rows.items c.as_slice.result.now c.args.wanted.now c.rarest.result c.index-wanted-rarest.result c.as_str-word.result.now _
-    c.self.invariant.noted c.rarest.ensures c.index-wanted-rarest.is c.as_slice.ensures.value
+    covers_at c.self.inside.postings c.self.inside.rows.items c.as_slice-rows.result.now c.args.wanted.now c.rarest.result c.index-wanted-rarest.result c.as_str-word.result.now _
+    c.self.invariant.noted c.rarest.ensures c.index-wanted-rarest.is c.as_slice-rows.ensures.value
     (ap (λ l. l ++ keys_in (option_map (λ keys. keys.now) c.later_keys-later.result)) c.first_keys-first.ensures.value
     ∙ ap (λ l. rising_in (get_by_text c.self.inside.postings.first c.as_str-word.result.now) ++ l) c.later_keys-later.ensures)
     c.as_str-word.ensures

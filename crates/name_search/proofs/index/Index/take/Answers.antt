@@ -39,3 +39,7 @@ invariant_of-self-2 g c =
 pub invariant_of-self-in_err-gone : goal.invariant_of-self-in_err-gone
 invariant_of-self-in_err-gone g c =
     indexed-more c.self.inside.rows.items c.self.inside.postings c.note_all.new.self c.self.invariant c.note_all.ensures.stays
+
+pub merge-requires-clause-sorted : goal.merge-requires-clause-sorted
+merge-requires-clause-sorted g c =
+    ap (λ rows. is_sorted text_cmp rows.items) c.swap.ensures.y_after ∙ indexed-sorted c.self.inside.rows.items c.self.inside.postings c.self.invariant

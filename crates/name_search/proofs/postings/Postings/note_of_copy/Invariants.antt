@@ -2,7 +2,7 @@ use Rattle.std.proofs.Common.{◌≡◌, true, take}
 use Rattle.std.specs.List.{list_all}
 use Rattle.name_search.specs.Keys.{is_key}
 use Rattle.name_search.specs.Walks.{Stays, keys_under}
-use Rattle.name_search.proofs.postings.Postings.note.Given as goal
+use Rattle.name_search.proofs.postings.Postings.note_of_copy.Given as goal
 
 -- the key is noted under the words so far, and what was noted still is
 abbrev pub invariant-loop-word : goal.invariant-loop-word
